@@ -1,0 +1,33 @@
+-- Laws of the definitions: what is listed, weak duality, uniqueness, the empty near side.
+pub mod Listed
+pub mod Same
+pub mod Bound
+pub mod Unique
+pub mod Empty
+-- Records: of a job with loads, of a job without, and the rest of a longer buffer.
+pub mod RecordOf
+pub mod Unwired
+pub mod Over
+pub mod LegalRecord
+-- Text: one verdict at most, what is read is proper, and reading and writing undo each other.
+pub mod TextUnique
+pub mod TextProper
+pub mod TextNames
+pub mod WritesRead
+pub mod ReadsWritten
+pub mod RoundTrip
+-- Examples of document 01 by computed tests.
+pub mod Tables
+pub mod ByTest
+pub mod Edges
+pub mod Least
+pub mod ShortByTest
+pub mod Short64
+pub mod Short33
+pub mod ShortMissing
+pub mod Short34
+pub mod Shorts
+pub mod BothWays
+pub mod FourPins
+pub mod LaneExamples
+pub mod TextExamples

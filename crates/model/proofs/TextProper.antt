@@ -1,0 +1,98 @@
+-- Document 01, "Job text" and "Runs": a fresh job, a mark and a closed tile within the array are proper, so a text that is read gives a proper job: every
+-- line that may stand after the array names a pin or tile of it. Assumes nothing.
+use mathlib.Core.Path.{_≡_, sym, ap, subst}
+use mathlib.Core.Bool.{Bool, true, false, not, _&&_}
+use mathlib.Core.List.{List}
+use mathlib.Core.Option.{some}
+use Prim.Native.Nat.{ℕ, _≤_}
+use native.Mathlib.Omega.{arith}
+use lib.Dec.{T, eqb, leb, ltb, eqb→eq, leb→le, le→leb}
+use Rattle.sums.specs.Counting.{when}
+use Rattle.sums.specs.Tests.{and-left, and-right}
+use Rattle.model.specs.Job.{Job, arrayFits, capsFit, capsAdmitted, fresh, marked, closed, put, isPin, isTile, Proper}
+use Rattle.model.specs.Text.{Group, chosenPins, missingPins, closedTiles, Line, arrayLine, groupLine, endLine, begin, rank, Reader, asking, inTurn, names}
+use Rattle.model.specs.Text.{named, admit, Verdict, reads, wrongAt, Reads, ended, line, wrong, Reading}
+
+-- ---- proper jobs
+
+zero-fits : (x : ℕ) → T (leb 0 x)
+zero-fits x = le→leb 0 x (omega arith)
+
+pub fresh-proper : (rows columns O D E : ℕ) → T (arrayFits rows columns) → T (capsFit O D E) → Proper (fresh rows columns O D E)
+fresh-proper rows columns O D E a b =
+    let J : Job = fresh rows columns O D E in
+    record { array = a; caps = b; marks = λ r c. zero-fits (when (isPin J r c) 2); states = λ r c. zero-fits (when (isTile J r c) 1) }
+
+-- a table within its bounds, with one entry changed to another within its bound
+put-fits : (f : ℕ → ℕ → ℕ) (b : ℕ → ℕ → Bool) (n r c v : ℕ) → ((i j : ℕ) → T (leb (f i j) (when (b i j) n))) → T (b r c) → T (leb v n)
+    → (i j : ℕ) → T (leb (put f r c v i j) (when (b i j) n))
+put-fits f b n r c v h t u i j = by (eqb i r && eqb j c) here
+  where
+    here : T (eqb i r && eqb j c) → T (b i j)
+    here s =
+        subst (λ (x : ℕ). T (b x j)) (sym (eqb→eq i r (and-left (eqb i r) (eqb j c) s)))
+        (subst (λ (y : ℕ). T (b r y)) (sym (eqb→eq j c (and-right (eqb i r) (eqb j c) s))) t)
+
+    full : (x : Bool) → T x → T (leb v (when x n))
+    full true s = u
+    full false s = absurd s
+
+    by : (x : Bool) → (T x → T (b i j)) → T (leb (elim x as (λ y. ℕ) [ true ↦ v | false ↦ f i j ]) (when (b i j) n))
+    by true k = full (b i j) (k tt)
+    by false k = h i j
+
+pub marked-proper : (J : Job) (r c m : ℕ) → Proper J → T (isPin J r c) → T (leb m 2) → Proper (marked J r c m)
+marked-proper J r c m p t u =
+    record { array = p .array; caps = p .caps; marks = put-fits (J .mark) (isPin J) 2 r c m (p .marks) t u; states = p .states }
+
+pub closed-proper : (J : Job) (r c v : ℕ) → Proper J → T (isTile J r c) → T (leb v 1) → Proper (closed J r c v)
+closed-proper J r c v p t u =
+    record { array = p .array; caps = p .caps; marks = p .marks; states = put-fits (J .state) (isTile J) 1 r c v (p .states) t u }
+
+-- ---- reading
+
+-- what an admitted line has passed, and the reader it leaves
+pub asked : (b : Bool) (R R′ : Reader) → asking b R ≡ some R′ → T b × (R ≡ R′)
+asked true R R′ e = (tt, cc)
+asked false R R′ e = let z : _≡_ {A = ℕ} 0 1 = cc in absurd (omega arith)
+
+pub named-proper : (J : Job) (g : Group) (r c : ℕ) → Proper J → T (names J g r c) → Proper (named J g r c)
+named-proper J chosenPins r c p t = marked-proper J r c 1 p t tt
+named-proper J missingPins r c p t = marked-proper J r c 2 p (and-left (isPin J r c) (not (eqb (J .mark r c) 1)) t) tt
+named-proper J closedTiles r c p t = closed-proper J r c 1 p t tt
+
+abbrev Good : Reader → Type 0
+Good R = 1 ≤ rank (R .stage) → Proper (R .job)
+
+admit-proper : (R : Reader) (l : Line) (R′ : Reader) → Good R → admit R l ≡ some R′ → Proper (R′ .job)
+unfolding admit
+admit-proper R (arrayLine rows columns O D E) R′ g e =
+    let a : Bool = eqb (rank (R .stage)) (rank begin) in
+    let b : Bool = arrayFits rows columns in
+    let d : Bool = capsAdmitted O D E in
+    let (t, q) = asked (a && (b && d)) _ R′ e in
+    let u : T (b && d) = and-right a (b && d) t in
+    subst (λ (S : Reader). Proper (S .job)) q (fresh-proper rows columns O D E (and-left b d u) (and-right b d u))
+admit-proper R (groupLine g r c) R′ good e =
+    let a : Bool = inTurn R g r c in
+    let b : Bool = names (R .job) g r c in
+    let (t, q) = asked (a && b) _ R′ e in
+    let begun : T (leb 1 (rank (R .stage))) = and-left (leb 1 (rank (R .stage))) _ (and-left a b t) in
+    subst (λ (S : Reader). Proper (S .job)) q (named-proper (R .job) g r c (good (leb→le 1 (rank (R .stage)) begun)) (and-right a b t))
+admit-proper R endLine R′ good e =
+    let a : Bool = leb 1 (rank (R .stage)) in
+    let b : Bool = ltb (rank (R .stage)) 5 in
+    let (t, q) = asked (a && b) _ R′ e in
+    subst (λ (S : Reader). Proper (S .job)) q (good (leb→le 1 (rank (R .stage)) (and-left a b t)))
+
+abbrev Gives : Verdict → Type 0
+Gives (reads K) = Proper K
+Gives (wrongAt o) = Unit {0}
+
+reads-proper : {R : Reader} {o : ℕ} {text : List ℕ} {v : Verdict} → Reads R o text v → Good R → Gives v
+reads-proper (ended e f) good = good (omega (arith, ap rank e))
+reads-proper (line {R = R} l R′ rest a q r) good = reads-proper r (λ k. admit-proper R l R′ good a)
+reads-proper (wrong f n) good = tt
+
+pub reading-proper : (text : List ℕ) (K : Job) → Reading text (reads K) → Proper K
+reading-proper text K r = reads-proper r (λ l. absurd (omega arith))

@@ -1,0 +1,195 @@
+-- Document 01, "Record and operations": the calls, their answers, and what each does to record, scratch and output. Assumes nothing.
+use mathlib.Core.Path.{_≡_}
+use mathlib.Core.Bool.{Bool, true, false, not, _&&_}
+use mathlib.Core.List.{List, [], _∷_, _++_}
+use mathlib.Core.Option.{Option, none, some}
+use Prim.Native.Nat.{ℕ, zero, suc, _+_, _-_, _≤_, _<_}
+use lib.Dec.{T, eqb, leb, ltb}
+use lib.ListN.{length, replicate}
+use Rattle.sums.specs.Counting.{when}
+use Rattle.model.specs.Job.{Job, arrayFits, capsAdmitted, fresh, marked, closed, isPin, isTile, isChosen}
+use Rattle.model.specs.Route.{Greatest, chosenCount}
+use Rattle.model.specs.Near.{Smallest}
+use Rattle.model.specs.Record.{recordSize, scratchSize, jobOf, load, Legal, bytes, unwiredRecord, over}
+use Rattle.model.specs.Wires.{Part, partAt, isWired, wireCount}
+use Rattle.model.specs.Text.{Verdict, reads, wrongAt, Reading, textOf}
+
+-- ---- calls and answers
+
+-- a call with its arguments and what it is lent besides the record
+pub data Call : Type 0 where
+  new : (rows columns O D E : ℕ) → Call
+  mark : (row column mark : ℕ) → Call
+  close : (row column state : ℕ) → Call
+  step : (scratch : List ℕ) → Call
+  shortfall : (scratch output : List ℕ) → Call
+  part : (row column index : ℕ) → Call
+  readText : (text : List ℕ) → Call
+  writeText : (output : List ℕ) → Call
+
+pub data Answer : Type 0 where
+  refused : ℕ → Answer
+  -- 6, with the offset of the line
+  wrongText : ℕ → Answer
+  done added allWired short : Answer
+  -- the chosen pins less the greatest number
+  lacks : ℕ → Answer
+  lists : Part → Answer
+  -- the length of the text
+  wrote : ℕ → Answer
+
+-- the paper's number of a refusal; none for an accepted call
+abbrev pub refusal : Answer → Option ℕ
+refusal (refused k) = some k
+refusal (wrongText o) = some 6
+refusal done = none
+refusal added = none
+refusal allWired = none
+refusal short = none
+refusal (lacks k) = none
+refusal (lists p) = none
+refusal (wrote n) = none
+
+abbrev pub Accepted : Answer → Type 0
+Accepted a = refusal a ≡ none
+
+-- the answer, and every byte of what was lent, afterwards
+pub record After : Type 0 where
+  pub answer : Answer
+  pub rec : List ℕ
+  pub scratch : List ℕ
+  pub output : List ℕ
+
+abbrev pub after : Answer → List ℕ → List ℕ → List ℕ → After
+after a rec scratch output = record { answer = a; rec = rec; scratch = scratch; output = output }
+
+-- "After an accepted call that takes scratch, it is all zero."
+abbrev pub cleared : List ℕ → List ℕ
+cleared scratch = over (replicate scratchSize 0) scratch
+
+-- ---- what the rules settle, as equations
+
+-- "1 record under 32,768 bytes; 2 rows or columns out of range; 3 capacities out of range. Gives an idle, open, unwired job, unused bytes zero."
+abbrev pub newly : ℕ → ℕ → ℕ → ℕ → ℕ → List ℕ → After
+newly rows columns O D E rec =
+    elim (leb recordSize (length rec)) [
+      | false ↦ after (refused 1) rec [] []
+      | true ↦ elim (arrayFits rows columns) [
+        | false ↦ after (refused 2) rec [] []
+        | true ↦ elim (capsAdmitted O D E) [
+          | false ↦ after (refused 3) rec [] []
+          | true ↦ after done (over (unwiredRecord (fresh rows columns O D E)) rec) [] []
+        ]
+      ]
+    ]
+
+-- "4 no such pin or tile; 5 unknown mark or state. A value already there changes nothing. Any other edit takes out all wires."
+abbrev pub edited : (there known already : Bool) → Job → List ℕ → After
+edited there known already K rec =
+    elim there [
+      | false ↦ after (refused 4) rec [] []
+      | true ↦ elim known [
+        | false ↦ after (refused 5) rec [] []
+        | true ↦ elim already [
+          | true ↦ after done rec [] []
+          | false ↦ after done (over (unwiredRecord K) rec) [] []
+        ]
+      ]
+    ]
+
+abbrev pub markedBy : ℕ → ℕ → ℕ → List ℕ → After
+markedBy r c m rec = let J : Job = jobOf rec in edited (isPin J r c) (leb m 2) (eqb (J .mark r c) m) (marked J r c m) rec
+
+abbrev pub closedBy : ℕ → ℕ → ℕ → List ℕ → After
+closedBy r c v rec = let J : Job = jobOf rec in edited (isTile J r c) (leb v 1) (eqb (J .state r c) v) (closed J r c v) rec
+
+-- "4 no such pin, or it is not chosen."
+abbrev pub listed : ℕ → ℕ → ℕ → List ℕ → After
+listed r c i rec =
+    elim (isChosen (jobOf rec) r c) [ false ↦ after (refused 4) rec [] [] | true ↦ after (lists (partAt (jobOf rec) (load rec) r c i)) rec [] [] ]
+
+-- "Reading gives an unwired job." "6 wrong text, with the offset of the first line that may not stand there."
+abbrev pub readIn : Verdict → List ℕ → After
+readIn (reads K) rec = after done (over (unwiredRecord K) rec) [] []
+readIn (wrongAt o) rec = after (wrongText o) rec [] []
+
+-- "7 output shorter than the text. Gives the length; bytes beyond it are untouched."
+abbrev pub written : List ℕ → List ℕ → After
+written output rec =
+    let text : List ℕ = textOf (jobOf rec) in
+    elim (leb (length text) (length output)) [
+      | false ↦ after (refused 7) rec [] output
+      | true ↦ after (wrote (length text)) rec [] (over text output)
+    ]
+
+-- ---- what is free
+
+abbrev pub wiredIn : List ℕ → ℕ → ℕ → Bool
+wiredIn rec r c = isWired (jobOf rec) (load rec) r c
+
+abbrev pub wiresIn : List ℕ → ℕ
+wiresIn rec = wireCount (jobOf rec) (load rec)
+
+-- "one more pin wired, those wired stay wired, places may change": which legal loading is reached is free
+pub record OneMore (rec rec′ : List ℕ) : Type 0 where
+  pub row : ℕ
+  pub column : ℕ
+  pub legal : Legal rec′
+  pub job : jobOf rec′ ≡ jobOf rec
+  pub rest : (new : List ℕ) × (length new ≡ recordSize) × (rec′ ≡ over new rec)
+  pub was : T (not (wiredIn rec row column))
+  pub wired : T (wiredIn rec′ row column)
+  pub number : wiresIn rec′ ≡ suc (wiresIn rec)
+  pub others : (r c : ℕ) → (T (eqb r row && eqb c column) → ⊥) → wiredIn rec′ r c ≡ wiredIn rec r c
+
+-- "Stepping says added while more wires fit"; "the last two change no record byte". g is the greatest number.
+pub data Stepped (rec : List ℕ) (g : ℕ) : Answer → List ℕ → Type 0 where
+  adds : {rec′ : List ℕ} → wiresIn rec < g → OneMore rec rec′ → Stepped rec g added rec′
+  stays : {rec′ : List ℕ} → wiresIn rec ≡ chosenCount (jobOf rec) → rec′ ≡ rec → Stepped rec g allWired rec′
+  lacking : {rec′ : List ℕ} → wiresIn rec ≡ g → g < chosenCount (jobOf rec) → rec′ ≡ rec → Stepped rec g short rec′
+
+-- "one byte (1 near, 0 not) per pin, place, entry and exit in the published order, the rest of the output zero"
+abbrev pub nearBytes : (ℕ → Bool) → List ℕ
+nearBytes S = bytes recordSize (λ i. when (S i) 1)
+
+-- "Where it is 0 the output is untouched."
+pub data Shown (J : Job) (g : ℕ) (output output′ : List ℕ) : Type 0 where
+  none-short : chosenCount J ≡ g → output′ ≡ output → Shown J g output output′
+  side : g < chosenCount J → (S : ℕ → Bool) → Smallest J S g → output′ ≡ over (nearBytes S) output → Shown J g output output′
+
+-- ---- the eight operations
+
+-- "Wherever a record is taken, 1 comes before every other number"; a refused call leaves every byte.
+pub record On (rec scratch output : List ℕ) (a : After) (Accepts : Type 0) : Type 0 where
+  pub damaged : (Legal rec → ⊥) → a ≡ after (refused 1) rec scratch output
+  pub legal : Legal rec → Accepts
+
+-- "8 scratch under 65,536 bytes"
+pub record Steps (scratch rec : List ℕ) (a : After) : Type 0 where
+  pub small : length scratch < scratchSize → a ≡ after (refused 8) rec scratch []
+  pub enough : scratchSize ≤ length scratch
+      → (g : ℕ) × Greatest (jobOf rec) g × Stepped rec g (a .answer) (a .rec) × (a .scratch ≡ cleared scratch) × (a .output ≡ [])
+
+-- "8; 7 output under 32,768 bytes. Gives chosen minus greatest number and, where that is not 0," the near side
+pub record Lacks (scratch output rec : List ℕ) (a : After) : Type 0 where
+  pub small : length scratch < scratchSize → a ≡ after (refused 8) rec scratch output
+  pub narrow : scratchSize ≤ length scratch → length output < recordSize → a ≡ after (refused 7) rec scratch output
+  pub enough : scratchSize ≤ length scratch → recordSize ≤ length output
+      → (g : ℕ) × Greatest (jobOf rec) g × (a .answer ≡ lacks (chosenCount (jobOf rec) - g)) × Shown (jobOf rec) g output (a .output)
+      × (a .rec ≡ rec) × (a .scratch ≡ cleared scratch)
+
+-- "Read text: 1 record short"
+pub record ReadIn (text rec : List ℕ) (a : After) : Type 0 where
+  pub brief : length rec < recordSize → a ≡ after (refused 1) rec [] []
+  pub long : recordSize ≤ length rec → (v : Verdict) × Reading text v × (a ≡ readIn v rec)
+
+-- what a call on the record `rec` leaves
+abbrev pub Did : Call → List ℕ → After → Type 0
+Did (new rows columns O D E) rec a = a ≡ newly rows columns O D E rec
+Did (mark r c m) rec a = On rec [] [] a (a ≡ markedBy r c m rec)
+Did (close r c v) rec a = On rec [] [] a (a ≡ closedBy r c v rec)
+Did (step scratch) rec a = On rec scratch [] a (Steps scratch rec a)
+Did (shortfall scratch output) rec a = On rec scratch output a (Lacks scratch output rec a)
+Did (part r c i) rec a = On rec [] [] a (a ≡ listed r c i rec)
+Did (readText text) rec a = ReadIn text rec a
+Did (writeText output) rec a = On rec [] output a (a ≡ written output rec)

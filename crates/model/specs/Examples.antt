@@ -1,0 +1,124 @@
+-- Document 01, "Settled by hand" and "The listing": the rows of the starred examples, and further jobs that pin down what those leave open. What holds
+-- of each row is proved in proofs/. Assumes nothing.
+use mathlib.Core.Bool.{Bool, true, false, _||_}
+use mathlib.Core.List.{List, [], _∷_}
+use Prim.Native.Nat.{ℕ}
+use lib.Dec.{eqb}
+use Rattle.model.specs.Job.{Job, fresh, marked, closed}
+use Rattle.model.specs.Near.{spot}
+use Rattle.model.specs.Pairing.{Pair}
+
+-- ---- centre limits
+
+pub record Centre : Type 0 where
+  pub O : ℕ
+  pub D : ℕ
+  pub gives : ℕ
+
+abbrev pub centre : ℕ → ℕ → ℕ → Centre
+centre O D g = record { O = O; D = D; gives = g }
+
+abbrev pub centres : List Centre
+centres = centre 2 3 1 ∷ centre 2 2 0 ∷ centre 3 3 1 ∷ centre 3 6 4 ∷ centre 1 1 1 ∷ []
+
+-- ---- ranges
+
+pub record Size : Type 0 where
+  pub rows : ℕ
+  pub columns : ℕ
+  pub fits : Bool
+
+abbrev pub size : ℕ → ℕ → Bool → Size
+size r c b = record { rows = r; columns = c; fits = b }
+
+abbrev pub sizes : List Size
+sizes = size 40 40 true ∷ size 1 2 false ∷ size 41 2 false ∷ size 2 2 true ∷ size 2 1 false ∷ size 2 41 false ∷ []
+
+pub record Caps : Type 0 where
+  pub O : ℕ
+  pub D : ℕ
+  pub E : ℕ
+  pub fits : Bool
+
+abbrev pub caps : ℕ → ℕ → ℕ → Bool → Caps
+caps o d e b = record { O = o; D = d; E = e; fits = b }
+
+abbrev pub capacities : List Caps
+capacities = caps 8 16 16 true ∷ caps 2 5 0 false ∷ caps 2 1 0 false ∷ caps 1 1 0 true ∷ caps 0 0 0 false ∷ caps 9 9 0 false ∷ caps 1 1 17 false ∷ []
+
+-- ---- pairing: which positions arrive, and the pairs in the order in which they are joined
+
+pub record Sequence : Type 0 where
+  pub arrivals : List Bool
+  pub joins : List Pair
+
+abbrev pub pair : ℕ → ℕ → Pair
+pair a b = record { fst = a; snd = b }
+
+-- A B c d e F: B-c, A-d, F-e
+abbrev pub sixLanes : Sequence
+sixLanes =
+    record { arrivals = true ∷ true ∷ false ∷ false ∷ false ∷ true ∷ []; joins = pair 1 2 ∷ pair 0 3 ∷ pair 4 5 ∷ [] }
+
+-- A b C d: A-b, C-d
+abbrev pub fourLanes : Sequence
+fourLanes = record { arrivals = true ∷ false ∷ true ∷ false ∷ []; joins = pair 0 1 ∷ pair 2 3 ∷ [] }
+
+abbrev pub sequences : List Sequence
+sequences = sixLanes ∷ fourLanes ∷ []
+
+-- ---- short jobs: the greatest number, and the smallest near side as the list of its spots
+
+pub record Short : Type 0 where
+  pub job : Job
+  pub greatest : ℕ
+  pub near : List ℕ
+
+-- the numbers of a list, as a set
+unfoldable pub among : List ℕ → ℕ → Bool
+among [] i = false
+among (x ∷ l) i = eqb i x || among l i
+
+-- The 64-byte text: 2 by 2, caps 1 2 0, pin (0, 0) chosen, tile (0, 0) closed. Only pin (0, 0) is near.
+abbrev pub job64 : Job
+job64 = closed (marked (fresh 2 2 1 2 0) 0 0 1) 0 0 1
+
+abbrev pub short64 : Short
+short64 = record { job = job64; greatest = 0; near = spot 1 0 0 ∷ [] }
+
+-- 3 by 3, caps 1 1 0, tile (0, 0) alone open, pins (0, 0), (1, 0), (1, 1) chosen. Near are the three pins and n, e, s, w, ci, co of tile (0, 0).
+abbrev pub job33 : Job
+job33 = closed (closed (closed (marked (marked (marked (fresh 3 3 1 1 0) 0 0 1) 1 0 1) 1 1 1) 0 1 1) 1 0 1) 1 1 1
+
+abbrev pub short33 : Short
+short33 =
+    record {
+      job = job33;
+      greatest = 2;
+      near = spot 1 0 0 ∷ spot 1 1 0 ∷ spot 1 1 1 ∷ spot 2 0 0 ∷ spot 3 0 0 ∷ spot 4 0 0 ∷ spot 5 0 0 ∷ spot 6 0 0 ∷ spot 7 0 0 ∷ [];
+    }
+
+-- The same array with E = 2, pins (0, 0), (0, 1), (1, 0) chosen and pin (1, 1) missing. Near are the three pins, all of tile (0, 0), and the entry and
+-- the exit of the missing pin.
+abbrev pub jobMissing : Job
+jobMissing = closed (closed (closed (marked (marked (marked (marked (fresh 3 3 1 1 2) 0 0 1) 0 1 1) 1 0 1) 1 1 2) 0 1 1) 1 0 1) 1 1 1
+
+abbrev pub shortMissing : Short
+shortMissing =
+    record {
+      job = jobMissing;
+      greatest = 2;
+      near =
+          spot 1 0 0 ∷ spot 1 0 1 ∷ spot 1 1 0 ∷ spot 2 0 0 ∷ spot 3 0 0 ∷ spot 4 0 0 ∷ spot 5 0 0 ∷ spot 6 0 0 ∷ spot 7 0 0 ∷ spot 0 1 1 ∷ spot 1 1 1 ∷ [];
+    }
+
+-- 3 by 4, caps 1 1 0, tile (0, 1) alone open, pins (1, 1), (1, 2) chosen. One wire passes the centre and then the rim side n, each of limit 1: near are
+-- the pins, s, w and ci. With co, n and e the sum is 1 too, but that near side is not the smallest.
+abbrev pub job34 : Job
+job34 = closed (closed (closed (closed (closed (marked (marked (fresh 3 4 1 1 0) 1 1 1) 1 2 1) 0 0 1) 0 2 1) 1 0 1) 1 1 1) 1 2 1
+
+abbrev pub short34 : Short
+short34 = record { job = job34; greatest = 1; near = spot 1 1 1 ∷ spot 1 1 2 ∷ spot 4 0 1 ∷ spot 5 0 1 ∷ spot 6 0 1 ∷ [] }
+
+abbrev pub shorts : List Short
+shorts = short64 ∷ short33 ∷ shortMissing ∷ short34 ∷ []

@@ -1,0 +1,89 @@
+-- Document 01, "The array and its channels" and "Runs": ranges, a job, and which pins and tiles it has. Assumes nothing.
+use mathlib.Core.Bool.{Bool, true, false, not, _&&_, _||_}
+use Prim.Native.Nat.{ℕ, zero, suc, _+_, _-_, _*_, _/_}
+use lib.Dec.{T, eqb, leb, ltb}
+use Rattle.sums.specs.Counting.{when}
+
+-- ---- ranges
+
+-- from least to most
+abbrev pub inRange : ℕ → ℕ → ℕ → Bool
+inRange least most n = leb least n && leb n most
+
+-- "An array has 2 to 40 rows and 2 to 40 columns of pins."
+abbrev pub arrayFits : ℕ → ℕ → Bool
+arrayFits rows columns = inRange 2 40 rows && inRange 2 40 columns
+
+-- "O is 1 to 8, D is O to 2×O, and the extra E of a missing pin is 0 to 16."
+abbrev pub capsFit : ℕ → ℕ → ℕ → Bool
+capsFit O D E = inRange 1 8 O && (inRange O (2 * O) D && inRange 0 16 E)
+
+-- What New and Read text accept. A record may hold whatever fits.
+abbrev pub capsAdmitted : ℕ → ℕ → ℕ → Bool
+capsAdmitted O D E = capsFit O D E
+
+-- "The centre passes at most D − 2×(O/2 rounded down) wires."
+abbrev pub centreLimit : ℕ → ℕ → ℕ
+centreLimit O D = D - 2 * (O / 2)
+
+-- ---- a job
+
+-- "Rows count from 0 at the north, columns from 0 at the west. A pin is idle, chosen or missing (marks 0, 1, 2). A tile is open or closed (0, 1)."
+pub record Job : Type 0 where
+  pub rows : ℕ
+  pub columns : ℕ
+  pub O : ℕ
+  pub D : ℕ
+  pub E : ℕ
+  pub mark : ℕ → ℕ → ℕ
+  pub state : ℕ → ℕ → ℕ
+
+-- "An accepted New sets the five numbers, every pin idle, every tile open."
+abbrev pub fresh : ℕ → ℕ → ℕ → ℕ → ℕ → Job
+fresh rows columns O D E = record { rows = rows; columns = columns; O = O; D = D; E = E; mark = λ r c. 0; state = λ r c. 0 }
+
+abbrev pub withMarks : Job → (ℕ → ℕ → ℕ) → Job
+withMarks J marks = record { rows = J .rows; columns = J .columns; O = J .O; D = J .D; E = J .E; mark = marks; state = J .state }
+
+abbrev pub withStates : Job → (ℕ → ℕ → ℕ) → Job
+withStates J states = record { rows = J .rows; columns = J .columns; O = J .O; D = J .D; E = J .E; mark = J .mark; state = states }
+
+-- a table with one entry changed
+abbrev pub put : (ℕ → ℕ → ℕ) → ℕ → ℕ → ℕ → ℕ → ℕ → ℕ
+put f r c v i j = elim (eqb i r && eqb j c) [ true ↦ v | false ↦ f i j ]
+
+-- "An accepted Mark or Close sets the one entry it names."
+abbrev pub marked : Job → ℕ → ℕ → ℕ → Job
+marked J r c m = withMarks J (put (J .mark) r c m)
+
+abbrev pub closed : Job → ℕ → ℕ → ℕ → Job
+closed J r c v = withStates J (put (J .state) r c v)
+
+-- ---- its pins and tiles
+
+module _ (J : Job) where
+  abbrev pub isPin : ℕ → ℕ → Bool
+  isPin r c = ltb r (J .rows) && ltb c (J .columns)
+
+  -- "Tile (r, c) has the pins (r, c), (r, c+1), (r+1, c+1), (r+1, c) at its NW, NE, SE and SW corners."
+  abbrev pub isTile : ℕ → ℕ → Bool
+  isTile r c = ltb (suc r) (J .rows) && ltb (suc c) (J .columns)
+
+  unfoldable pub isOpen : ℕ → ℕ → Bool
+  isOpen r c = isTile r c && eqb (J .state r c) 0
+
+  unfoldable pub isClosed : ℕ → ℕ → Bool
+  isClosed r c = isTile r c && eqb (J .state r c) 1
+
+  unfoldable pub isChosen : ℕ → ℕ → Bool
+  isChosen r c = isPin r c && eqb (J .mark r c) 1
+
+  unfoldable pub isMissing : ℕ → ℕ → Bool
+  isMissing r c = isPin r c && eqb (J .mark r c) 2
+
+  -- What every job of a run is: all in range, and marks and states outside the array 0.
+  pub record Proper : Type 0 where
+    pub array : T (arrayFits (J .rows) (J .columns))
+    pub caps : T (capsFit (J .O) (J .D) (J .E))
+    pub marks : (r c : ℕ) → T (leb (J .mark r c) (when (isPin r c) 2))
+    pub states : (r c : ℕ) → T (leb (J .state r c) (when (isTile r c) 1))

@@ -1,0 +1,15 @@
+-- Document 01 as definitions: what a reader has to believe.
+pub mod Job
+pub mod Links
+pub mod Route
+pub mod Near
+pub mod Length
+pub mod Loads
+pub mod Pairing
+pub mod Wires
+pub mod Record
+pub mod Text
+pub mod Calls
+pub mod Run
+-- The rows of the examples.
+pub mod Examples
