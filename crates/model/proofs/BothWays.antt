@@ -1,21 +1,15 @@
--- "A limit counts wires in both directions together": a step and its reverse use one link twice. So two routes that take one inner side of limit 1 in
--- opposite directions do not go together, though each goes alone, and both fit where the limit is 2. Assumes nothing.
-use mathlib.Core.Path.{_≡_, refl}
+-- "A limit counts wires in both directions together": two routes that take one inner side of limit 1 in opposite directions do not go together, though
+-- each goes alone, and both fit where the limit is 2. Assumes nothing.
+use mathlib.Core.Path.{refl}
 use mathlib.Core.List.{[], _∷_}
 use Prim.Native.Nat.{ℕ, _*_}
 use native.Mathlib.Omega.{arith}
 use Rattle.sums.specs.Counting.{total}
 use Rattle.sums.specs.Tests.{every}
-use Rattle.sums.specs.Sums.{when-so}
 use Rattle.model.specs.Job.{Job, fresh, marked, isOpen, isChosen}
-use Rattle.model.specs.Links.{north, east, south, west, northSide, westSide, spoke, leg, link, sameLink, behindOf, aheadOf, limitOf, Step, go, come, turn, head, may}
-use Rattle.model.specs.Route.{Route, uses, Together}
-use Rattle.model.proofs.Same.{same-link}
+use Rattle.model.specs.Links.{north, east, south, west, northSide, westSide, spoke, leg, link, behindOf, aheadOf, limitOf, go, come, head, may}
+use Rattle.model.specs.Route.{Route, Together}
 use Rattle.model.proofs.ByTest.{together-by-test}
-
-pub uses-both-ways : (s : Step) → uses (s .link) (s ∷ turn s ∷ []) ≡ 2
-unfolding total
-uses-both-ways s = omega (arith, when-so (sameLink (s .link) (s .link)) 1 (same-link (s .link)))
 
 -- 2 by 3, two open tiles side by side, pins (0, 1) and (1, 1) chosen, with the limit O on the side between the tiles
 abbrev pub across : ℕ → Job

@@ -1,6 +1,7 @@
 -- Laws of the definitions: what is listed, weak duality, uniqueness, the empty near side.
 pub mod Listed
 pub mod Same
+pub mod Uses
 pub mod Bound
 pub mod Unique
 pub mod Empty

@@ -3,11 +3,10 @@
 use mathlib.Core.Path.{_≡_, refl}
 use mathlib.Core.Bool.{Bool, true, false, _&&_, Bool·beq}
 use mathlib.Core.List.{List, [], _∷_, List·Memᴰ}
-use Prim.Native.Nat.{ℕ}
 use lib.Dec.{T, eqb, eqb→eq}
 use lib.ListN.{length, getD}
 use Rattle.sums.specs.Tests.{and-left, and-right, every, every-at}
-use Rattle.model.specs.Job.{centreLimit, arrayFits, capsFit, capsAdmitted}
+use Rattle.model.specs.Job.{centreLimit, arrayFits, capsAdmitted}
 use Rattle.model.specs.Pairing.{Pair, pairsOf}
 use Rattle.model.specs.Examples.{Centre, centres, Size, sizes, Caps, capacities, Sequence, sequences}
 

@@ -1,6 +1,6 @@
 -- Document 01, "The array and its channels" and "Runs": ranges, a job, and which pins and tiles it has. Assumes nothing.
-use mathlib.Core.Bool.{Bool, true, false, not, _&&_, _||_}
-use Prim.Native.Nat.{ℕ, zero, suc, _+_, _-_, _*_, _/_}
+use mathlib.Core.Bool.{Bool, true, false, _&&_}
+use Prim.Native.Nat.{ℕ, suc, _-_, _*_, _/_}
 use lib.Dec.{T, eqb, leb, ltb}
 use Rattle.sums.specs.Counting.{when}
 

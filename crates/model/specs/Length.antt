@@ -1,12 +1,11 @@
 -- Document 01, "Length", and the crossings of a tile's diagonals of "The array and its channels". Assumes nothing.
 use mathlib.Core.Bool.{Bool, true, false, not, _&&_, _||_, Bool·beq}
 use mathlib.Core.List.{List, [], _∷_}
-use mathlib.Core.Option.{Option, none, some}
-use Prim.Native.Nat.{ℕ, zero, suc, _+_, _*_}
-use lib.Dec.{eqb, leb}
+use Prim.Native.Nat.{ℕ, _+_, _*_}
+use lib.Dec.{leb}
 use Rattle.sums.specs.Counting.{when, each, those, total, count}
 use Rattle.model.specs.Job.{Job}
-use Rattle.model.specs.Links.{Compass, north, east, south, west, PlaceKind, pin, missing, centre, outside, nowhere, side, Place, at, places, samePlace, isMissingKind, LinkKind, northSide, westSide, corner, Link, link, linkCode, Step, go, come, head, tail, may, limit, pass}
+use Rattle.model.specs.Links.{Compass, north, east, south, west, PlaceKind, pin, missing, centre, outside, nowhere, side, at, places, samePlace, isMissingKind, northSide, westSide, corner, Link, link, linkCode, Step, go, come, head, tail, may, limit, pass}
 use Rattle.model.specs.Route.{uses}
 use Rattle.model.specs.Near.{size}
 

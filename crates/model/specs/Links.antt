@@ -1,11 +1,11 @@
 -- Document 01, "The array and its channels": places, and the links between them. A link is named by its kind and a cell (r, c), and has a positive way.
 -- Everything else (what is linked, limits, one-way links, the clockwise order) is read off `behindOf`, `aheadOf`, `limitOf`, `passOf`, `enters` and
 -- `aroundOf`. Assumes nothing.
-use mathlib.Core.Bool.{Bool, true, false, not, _&&_, _||_}
-use mathlib.Core.List.{List, [], _∷_, _++_}
+use mathlib.Core.Bool.{Bool, true, false, not, _&&_}
+use mathlib.Core.List.{List, [], _∷_}
 use mathlib.Core.Option.{Option, none, some}
-use Prim.Native.Nat.{ℕ, zero, suc, _+_, _-_, _*_, _/_}
-use lib.Dec.{T, eqb, leb, ltb}
+use Prim.Native.Nat.{ℕ, zero, suc, _+_, _/_}
+use lib.Dec.{eqb}
 use Rattle.sums.specs.Counting.{each, those}
 use Rattle.model.specs.Job.{Job, isTile, isOpen, isChosen, isMissing, centreLimit}
 

@@ -1,14 +1,13 @@
 -- Document 01, "Shortfall": near sides, their sum, and the smallest one. Assumes nothing.
 use mathlib.Core.Path.{_≡_}
 use mathlib.Core.Logic.{_⊎_}
-use mathlib.Core.Bool.{Bool, true, false, not, _&&_}
-use mathlib.Core.List.{List, [], _∷_}
+use mathlib.Core.Bool.{Bool, not, _&&_}
 use mathlib.Core.Option.{Option, none, some}
-use Prim.Native.Nat.{ℕ, zero, suc, _+_, _*_, _≤_}
-use lib.Dec.{T, eqb}
+use Prim.Native.Nat.{ℕ, _+_, _*_, _≤_}
+use lib.Dec.{T}
 use Rattle.sums.specs.Counting.{when, total, count}
 use Rattle.model.specs.Job.{Job}
-use Rattle.model.specs.Links.{compassCode, PlaceKind, pin, missing, centre, outside, nowhere, side, Place, at, isPlace, isPinKind, places, Step, head, tail, may, limit, pass, around}
+use Rattle.model.specs.Links.{compassCode, PlaceKind, pin, missing, centre, outside, nowhere, side, Place, isPlace, isPinKind, places, Step, head, tail, may, limit, pass, around}
 
 -- "The published order": eight numbers for each cell. Kind 0 is a missing pin's entry, 1 its exit or the chosen pin, 2 to 5 are n, e, s, w, 6 and 7 the
 -- centre's entry and exit. 41 cells stand in front of cell (0, 0), so that none of a job's places has the number 0.

@@ -3,15 +3,15 @@
 -- the 14 kinds of links, and four planes in reserve. Assumes nothing.
 use mathlib.Core.Path.{_≡_}
 use mathlib.Core.Logic.{_≢_}
-use mathlib.Core.Bool.{Bool, true, false, not, _&&_, _||_}
+use mathlib.Core.Bool.{true, false, not, _&&_}
 use mathlib.Core.List.{List, [], _∷_, _++_}
 use mathlib.Core.Option.{Option, none, some}
 use Prim.Native.Nat.{ℕ, zero, suc, _+_, _-_, _*_, _/_, _%_, _≤_, _<_}
-use lib.Dec.{T, eqb, leb, ltb}
+use lib.Dec.{T, ltb}
 use lib.ListN.{length, getD, getElem?, drop}
 use Rattle.sums.specs.Counting.{when, each}
 use Rattle.model.specs.Job.{Job, arrayFits, capsFit, isPin, isTile}
-use Rattle.model.specs.Links.{north, east, south, west, LinkKind, northSide, westSide, corner, spoke, leg, linkCode, Link, Step, go, come}
+use Rattle.model.specs.Links.{north, east, south, west, LinkKind, northSide, westSide, corner, spoke, leg, linkCode, Step, go, come}
 use Rattle.model.specs.Loads.{Sound}
 
 abbrev pub recordSize : ℕ

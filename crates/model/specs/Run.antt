@@ -1,10 +1,10 @@
 -- Document 01, "Runs": a run, the job that its calls alone give, and demand 3 as one statement about every run. Assumes nothing.
 use mathlib.Core.Path.{_≡_}
 use mathlib.Core.Logic.{_≢_, _↔_, _⊎_}
-use mathlib.Core.Bool.{Bool, true, false}
+use mathlib.Core.Bool.{Bool}
 use mathlib.Core.List.{List, [], _∷_}
-use mathlib.Core.Option.{Option, none, some}
-use Prim.Native.Nat.{ℕ, zero, suc, _+_, _-_, _^_, _≤_, _<_}
+use mathlib.Core.Option.{none, some}
+use Prim.Native.Nat.{ℕ, suc, _+_, _-_, _^_, _≤_, _<_}
 use lib.Dec.{T}
 use lib.ListN.{length, getD}
 use Rattle.model.specs.Job.{Job, fresh, marked, closed, isChosen}
@@ -13,7 +13,7 @@ use Rattle.model.specs.Near.{Smallest}
 use Rattle.model.specs.Record.{recordSize, scratchSize, jobOf, load, over}
 use Rattle.model.specs.Wires.{partAt, Holds}
 use Rattle.model.specs.Text.{reads, Reading}
-use Rattle.model.specs.Calls.{Call, new, mark, close, step, shortfall, part, readText, writeText, Answer, done, added, allWired, short, lacks, lists, refusal, Accepted, After, Did, wiresIn, nearBytes}
+use Rattle.model.specs.Calls.{Call, new, mark, close, step, shortfall, part, readText, writeText, Answer, added, allWired, short, lacks, lists, refusal, Accepted, After, Did, wiresIn, nearBytes}
 
 -- ---- what can be lent
 

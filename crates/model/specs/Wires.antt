@@ -1,15 +1,15 @@
 -- Document 01, "Lanes and pairing", "Runs" and "The listing": the lanes round a place, the wire from a pin, what Part gives, and the wires that loads
 -- hold. f gives each step how many wires go along its link that way. Assumes nothing.
 use mathlib.Core.Path.{_≡_}
-use mathlib.Core.Bool.{Bool, true, false, not, _&&_, _||_}
+use mathlib.Core.Bool.{Bool, true, false, _&&_}
 use mathlib.Core.List.{List, [], _∷_, _++_, map, List·Memᴰ}
 use mathlib.Core.Option.{Option, none, some}
-use Prim.Native.Nat.{ℕ, zero, suc, _+_, _≤_, _<_}
+use Prim.Native.Nat.{ℕ, zero, suc, _≤_}
 use lib.Dec.{T, eqb, ltb}
 use lib.ListN.{length, getElem?}
 use Rattle.sums.specs.Counting.{each, count}
 use Rattle.model.specs.Job.{Job, isChosen}
-use Rattle.model.specs.Links.{Compass, north, PlaceKind, pin, missing, centre, outside, nowhere, side, Place, at, isPlace, isPinKind, places, Link, Step, head, tail, turn, around, sameLink}
+use Rattle.model.specs.Links.{PlaceKind, pin, missing, centre, outside, nowhere, side, Place, at, isPlace, isPinKind, places, Link, Step, head, tail, turn, around, sameLink}
 use Rattle.model.specs.Route.{Route, visits}
 use Rattle.model.specs.Loads.{departures}
 use Rattle.model.specs.Pairing.{Pair, pairsOf, partnerIn, Crosses}
