@@ -5,6 +5,8 @@ pub mod Uses
 pub mod Bound
 pub mod Unique
 pub mod Empty
+-- Lanes from left to right.
+pub mod LaneOrder
 -- Records: of a job with loads, of a job without, and the rest of a longer buffer.
 pub mod RecordOf
 pub mod Unwired

@@ -2,12 +2,13 @@
 use mathlib.Core.Path.{_≡_, refl, sym, ap, _∙_, subst}
 use mathlib.Core.Logic.{_≢_, _⊎_, inl, inr}
 use mathlib.Core.Bool.{Bool, true, false, not, _&&_}
-use Prim.Native.Nat.{ℕ, zero, suc, _+_, _*_, _≤_, _<_}
-use native.Mathlib.Nat.{le-refl, le-step, not-suc-le-zero, lt-suc-self, eq-zero-or-pos, add-zero, add-suc, zero-mul, suc-mul}
+use Prim.Native.Nat.{ℕ, zero, suc, _+_, _*_, _≤_, _<_, _-_}
+use native.Mathlib.Nat.{le-refl, le-step, not-suc-le-zero, lt-suc-self, eq-zero-or-pos, add-zero, add-suc, zero-mul, suc-mul, zero-lt-suc}
 use native.Mathlib.Omega.{arith}
 use lib.Dec.{T, eqb}
 use Rattle.sums.specs.Counting.{when, sum}
 use Rattle.sums.specs.Tests.{Same, same, other, same?, eqb-iff}
+use mathlib.Core.Option.{Option, none, some}
 
 -- ---- a number under a condition
 
@@ -166,3 +167,41 @@ pub sum-rows : (n k : ℕ) (g : ℕ → ℕ) → sum (n * k) g ≡ sum n (λ u. 
 unfolding sum
 sum-rows zero k g = rw zero-mul
 sum-rows (suc n) k g = rw suc-mul (omega (arith, sum-append (n * k) k g, sum-rows n k g))
+
+-- a condition that holds wherever the number is not 0
+pub when-full : (b : Bool) (x : ℕ) → (0 < x → T b) → when b x ≡ x
+when-full true x h = refl
+when-full false zero h = refl
+when-full false (suc x) h = absurd (h (zero-lt-suc x))
+
+pub when-and : (a b : Bool) (x : ℕ) → when a (when b x) ≡ when (a && b) x
+when-and true b x = refl
+when-and false b x = refl
+
+pub when-implies : (a b : Bool) (x : ℕ) → (T a → T b) → when a x ≤ when b x
+when-implies true true x h = le-refl x
+when-implies true false x h = absurd (h tt)
+when-implies false b x h = omega arith
+
+-- terms that are 0 from n on
+pub sum-widen : (n m : ℕ) (g : ℕ → ℕ) → n ≤ m → ((i : ℕ) → n ≤ i → i < m → g i ≡ 0) → sum m g ≡ sum n g
+sum-widen n m g l e =
+    let p : m ≡ n + (m - n) = omega arith in
+    ap (λ (k : ℕ). sum k g) p
+    ∙ omega (arith, sum-append n (m - n) g, sum-none (m - n) (λ i. g (n + i)) (λ i k. e (n + i) (omega arith) (omega arith)))
+
+pub sum-first : (n : ℕ) (g : ℕ → ℕ) → sum (suc n) g ≡ g 0 + sum n (λ i. g (suc i))
+unfolding sum
+sum-first zero g = omega arith
+sum-first (suc n) g = omega (arith, sum-first n g)
+
+pub sum-ones : (n : ℕ) → sum n (λ i. 1) ≡ n
+unfolding sum
+sum-ones zero = refl
+sum-ones (suc n) = omega (arith, sum-ones n)
+
+-- ---- entries by index
+
+abbrev isNone : {A : Type 0} → Option A → Bool
+isNone none = true
+isNone (some x) = false

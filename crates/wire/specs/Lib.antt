@@ -1,0 +1,19 @@
+-- Steps: their turns, where they come to, and which stand around a place.
+pub mod Ways
+pub mod Around
+-- What routes within the limits keep to besides: the diagonals and the length.
+pub mod Diagonals
+pub mod LengthBound
+-- The wire from a hop: how it goes on, that it ends outside, that no two share a hop.
+pub mod Pairs
+pub mod Next
+pub mod Trails
+pub mod Follow
+pub mod Apart
+-- How many hops there are, and how often a place is listed.
+pub mod Counts
+pub mod Places
+-- The wires of all pins.
+pub mod Threads
+pub mod Bundle
+pub mod Held
