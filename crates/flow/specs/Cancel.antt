@@ -1,18 +1,20 @@
 -- Cancelling: a closed path of loaded darts is a balanced load without starts, so that taking one unit off each of its darts leaves a flow with the same
--- starts and a smaller total. Assumes nothing.
-use mathlib.Core.Path.{_≡_, refl, sym}
+-- starts and a smaller total. It is a push along the reverses. Assumes nothing.
+use mathlib.Core.Path.{_≡_, refl, sym, ap}
+use mathlib.Core.Bool.{Bool}
 use mathlib.Core.Logic.{_⊎_, inl, inr}
-use mathlib.Core.List.{List}
-use Prim.Native.Nat.{ℕ, _+_, _-_, _<_}
+use mathlib.Core.List.{List, map}
+use Prim.Native.Nat.{ℕ, _+_, _-_, _≤_, _<_, min}
 use native.Mathlib.Nat.{eq-zero-or-pos}
 use native.Mathlib.Omega.{arith}
 use lib.Dec.{eqb}
 use lib.ListN.{length}
 use Rattle.sums.specs.Counting.{when, sum, total}
 use Rattle.sums.specs.Sums.{sum-cong, sum-none, sum-add, sum-pick}
-use Rattle.flow.specs.Network.{Net, times, times-has, Chain, stop, step, Path, path-chain, path-once, path-dart}
+use Rattle.flow.specs.Network.{Net, eqb-rev, times, times-has, Chain, stop, step, Path, path-chain, path-once, path-dart}
 use Rattle.flow.specs.Balance.{balanced-cong, balanced-sub, loop-balanced}
 use Rattle.flow.specs.Flow.{Flow}
+use Rattle.flow.specs.Push.{push}
 
 -- f with one unit off each of the darts
 abbrev pub cancel : (ℕ → ℕ) → List ℕ → ℕ → ℕ
@@ -27,6 +29,12 @@ unfolding total
 chain-length {G} (stop e) = sum-none (G .darts) (λ d. 0) (λ d l. refl)
 chain-length {G} (step {d = d} {ds = ds} l e c) =
     omega (arith, sum-add (G .darts) (λ x. when (eqb d x) 1) (times ds), sum-pick (G .darts) d (λ x. 1) l, chain-length c)
+
+-- how often a dart is among the reverses
+pub times-rev : {G : Net} {ds : List ℕ} {u v : ℕ} → Chain G ds u v → (x : ℕ) → x < G .darts → times (map (G .rev) ds) x ≡ times ds (G .rev x)
+unfolding total
+times-rev (stop e) x l = refl
+times-rev {G} (step {d = d} {ds = ds} k e c) x l = omega (arith, ap (λ (b : Bool). when b 1) (eqb-rev G d x k l), times-rev c x l)
 
 module _ {G : Net} {f s : ℕ → ℕ} {ds : List ℕ} {u : ℕ} (F : Flow G f s) (p : Path G (Loaded f) ds u u) where
   whole : (d : ℕ) → f d ≡ cancel f ds d + times ds d
@@ -57,4 +65,21 @@ module _ {G : Net} {f s : ℕ → ℕ} {ds : List ℕ} {u : ℕ} (F : Flow G f s
         sum-add (G .darts) (cancel f ds) (times ds),
         sum-cong (G .darts) f (λ d. cancel f ds d + times ds d) (λ d l. whole d),
         chain-length (path-chain p),
+      )
+
+  -- a dart among the darts is loaded
+  once-loaded : (d : ℕ) → times ds d ≤ min 1 (f d)
+  once-loaded d = omega (arith, whole d, path-once p d)
+
+  -- It is what a push along the reverses of the darts gives.
+  pub cancel-push : (d : ℕ) → d < G .darts → cancel f ds d ≡ push G f (map (G .rev) ds) d
+  cancel-push d l =
+      omega (
+        arith,
+        F .apart d l,
+        once-loaded d,
+        once-loaded (G .rev d),
+        times-rev (path-chain p) d l,
+        times-rev (path-chain p) (G .rev d) (G .rev< d l),
+        ap (times ds) (G .rev-rev d l),
       )

@@ -12,6 +12,7 @@ pub mod Push
 pub mod Kept
 pub mod Store
 pub mod Cancel
+pub mod Less
 -- Networks by slots, and an example.
 pub mod Slots
 pub mod Example

@@ -24,7 +24,7 @@ use Rattle.wire.specs.Counts.{sameHop, same-hop-eq}
 use Rattle.wire.specs.Places.{places-once}
 use Rattle.wire.specs.Threads.{Thread, hops, thread, thread-once}
 
-pin-place : (x : Place) → T (isPinKind x) → at pin (x .row) (x .column) ≡ x
+pub pin-place : (x : Place) → T (isPinKind x) → at pin (x .row) (x .column) ≡ x
 pin-place x = by (x .kind) (x .row) (x .column)
   where
     by : (k : PlaceKind) (r c : ℕ) → T (isPinKind (at k r c)) → at pin r c ≡ at k r c

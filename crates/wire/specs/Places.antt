@@ -54,7 +54,7 @@ cell-one J x r c =
       when-and (eqb (x .row) r) (eqb (x .column) c),
     )
 
-places-total : (J : Job) (g : Place → ℕ)
+pub places-total : (J : Job) (g : Place → ℕ)
     → total (places J) g ≡ sum (J .rows) (λ r. sum (J .columns) (λ c. total (placesAt r c) (λ y. when (isPlace J y) (g y))))
 unfolding places
 places-total J g = simp (total-each, total-those)

@@ -1,0 +1,34 @@
+-- `moves::side_move` meets its contract: a wire the other way, or room. Assumes nothing.
+use borrow.Author.Needs.{needs}
+use mathlib.Core.Logic.{inl}
+use Rattle.model.specs.Record.{jobOf}
+use Rattle.channel.specs.Map.Moving.{plain-back, plain-room}
+use Rattle.channel.proofs.moves.side_move.Statement.{statement}
+use Rattle.channel.proofs.moves.side_move.Tie as tie
+
+load-against-requires : tie.Need-load-against-requires
+load-against-requires c κs = search needs
+
+returns : tie.Need-returns
+returns c =
+    let s = c .before .before .before .before in
+    plain-back (jobOf (s .args .job .now)) (s .args .loads .now) (s .args .d) (s .pre .2) (inl (s .pre .3)) _ (c .before .load-against .ensures .0)
+    (c .if1 .taken)
+
+load-along-requires : tie.Need-load-along-requires
+load-along-requires c κs = search needs
+
+side-limit-requires : tie.Need-side-limit-requires
+side-limit-requires c κs = search needs
+
+returns-2 : tie.Need-returns-2
+returns-2 c =
+    let s = c .before .before .before .before .before .before in
+    plain-room (jobOf (s .args .job .now)) (s .args .loads .now) (s .args .d) (s .pre .2) (inl (s .pre .3)) _ _ _
+    (c .before .before .before .load-against .ensures .0)
+    (c .before .before .if1 .left) (c .before .load-along .ensures .0) (c .side-limit .ensures)
+
+pub side-move-spec : {M : Type 1} → statement M
+side-move-spec =
+    tie.close
+    (tie.spec load-against-requires returns load-along-requires side-limit-requires returns-2)

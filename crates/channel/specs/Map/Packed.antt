@@ -1,0 +1,64 @@
+-- The rows of the table packed into words, as the code reads them: one computed test over the 64 rows says that each part of a word is the entry of the
+-- list. Assumes nothing.
+use mathlib.Core.Path.{_≡_}
+use mathlib.Core.Logic.{_≢_}
+use mathlib.Core.List.{List, [], _∷_}
+use Prim.Native.Nat.{ℕ, suc, zero-le, _+_, _*_, _/_, _%_, _^_, _≤_, _<_}
+use native.Mathlib.Omega.{arith}
+use lib.Dec.{eqb, eqb→eq}
+use lib.ListN.{getD}
+use Rattle.channel.specs.Table.{turns, links, owners, signs, codes, turnOf, kindOf, ownerOf, signOf, codeOf}
+use Rattle.channel.specs.Map.Bounds.{all, all-at}
+
+-- eight rows to a word, a byte for each: the code, and 16 times the kind of link
+unfoldable pub rowWords : List ℕ
+rowWords =
+    0x0000_0008_dccc_bcac ∷ 0x0000_000e_d7c7_b7a7 ∷ 0xbd00_6ab6_5263_2201 ∷ 0xcd00_7ac6_2273_3211 ∷ 0xdd00_8ad6_3283_4201 ∷ 0xad00_9aa6_4293_5211
+    ∷ 0x0000_0005_9989_7969 ∷ 0x0000_000b_9484_7464 ∷ []
+
+-- four rows to a word, 16 bits for each
+unfoldable pub turnWords : List ℕ
+turnWords =
+    0x0061_0a5a_0a93_00ac ∷ 0x0a80_0a80_0a80_0a88 ∷ 0x005c_0a55_0a8e_00a7 ∷ 0x0a80_0a80_0a80_0a78 ∷ 0x0a96_0a9e_0a8a_0090 ∷ 0x0a72_0a80_0aa3_0a6d
+    ∷ 0x0a76_0a97_0a8a_0ad0 ∷ 0x0aab_0a80_0a9c_0aa6 ∷ 0x0a76_0a90_0a8a_1470 ∷ 0x14a4_0a80_0a95_149f ∷ 0x0a76_0a89_0a6a_0a30 ∷ 0x1459_0a80_0a8e_1454
+    ∷ 0x0a77_0a70_0a69_0a62 ∷ 0x0a80_0a80_0a80_0a88 ∷ 0x0a72_0a6b_0a64_0a5d ∷ 0x0a80_0a80_0a80_0a78 ∷ []
+
+pub packed-code : (i : ℕ) → i < 64 → getD rowWords (i / 8) 0 / 2 ^ (i % 8 * 8) % 16 ≡ codeOf i
+unfolding all rowWords codes codeOf
+packed-code i l = eqb→eq _ _ (all-at 64 (λ i. eqb (getD rowWords (i / 8) 0 / 2 ^ (i % 8 * 8) % 16) (codeOf i)) tt i l)
+
+pub packed-kind : (i : ℕ) → i < 64 → getD rowWords (i / 8) 0 / 2 ^ (i % 8 * 8 + 4) % 16 ≡ kindOf i
+unfolding all rowWords links kindOf
+packed-kind i l = eqb→eq _ _ (all-at 64 (λ i. eqb (getD rowWords (i / 8) 0 / 2 ^ (i % 8 * 8 + 4) % 16) (kindOf i)) tt i l)
+
+pub packed-turn : (i : ℕ) → i < 64 → getD turnWords (i / 4) 0 / 2 ^ (i % 4 * 16) % 65536 ≡ turnOf i
+unfolding all turnWords turns turnOf
+packed-turn i l = eqb→eq _ _ (all-at 64 (λ i. eqb (getD turnWords (i / 4) 0 / 2 ^ (i % 4 * 16) % 65536) (turnOf i)) tt i l)
+
+pub packed-sign : (i : ℕ) → i < 64 → 0x1000_bdbd_bcbc_1000 / 2 ^ i % 2 ≡ signOf i
+unfolding all signs signOf
+packed-sign i l = eqb→eq _ _ (all-at 64 (λ i. eqb (0x1000_bdbd_bcbc_1000 / 2 ^ i % 2) (signOf i)) tt i l)
+
+pub packed-owner : (i : ℕ) → i < 64 → 0x0000_0090_9100_0000 / 2 ^ i % 2 + 0x0000_9091_0000_0000 / 2 ^ i % 2 * 40 ≡ ownerOf i
+unfolding all owners ownerOf
+packed-owner i l = eqb→eq _ _ (all-at 64 (λ i. eqb (0x0000_0090_9100_0000 / 2 ^ i % 2 + 0x0000_9091_0000_0000 / 2 ^ i % 2 * 40) (ownerOf i)) tt i l)
+
+-- the last word is the one that is none of the others
+pub not-least : (k a : ℕ) → a ≤ k → k ≢ a → suc a ≤ k
+not-least k a l n = omega arith
+
+pub from-seven : (k : ℕ) → k < 8 → ((((((Unit {0} × (k ≢ 0)) × (k ≢ 1)) × (k ≢ 2)) × (k ≢ 3)) × (k ≢ 4)) × (k ≢ 5)) × (k ≢ 6) → k ≡ 7
+from-seven k l r = let m : 7 ≤ k = not-least k 6 (not-least k 5
+    (not-least k 4 (not-least k 3 (not-least k 2 (not-least k 1 (not-least k 0 zero-le (r .0 .0 .0 .0 .0 .0 .1)) (r .0 .0 .0 .0 .0 .1))
+    (r .0 .0 .0 .0 .1)) (r .0 .0 .0 .1)) (r .0 .0 .1)) (r .0 .1)) (r .1) in omega arith
+
+pub from-fifteen : (k : ℕ) → k < 16 → ((((((((((((((Unit {0} × (k ≢ 0)) × (k ≢ 1)) × (k ≢ 2)) × (k ≢ 3)) × (k ≢ 4)) × (k ≢ 5)) × (k ≢ 6)) × (k ≢ 7)) ×
+    (k ≢ 8)) × (k ≢ 9)) × (k ≢ 10)) × (k ≢ 11)) × (k ≢ 12)) × (k ≢ 13)) × (k ≢ 14) → k ≡ 15
+from-fifteen k l r = let m : 15 ≤ k = not-least k 14
+    (not-least k 13 (not-least k 12 (not-least k 11 (not-least k 10
+    (not-least k 9 (not-least k 8 (not-least k 7 (not-least k 6
+    (not-least k 5 (not-least k 4 (not-least k 3 (not-least k 2
+    (not-least k 1 (not-least k 0 zero-le (r .0 .0 .0 .0 .0 .0 .0 .0 .0 .0 .0 .0 .0 .0 .1)) (r .0 .0 .0 .0 .0 .0 .0 .0 .0 .0 .0 .0 .0 .1))
+    (r .0 .0 .0 .0 .0 .0 .0 .0 .0 .0 .0 .0 .1)) (r .0 .0 .0 .0 .0 .0 .0 .0 .0 .0 .0 .1)) (r .0 .0 .0 .0 .0 .0 .0 .0 .0 .0 .1))
+    (r .0 .0 .0 .0 .0 .0 .0 .0 .0 .1)) (r .0 .0 .0 .0 .0 .0 .0 .0 .1)) (r .0 .0 .0 .0 .0 .0 .0 .1)) (r .0 .0 .0 .0 .0 .0 .1))
+    (r .0 .0 .0 .0 .0 .1)) (r .0 .0 .0 .0 .1)) (r .0 .0 .0 .1)) (r .0 .0 .1)) (r .0 .1)) (r .1) in omega arith

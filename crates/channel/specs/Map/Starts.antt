@@ -1,0 +1,30 @@
+-- Wires are wanted at the chosen pins alone: a spot at which one is wanted is the exit of a chosen pin, and the exit of a chosen pin is a spot. Assumes
+-- nothing.
+use mathlib.Core.Path.{_≡_}
+use Prim.Native.Nat.{ℕ, _/_, _%_, _<_}
+use mathlib.Core.Bool.{_&&_}
+use native.Mathlib.Omega.{arith}
+use lib.Dec.{T, eqb, eqb→eq}
+use Rattle.sums.specs.Tests.{and-left, and-right}
+use Rattle.sums.specs.Sums.{when-some}
+use Rattle.model.specs.Job.{Job, arrayFits, isChosen}
+use Rattle.model.specs.Links.{pin, at}
+use Rattle.model.specs.Near.{exitOf, exit}
+use Rattle.channel.specs.Map.{spots, inGrid, rowOf, columnOf, isStart, want}
+use Rattle.channel.specs.Map.Darts.{grid-cell}
+use Rattle.channel.specs.Map.Spots.{held-grid}
+
+module _ (J : Job) where
+  pub wanted-pin : (u : ℕ) → 0 < want J u → (r c : ℕ) × T (isChosen J r c) × (u ≡ exit (at pin r c))
+  unfolding want isStart exitOf
+  wanted-pin u p =
+      let r = rowOf (u / 8) in
+      let c = columnOf (u / 8) in
+      let t = when-some (isStart J u) 1 p .0 in
+      let e : u % 8 ≡ 1 = eqb→eq (u % 8) 1 (and-left (eqb (u % 8) 1) (inGrid (u / 8) && isChosen J r c) t) in
+      let g = and-right (eqb (u % 8) 1) (inGrid (u / 8) && isChosen J r c) t in
+      (r, c, and-right (inGrid (u / 8)) (isChosen J r c) g, omega (arith, grid-cell (u / 8) (and-left (inGrid (u / 8)) (isChosen J r c) g)))
+
+  pub pin-spot : T (arrayFits (J .rows) (J .columns)) → (r c : ℕ) → T (isChosen J r c) → exit (at pin r c) < spots
+  unfolding exitOf
+  pin-spot fits r c t = let (a, b) = held-grid J fits pin r c t in omega arith

@@ -1,0 +1,367 @@
+-- Laws of what the writers store. A record is told by its bytes: a byte of the header, of a cell of a plane, or of the rest of a longer buffer. A store at
+-- a cell changes the job's table there and nowhere else, and a record of no loads differs from a legal one in the planes of loads only. Assumes nothing.
+use mathlib.Core.Path.{_≡_, refl, sym, ap, _∙_}
+use mathlib.Core.Logic.{_≢_}
+use mathlib.Core.Bool.{Bool, true, false, not, _&&_}
+use mathlib.Core.List.{List, _∷_, _++_}
+use mathlib.Core.Option.{Option, none, some}
+use Prim.Native.Nat.{ℕ, zero, suc, _+_, _-_, _*_, _/_, _%_, _≤_, _<_}
+use native.Mathlib.Omega.{arith}
+use lib.Dec.{T, eqb, ltb, eqb→eq, eqb-refl, ltb→lt, nltb→le, lit≤}
+use lib.ListN.{length, getD, getElem?, take, drop, set, length-append, length-drop, length-set, length-replicate, getD-replicate, List·getD-append}
+use borrow.Author.Tests.{eq-eqb}
+use borrow.Rule.Slice.PartMut.{midOf, putMid, mid-len, post-is}
+use lib.Seq.{ext-getD, drop-at, getD-append-add, getD-drop, getD-take, getD-set-same, getD-set-other, length-take-le}
+use Rattle.sums.specs.Counting.{when}
+use Rattle.sums.specs.Sums.{when-cong}
+use Rattle.sums.specs.Tests.{Same, same, other, same?, and-left, and-right, and-both, so}
+use Rattle.model.specs.Job.{Job, fresh, put, marked, closed}
+use Rattle.model.specs.Links.{LinkKind, Step}
+use Rattle.model.specs.Record.{recordSize, markPlane, statePlane, offset, cell, jobOf, load, Legal, kinds, loadByteOf, planeByte, headByte, recordOf, noLoads}
+use Rattle.model.specs.Record.{unwiredRecord, over}
+use Rattle.model.proofs.RecordOf.{inCells, cells-row, cells-column, cells-have, length-record, head-back, cell-back, plane-high}
+use Rattle.model.proofs.Over.{get-over}
+use Rattle.model.proofs.LegalRecord.{legal-record}
+use Rattle.channel.specs.Write.{zeros, unwired}
+
+-- ---- zeros
+
+pub length-zeros : (n : ℕ) → length (zeros n) ≡ n
+unfolding zeros
+length-zeros n = length-replicate n 0
+
+pub get-zeros : (n i : ℕ) → i < n → getD (zeros n) i 0 ≡ 0
+unfolding zeros
+get-zeros n i l = getD-replicate n i 0 0 l
+
+-- ---- a record over a buffer, by its bytes
+
+-- where a byte of a buffer stands
+data Region (i : ℕ) : Type 0 where
+  head : i < 768 → Region i
+  plane : (p r c : ℕ) → i ≡ offset p r c → p < 20 → r < 40 → c < 40 → Region i
+  rest : recordSize ≤ i → Region i
+
+region : (i : ℕ) → Region i
+region i = by (ltb i 768) (ltb→lt i 768) (nltb→le i 768) (ltb i 32768) (ltb→lt i 32768) (nltb→le i 32768)
+  where
+    by : (a : Bool) → (T a → i < 768) → (T (not a) → 768 ≤ i) → (b : Bool) → (T b → i < 32768) → (T (not b) → 32768 ≤ i) → Region i
+    by true p q b s t = head (p tt)
+    by false p q true s t =
+        let j : ℕ = i - 768 in
+        let l : 768 ≤ i = q tt in
+        let h : i < 32768 = s tt in
+        plane (j / 1600) (j % 1600 / 40) (j % 40) (omega arith) (omega arith) (omega arith) (omega arith)
+    by false p q false s t = rest (t tt)
+
+module _ (J : Job) (f : Step → ℕ) (rec : List ℕ) (long : recordSize ≤ length rec) where
+  abbrev new : List ℕ
+  new = recordOf J f
+
+  pub length-over : length (over new rec) ≡ length rec
+  length-over = omega (arith, length-append new (drop (length new) rec), length-drop (length new) rec, length-record J f)
+
+  pub over-head : (i : ℕ) → i < 768 → getD (over new rec) i 0 ≡ headByte J i
+  over-head i l = get-over new (drop (length new) rec) (length-record J f) i (omega arith) ∙ head-back J f i l
+
+  pub over-cell : (p r c : ℕ) → p < 20 → r < 40 → c < 40 → getD (over new rec) (offset p r c) 0 ≡ planeByte J f p r c
+  over-cell p r c a b d =
+      get-over new (drop (length new) rec) (length-record J f) (offset p r c) (omega arith) ∙ cell-back J f p r c a b d
+
+  pub over-rest : (i : ℕ) → recordSize ≤ i → getD (over new rec) i 0 ≡ getD rec i 0
+  over-rest i l =
+      let k : i ≡ length new + (i - recordSize) = omega (arith, length-record J f) in
+      ap (λ (n : ℕ). getD (over new rec) n 0) k
+      ∙ (getD-append-add new (drop (length new) rec) (i - recordSize) 0
+      ∙ (getD-drop (length new) rec (i - recordSize) 0 ∙ ap (λ (n : ℕ). getD rec n 0) (sym k)))
+
+  -- a list as long as the buffer with these bytes
+  pub is-over : (l : List ℕ) → length l ≡ length rec → ((i : ℕ) → i < 768 → getD l i 0 ≡ headByte J i)
+      → ((p r c : ℕ) → p < 20 → r < 40 → c < 40 → getD l (offset p r c) 0 ≡ planeByte J f p r c)
+      → ((i : ℕ) → recordSize ≤ i → getD l i 0 ≡ getD rec i 0) → l ≡ over new rec
+  is-over l e h c r = ext-getD 0 l (over new rec) (e ∙ sym length-over) (λ i k. by i (region i))
+    where
+      by : (i : ℕ) → Region i → getD l i 0 ≡ getD (over new rec) i 0
+      by i (head k) = h i k ∙ sym (over-head i k)
+      by i (plane p x y k a b d) =
+          ap (λ (n : ℕ). getD l n 0) k ∙ (c p x y a b d ∙ (sym (over-cell p x y a b d) ∙ ap (λ (n : ℕ). getD (over new rec) n 0) (sym k)))
+      by i (rest k) = r i k ∙ sym (over-rest i k)
+
+-- ---- a store at a cell
+
+when-so : (b : Bool) (x : ℕ) → T b → when b x ≡ x
+when-so true x t = refl
+when-so false x t = absurd t
+
+pub put-at : (f : ℕ → ℕ → ℕ) (r c v : ℕ) → put f r c v r c ≡ v
+put-at f r c v = by (eqb r r && eqb c c) (and-both (eqb r r) (eqb c c) (eqb-refl r) (eqb-refl c))
+  where
+    by : (b : Bool) → T b → elim b as (λ y. ℕ) [ true ↦ v | false ↦ f r c ] ≡ v
+    by true t = refl
+    by false t = absurd t
+
+pub put-else : (f : ℕ → ℕ → ℕ) (r c v i j : ℕ) → (i ≡ r → j ≡ c → ⊥) → put f r c v i j ≡ f i j
+put-else f r c v i j n = by (eqb i r && eqb j c) (λ t. n (eqb→eq i r (and-left (eqb i r) (eqb j c) t)) (eqb→eq j c (and-right (eqb i r) (eqb j c) t)))
+  where
+    by : (b : Bool) → (T b → ⊥) → elim b as (λ y. ℕ) [ true ↦ v | false ↦ f i j ] ≡ f i j
+    by true k = absurd (k tt)
+    by false k = refl
+
+-- two tables alike but for one entry, each as a byte of a cell
+module _ (rec : List ℕ) (p r c v : ℕ) (lp : p < 20) (lr : r < 40) (lc : c < 40) (long : recordSize ≤ length rec) where
+  abbrev stored : List ℕ
+  stored = set rec (offset p r c) v
+
+  head-kept : (i : ℕ) → i < 768 → getD stored i 0 ≡ getD rec i 0
+  head-kept i l = getD-set-other rec (offset p r c) i v 0 (omega arith)
+
+  plane-kept : (q i j : ℕ) → q ≢ p → cell stored q i j ≡ cell rec q i j
+  unfolding cell
+  plane-kept q i j n =
+      when-cong (inCells i j) _ _ (λ t. let a : i < 40 = cells-row i j t in let b : j < 40 = cells-column i j t in
+      getD-set-other rec (offset p r c) (offset q i j) v 0 (λ e. n (omega arith)))
+
+  cell-stored : (i j : ℕ) → cell stored p i j ≡ put (cell rec p) r c v i j
+  unfolding cell
+  cell-stored i j = by (eqb i r && eqb j c) here there
+    where
+      here : T (eqb i r && eqb j c) → when (inCells i j) (getD stored (offset p i j) 0) ≡ v
+      here t =
+          let x : i ≡ r = eqb→eq i r (and-left (eqb i r) (eqb j c) t) in
+          let y : j ≡ c = eqb→eq j c (and-right (eqb i r) (eqb j c) t) in
+          (λ k. when (inCells (x k) (y k)) (getD stored (offset p (x k) (y k)) 0))
+          ∙ (when-so (inCells r c) _ (cells-have r c lr lc) ∙ getD-set-same rec (offset p r c) v 0 (omega arith))
+
+      there : (T (eqb i r && eqb j c) → ⊥) → when (inCells i j) (getD stored (offset p i j) 0) ≡ when (inCells i j) (getD rec (offset p i j) 0)
+      there n =
+          when-cong (inCells i j) _ _ (λ t. let a : i < 40 = cells-row i j t in let b : j < 40 = cells-column i j t in
+          getD-set-other rec (offset p r c) (offset p i j) v 0
+          (λ e. n (and-both (eqb i r) (eqb j c) (so (eq-eqb i r (omega arith))) (so (eq-eqb j c (omega arith))))))
+
+      by : (b : Bool) → (T b → when (inCells i j) (getD stored (offset p i j) 0) ≡ v)
+          → ((T b → ⊥) → when (inCells i j) (getD stored (offset p i j) 0) ≡ when (inCells i j) (getD rec (offset p i j) 0))
+          → when (inCells i j) (getD stored (offset p i j) 0) ≡ elim b as (λ z. ℕ) [ true ↦ v | false ↦ when (inCells i j) (getD rec (offset p i j) 0) ]
+      by true f g = f tt
+      by false f g = g (λ t. t)
+
+-- the record of a job that differs in one cell
+store-over : (K L : Job) (f : Step → ℕ) (rec : List ℕ) (p r c v : ℕ) → recordSize ≤ length rec → p < 20 → r < 40 → c < 40
+    → ((i : ℕ) → headByte K i ≡ headByte L i) → v ≡ planeByte L f p r c
+    → ((q i j : ℕ) → (q ≡ p → i ≡ r → j ≡ c → ⊥) → planeByte K f q i j ≡ planeByte L f q i j)
+    → set (over (recordOf K f) rec) (offset p r c) v ≡ over (recordOf L f) rec
+store-over K L f rec p r c v long lp lr lc h e o =
+    is-over L f rec long (set old (offset p r c) v) (length-set old (offset p r c) v ∙ length-over K f rec long)
+    (λ i l. getD-set-other old (offset p r c) i v 0 (omega arith) ∙ (over-head K f rec long i l ∙ h i))
+    cells
+    (λ i l. getD-set-other old (offset p r c) i v 0 (omega arith) ∙ over-rest K f rec long i l)
+  where
+    old : List ℕ
+    old = over (recordOf K f) rec
+
+    cells : (q i j : ℕ) → q < 20 → i < 40 → j < 40 → getD (set old (offset p r c) v) (offset q i j) 0 ≡ planeByte L f q i j
+    cells q i j a b d = by (eqb (offset q i j) (offset p r c)) (same? (offset q i j) (offset p r c))
+      where
+        by : (b : Bool) → Same (offset q i j) (offset p r c) b → getD (set old (offset p r c) v) (offset q i j) 0 ≡ planeByte L f q i j
+        by true (same s) =
+            let x : q ≡ p = omega arith in
+            let y : i ≡ r = omega arith in
+            let z : j ≡ c = omega arith in
+            ap (λ (n : ℕ). getD (set old (offset p r c) v) n 0) s
+            ∙ (getD-set-same old (offset p r c) v 0 (omega (arith, length-over K f rec long)) ∙ (e ∙ (λ k. planeByte L f (sym x k) (sym y k) (sym z k))))
+        by false (other n) =
+            getD-set-other old (offset p r c) (offset q i j) v 0 n
+            ∙ (over-cell K f rec long q i j a b d ∙ o q i j (λ x y z. n (λ k. offset (x k) (y k) (z k))))
+
+pub job-marked : (rec : List ℕ) (r c m : ℕ) → recordSize ≤ length rec → r < 40 → c < 40
+    → jobOf (set rec (offset markPlane r c) m) ≡ marked (jobOf rec) r c m
+unfolding jobOf
+job-marked rec r c m long lr lc =
+    λ t. record {
+      rows = head-kept rec 0 r c m (omega arith) lr lc long 0 (omega arith) t;
+      columns = head-kept rec 0 r c m (omega arith) lr lc long 1 (omega arith) t;
+      O = head-kept rec 0 r c m (omega arith) lr lc long 2 (omega arith) t;
+      D = head-kept rec 0 r c m (omega arith) lr lc long 3 (omega arith) t;
+      E = head-kept rec 0 r c m (omega arith) lr lc long 4 (omega arith) t;
+      mark = λ i j. cell-stored rec 0 r c m (omega arith) lr lc long i j t;
+      state = λ i j. plane-kept rec 0 r c m (omega arith) lr lc long 1 i j (omega arith) t;
+    }
+
+pub job-closed : (rec : List ℕ) (r c v : ℕ) → recordSize ≤ length rec → r < 40 → c < 40
+    → jobOf (set rec (offset statePlane r c) v) ≡ closed (jobOf rec) r c v
+unfolding jobOf
+job-closed rec r c v long lr lc =
+    λ t. record {
+      rows = head-kept rec 1 r c v (omega arith) lr lc long 0 (omega arith) t;
+      columns = head-kept rec 1 r c v (omega arith) lr lc long 1 (omega arith) t;
+      O = head-kept rec 1 r c v (omega arith) lr lc long 2 (omega arith) t;
+      D = head-kept rec 1 r c v (omega arith) lr lc long 3 (omega arith) t;
+      E = head-kept rec 1 r c v (omega arith) lr lc long 4 (omega arith) t;
+      mark = λ i j. plane-kept rec 1 r c v (omega arith) lr lc long 0 i j (omega arith) t;
+      state = λ i j. cell-stored rec 1 r c v (omega arith) lr lc long i j t;
+    }
+
+pub marked-over : (K : Job) (rec : List ℕ) (r c m : ℕ) → recordSize ≤ length rec → r < 40 → c < 40
+    → set (over (unwiredRecord K) rec) (offset markPlane r c) m ≡ over (unwiredRecord (marked K r c m)) rec
+marked-over K rec r c m long lr lc =
+    store-over K (marked K r c m) noLoads rec 0 r c m long (omega arith) lr lc (λ i. refl) (sym (put-at (K .mark) r c m)) (λ q i j n. by q i j n)
+  where
+    by : (q i j : ℕ) → (q ≡ 0 → i ≡ r → j ≡ c → ⊥) → planeByte K noLoads q i j ≡ planeByte (marked K r c m) noLoads q i j
+    by zero i j n = sym (put-else (K .mark) r c m i j (n refl))
+    by (suc zero) i j n = refl
+    by (suc (suc q)) i j n = refl
+
+pub closed-over : (K : Job) (rec : List ℕ) (r c v : ℕ) → recordSize ≤ length rec → r < 40 → c < 40
+    → set (over (unwiredRecord K) rec) (offset statePlane r c) v ≡ over (unwiredRecord (closed K r c v)) rec
+closed-over K rec r c v long lr lc =
+    store-over K (closed K r c v) noLoads rec 1 r c v long (omega arith) lr lc (λ i. refl) (sym (put-at (K .state) r c v)) (λ q i j n. by q i j n)
+  where
+    by : (q i j : ℕ) → (q ≡ 1 → i ≡ r → j ≡ c → ⊥) → planeByte K noLoads q i j ≡ planeByte (closed K r c v) noLoads q i j
+    by zero i j n = refl
+    by (suc zero) i j n = sym (put-else (K .state) r c v i j (n refl))
+    by (suc (suc q)) i j n = refl
+
+-- ---- a new job
+
+plane-none : (o : Option LinkKind) (r c : ℕ) → loadByteOf noLoads o r c ≡ 0
+plane-none none r c = refl
+plane-none (some k) r c = refl
+
+zeros-five : (X : List ℕ) → zeros 32768 ++ X ≡ 0 ∷ 0 ∷ 0 ∷ 0 ∷ 0 ∷ (zeros 32763 ++ X)
+unfolding zeros
+zeros-five X = refl
+
+pub fresh-written : (rec : List ℕ) (rows columns O D E : ℕ) → recordSize ≤ length rec
+    → set (set (set (set (set (zeros 32768 ++ drop 32768 rec) 0 rows) 1 columns) 2 O) 3 D) 4 E ≡ over (unwiredRecord (fresh rows columns O D E)) rec
+fresh-written rec rows columns O D E long =
+    ap (λ (l : List ℕ). set (set (set (set (set l 0 rows) 1 columns) 2 O) 3 D) 4 E) (zeros-five (drop 32768 rec))
+    ∙ is-over (fresh rows columns O D E) noLoads rec long made (omega (arith, length-append Z X, length-zeros 32763, length-drop 32768 rec)) heads
+    (λ p r c a b d. beyond (offset p r c) (omega arith) (omega arith) ∙ sym (planes p r c)) rests
+  where
+    Z : List ℕ
+    Z = zeros 32763
+
+    X : List ℕ
+    X = drop 32768 rec
+
+    made : List ℕ
+    made = rows ∷ columns ∷ O ∷ D ∷ E ∷ (Z ++ X)
+
+    behind : (i : ℕ) → i < 32763 → getD (Z ++ X) i 0 ≡ 0
+    behind i l = List·getD-append Z X 0 i (omega (arith, length-zeros 32763)) ∙ get-zeros 32763 i l
+
+    beyond : (i : ℕ) → 5 ≤ i → i < 32768 → getD made i 0 ≡ 0
+    beyond i l h =
+        let k : i ≡ 5 + (i - 5) = omega arith in
+        ap (λ (n : ℕ). getD made n 0) k ∙ (sym (getD-drop 5 made (i - 5) 0) ∙ behind (i - 5) (omega arith))
+
+    heads : (i : ℕ) → i < 768 → getD made i 0 ≡ headByte (fresh rows columns O D E) i
+    heads zero l = refl
+    heads (suc zero) l = refl
+    heads (suc (suc zero)) l = refl
+    heads (suc (suc (suc zero))) l = refl
+    heads (suc (suc (suc (suc zero)))) l = refl
+    heads (suc (suc (suc (suc (suc i))))) l = behind i (omega arith)
+
+    planes : (p r c : ℕ) → planeByte (fresh rows columns O D E) noLoads p r c ≡ 0
+    planes zero r c = refl
+    planes (suc zero) r c = refl
+    planes (suc (suc p)) r c = plane-none (getElem? kinds p) r c
+
+    rests : (i : ℕ) → recordSize ≤ i → getD made i 0 ≡ getD rec i 0
+    rests i l =
+        let k : i ≡ 5 + (length Z + (i - recordSize)) = omega (arith, length-zeros 32763) in
+        ap (λ (n : ℕ). getD made n 0) k
+        ∙ (sym (getD-drop 5 made (length Z + (i - recordSize)) 0)
+        ∙ (getD-append-add Z X (i - recordSize) 0 ∙ (getD-drop 32768 rec (i - recordSize) 0 ∙ ap (λ (n : ℕ). getD rec n 0) (omega arith))))
+
+-- ---- no wires
+
+module _ (rec : List ℕ) (long : recordSize ≤ length rec) where
+  abbrev front : List ℕ
+  front = take 3968 rec
+
+  abbrev back : List ℕ
+  back = zeros 22400 ++ drop 26368 rec
+
+  length-unwired : length (unwired rec) ≡ length rec
+  unfolding unwired
+  length-unwired =
+      omega (
+        arith,
+        length-append front back,
+        length-append (zeros 22400) (drop 26368 rec),
+        length-take-le 3968 rec (omega arith),
+        length-zeros 22400,
+        length-drop 26368 rec,
+      )
+
+  -- the zeros that take the place of the loads
+  pub unwired-put : (ys : List ℕ) → ys ≡ zeros (length (midOf 3968 22400 rec)) → putMid 3968 22400 rec ys ≡ unwired rec
+  unfolding unwired
+  unwired-put ys e = rw (e, mid-len 3968 26368 rec (omega arith), post-is 3968 26368 rec (lit≤ tt))
+
+  unwired-before : (i : ℕ) → i < 3968 → getD (unwired rec) i 0 ≡ getD rec i 0
+  unfolding unwired
+  unwired-before i l = List·getD-append front back 0 i (omega (arith, length-take-le 3968 rec (omega arith))) ∙ getD-take 3968 rec i 0 l
+
+  unwired-past : (i : ℕ) → getD (unwired rec) (3968 + i) 0 ≡ getD back i 0
+  unfolding unwired
+  unwired-past i = ap (λ (n : ℕ). getD (front ++ back) n 0) (omega (arith, length-take-le 3968 rec (omega arith))) ∙ getD-append-add front back i 0
+
+  unwired-loads : (i : ℕ) → i < 22400 → getD (unwired rec) (3968 + i) 0 ≡ 0
+  unwired-loads i l = unwired-past i ∙ (List·getD-append (zeros 22400) (drop 26368 rec) 0 i (omega (arith, length-zeros 22400)) ∙ get-zeros 22400 i l)
+
+  unwired-after : (i : ℕ) → getD (unwired rec) (26368 + i) 0 ≡ getD rec (26368 + i) 0
+  unwired-after i =
+      ap (λ (n : ℕ). getD (unwired rec) n 0) (omega arith)
+      ∙ (unwired-past (22400 + i)
+      ∙ (ap (λ (n : ℕ). getD back n 0) (omega (arith, length-zeros 22400)) ∙ (getD-append-add (zeros 22400) (drop 26368 rec) i 0 ∙ getD-drop 26368 rec i 0)))
+
+pub unwired-over : (rec : List ℕ) → Legal rec → unwired rec ≡ over (unwiredRecord (jobOf rec)) rec
+unwired-over rec g =
+    is-over J noLoads rec (g .long) (unwired rec) (length-unwired rec (g .long))
+    (λ i l. unwired-before rec (g .long) i (omega arith) ∙ (was i ∙ over-head J (load rec) rec (g .long) i l)) cells rests
+  where
+    J : Job
+    J = jobOf rec
+
+    -- the legal record by its job and loads
+    was : (i : ℕ) → getD rec i 0 ≡ getD (over (recordOf J (load rec)) rec) i 0
+    was i = ap (λ (l : List ℕ). getD l i 0) (legal-record rec g)
+
+    high : (p r c : ℕ) → p < 18 → r < 40 → c < 40 → (b : Bool) → (T b → p < 14) → (T (not b) → 14 ≤ p)
+        → getD (unwired rec) (offset (suc (suc p)) r c) 0 ≡ loadByteOf noLoads (getElem? kinds p) r c
+    high p r c lp lr lc true f n =
+        let l : p < 14 = f tt in
+        ap (λ (n : ℕ). getD (unwired rec) n 0) (omega arith)
+        ∙ (unwired-loads rec (g .long) (1600 * p + 40 * r + c) (omega arith) ∙ sym (plane-none (getElem? kinds p) r c))
+    high p r c lp lr lc false f n =
+        let l : 14 ≤ p = n tt in
+        let q : ℕ = suc (suc p) in
+        let k : offset q r c ≡ 26368 + (offset q r c - 26368) = omega arith in
+        ap (λ (n : ℕ). getD (unwired rec) n 0) k
+        ∙ (unwired-after rec (g .long) (offset q r c - 26368)
+        ∙ (ap (λ (n : ℕ). getD rec n 0) (sym k)
+        ∙ (was (offset q r c)
+        ∙ (over-cell J (load rec) rec (g .long) q r c (omega arith) lr lc
+        ∙ (plane-high J (load rec) q r c (omega arith) ∙ sym (plane-none (getElem? kinds p) r c))))))
+
+    cells : (p r c : ℕ) → p < 20 → r < 40 → c < 40 → getD (unwired rec) (offset p r c) 0 ≡ planeByte J noLoads p r c
+    cells zero r c lp lr lc = unwired-before rec (g .long) (offset 0 r c) (omega arith)
+        ∙ (was (offset 0 r c) ∙ over-cell J (load rec) rec (g .long) 0 r c lp lr lc)
+    cells (suc zero) r c lp lr lc =
+        unwired-before rec (g .long) (offset 1 r c) (omega arith) ∙ (was (offset 1 r c) ∙ over-cell J (load rec) rec (g .long) 1 r c lp lr lc)
+    cells (suc (suc p)) r c lp lr lc = high p r c (omega arith) lr lc (ltb p 14) (ltb→lt p 14) (nltb→le p 14)
+
+    rests : (i : ℕ) → recordSize ≤ i → getD (unwired rec) i 0 ≡ getD rec i 0
+    rests i l =
+        let k : i ≡ 26368 + (i - 26368) = omega arith in
+        ap (λ (n : ℕ). getD (unwired rec) n 0) k ∙ (unwired-after rec (g .long) (i - 26368) ∙ ap (λ (n : ℕ). getD rec n 0) (sym k))
+
+-- ---- one record over another
+
+pub over-over : (J K : Job) (f g : Step → ℕ) (rec : List ℕ) → over (recordOf J f) (over (recordOf K g) rec) ≡ over (recordOf J f) rec
+over-over J K f g rec =
+    ap (λ (s : List ℕ). recordOf J f ++ s)
+    (drop-at (recordOf K g) (drop (length (recordOf K g)) rec) (length (recordOf J f)) (length-record K g ∙ sym (length-record J f))
+    ∙ ap (λ (n : ℕ). drop n rec) (length-record K g ∙ sym (length-record J f)))

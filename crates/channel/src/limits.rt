@@ -1,0 +1,265 @@
+// The limits of a job's network: which steps may be taken, how many wires a dart takes, and which darts take any number.
+ghost use mathlib.Core.Path.{_≡_};
+ghost use mathlib.Core.Bool.{_||_};
+ghost use Prim.Native.Nat.{_/_, _%_, _≤_, _<_};
+ghost use lib.Dec.{T, eqb};
+ghost use lib.ListN.{length, getD};
+ghost use Rattle.model.specs.Job.{centreLimit};
+ghost use Rattle.model.specs.Links.{isPlace, northSide, westSide, go, come, aheadOf, may};
+ghost use Rattle.model.specs.Record.{kinds, jobOf};
+ghost use Rattle.channel.specs.Table.{kindOf, codeOf};
+ghost use Rattle.channel.specs.Map.{cap, free};
+ghost use Rattle.channel.specs.Map.Ways.{stepAt, mayTake, reaches, ownerMark};
+use crate::header::clear_in;
+use crate::header::diagonal;
+use crate::header::extra;
+use crate::header::mark_at;
+use crate::header::missing_at;
+use crate::header::open_at;
+use crate::header::open_in;
+use crate::header::orthogonal;
+use crate::table::code_of;
+use crate::table::kind_of;
+use crate::table::owner_of;
+use crate::table::sign_of;
+
+// Whether a wire may go north over the north side of (r, c).
+fn may_north(job: &[u8], r: usize, c: usize) -> bool
+    requires { ⌜ (32768 ≤ length (now job)) × (r < 40) × (c < 40) ⌝ }
+    ensures { λ b. ⌜ b ≡ may (jobOf (now (job .entry))) (go northSide r c) ⌝ }
+{
+    if r == 0 {
+        return open_in(job, r, c);
+    }
+    open_in(job, r, c) & open_in(job, r - 1, c)
+}
+
+// Whether one may go south over it.
+fn may_south(job: &[u8], r: usize, c: usize) -> bool
+    requires { ⌜ (32768 ≤ length (now job)) × (r < 40) × (c < 40) ⌝ }
+    ensures { λ b. ⌜ b ≡ may (jobOf (now (job .entry))) (come northSide r c) ⌝ }
+{
+    if r == 0 {
+        return false;
+    }
+    open_in(job, r - 1, c) & clear_in(job, r, c)
+}
+
+// Whether one may go east over the west side of (r, c).
+fn may_east(job: &[u8], r: usize, c: usize) -> bool
+    requires { ⌜ (32768 ≤ length (now job)) × (r < 40) × (c < 40) ⌝ }
+    ensures { λ b. ⌜ b ≡ may (jobOf (now (job .entry))) (go westSide r c) ⌝ }
+{
+    if c == 0 {
+        return false;
+    }
+    open_in(job, r, c - 1) & clear_in(job, r, c)
+}
+
+// Whether one may go west over it.
+fn may_west(job: &[u8], r: usize, c: usize) -> bool
+    requires { ⌜ (32768 ≤ length (now job)) × (r < 40) × (c < 40) ⌝ }
+    ensures { λ b. ⌜ b ≡ may (jobOf (now (job .entry))) (come westSide r c) ⌝ }
+{
+    if c == 0 {
+        return open_in(job, r, c);
+    }
+    open_in(job, r, c) & open_in(job, r, c - 1)
+}
+
+// Whether one may go over the side of kind k in the direction of sign s.
+fn may_side(job: &[u8], k: usize, s: usize, r: usize, c: usize) -> bool
+    requires { ⌜ (32768 ≤ length (now job)) × (k < 2) × (s < 2) × (r < 40) × (c < 40) ⌝ }
+    ensures { λ b. ⌜ b ≡ may (jobOf (now (job .entry))) (stepAt k s r c) ⌝ }
+{
+    if k == 0 {
+        if s == 0 {
+            return may_north(job, r, c);
+        }
+        return may_south(job, r, c);
+    }
+    if s == 0 {
+        return may_east(job, r, c);
+    }
+    may_west(job, r, c)
+}
+
+// Whether the step of a side's dart may be taken.
+fn side_way(job: &[u8], d: usize) -> bool
+    requires { ⌜ (32768 ≤ length (now job)) × (d < 105024) × (codeOf (d % 64) ≡ 1) ⌝ }
+    ensures { λ b. ⌜ b ≡ mayTake (jobOf (now (job .entry))) d ⌝ }
+{
+    let i = d % 64;
+    let o = d / 64 + owner_of(i);
+    if o < 41 {
+        return false;
+    }
+    if o >= 1641 {
+        return false;
+    }
+    may_side(job, kind_of(i), sign_of(i), (o - 41) / 40, (o - 41) % 40)
+}
+
+// Whether the leg of kind k leads from the pin (r, c) into an open tile.
+fn leg_open(job: &[u8], k: usize, r: usize, c: usize) -> bool
+    requires { ⌜ (32768 ≤ length (now job)) × (10 ≤ k) × (k < 14) × (r < 40) × (c < 40) ⌝ }
+    ensures { λ b. ⌜ b ≡ isPlace (jobOf (now (job .entry))) (aheadOf (jobOf (now (job .entry))) (getD kinds k northSide) r c) ⌝ }
+{
+    if k == 11 {
+        return open_in(job, r, c);
+    }
+    if k == 12 {
+        if c == 0 {
+            return false;
+        }
+        return open_in(job, r, c - 1);
+    }
+    if r == 0 {
+        return false;
+    }
+    if k == 10 {
+        return open_in(job, r - 1, c);
+    }
+    if c == 0 {
+        return false;
+    }
+    open_in(job, r - 1, c - 1)
+}
+
+// Whether the leg of a pin's dart leads into an open tile.
+pub fn leg_way(job: &[u8], d: usize) -> bool
+    requires { ⌜ (32768 ≤ length (now job)) × (d < 105024) × (10 ≤ kindOf (d % 64)) ⌝ }
+    ensures { λ b. ⌜ b ≡ reaches (jobOf (now (job .entry))) d ⌝ }
+{
+    let i = d % 64;
+    let o = d / 64 + owner_of(i);
+    if o < 41 {
+        return false;
+    }
+    if o >= 1641 {
+        return false;
+    }
+    leg_open(job, kind_of(i), (o - 41) / 40, (o - 41) % 40)
+}
+
+// The mark of the pin that a dart's leg belongs to.
+pub fn leg_mark(job: &[u8], d: usize) -> usize
+    requires { ⌜ (32768 ≤ length (now job)) × (d < 105024) ⌝ }
+    ensures { λ m. ⌜ m ≡ ownerMark (jobOf (now (job .entry))) d ⌝ }
+{
+    mark_at(job, d / 64 + owner_of(d % 64))
+}
+
+// The limit of a side's dart.
+pub fn side_limit(job: &[u8], d: usize) -> usize
+    requires { ⌜ (32768 ≤ length (now job)) × (d < 105024) × (codeOf (d % 64) ≡ 1) ⌝ }
+    ensures { λ r. ⌜ r ≡ cap (jobOf (now (job .entry))) d ⌝ }
+{
+    if side_way(job, d) {
+        return orthogonal(job);
+    }
+    0
+}
+
+// The limit of a corner's dart.
+pub fn corner_limit(job: &[u8], d: usize) -> usize
+    requires { ⌜ (32768 ≤ length (now job)) × (d < 105024) × (codeOf (d % 64) ≡ 2) ⌝ }
+    ensures { λ r. ⌜ r ≡ cap (jobOf (now (job .entry))) d ⌝ }
+{
+    if open_at(job, d / 64) {
+        return orthogonal(job) / 2;
+    }
+    0
+}
+
+// How many wires pass a centre at most.
+pub fn centre_most(job: &[u8]) -> usize
+    requires { ⌜ 32768 ≤ length (now job) ⌝ }
+    ensures { λ r. ⌜ r ≡ centreLimit (jobOf (now (job .entry)) .O) (jobOf (now (job .entry)) .D) ⌝ }
+{
+    let corners = 2 * (orthogonal(job) / 2);
+    let most = diagonal(job);
+    if most < corners { 0 } else { most - corners }
+}
+
+// The limit of the dart from a centre's entry to its exit.
+pub fn centre_limit(job: &[u8], d: usize) -> usize
+    requires { ⌜ (32768 ≤ length (now job)) × (d < 105024) × (codeOf (d % 64) ≡ 5) ⌝ }
+    ensures { λ r. ⌜ r ≡ cap (jobOf (now (job .entry))) d ⌝ }
+{
+    if open_at(job, d / 64) {
+        return centre_most(job);
+    }
+    0
+}
+
+// The limit of a dart from a pin.
+pub fn pin_limit(job: &[u8], d: usize) -> usize
+    requires { ⌜ (32768 ≤ length (now job)) × (d < 105024) × (codeOf (d % 64) ≡ 7) ⌝ }
+    ensures { λ r. ⌜ r ≡ cap (jobOf (now (job .entry))) d ⌝ }
+{
+    if leg_mark(job, d) != 1 {
+        return 0;
+    }
+    if leg_way(job, d) {
+        return 1;
+    }
+    0
+}
+
+// The limit of the dart from a missing pin's entry to its exit.
+pub fn missing_limit(job: &[u8], d: usize) -> usize
+    requires { ⌜ (32768 ≤ length (now job)) × (d < 105024) × (codeOf (d % 64) ≡ 8) ⌝ }
+    ensures { λ r. ⌜ r ≡ cap (jobOf (now (job .entry))) d ⌝ }
+{
+    if missing_at(job, d / 64) {
+        return extra(job);
+    }
+    0
+}
+
+// The limit of a dart.
+pub fn limit(job: &[u8], d: usize) -> usize
+    requires { ⌜ (32768 ≤ length (now job)) × (d < 105024) ⌝ }
+    ensures { λ r. ⌜ r ≡ cap (jobOf (now (job .entry))) d ⌝ }
+{
+    match code_of(d % 64) {
+        1 => side_limit(job, d),
+        2 => corner_limit(job, d),
+        5 => centre_limit(job, d),
+        7 => pin_limit(job, d),
+        8 => missing_limit(job, d),
+        _ => 0,
+    }
+}
+
+// Whether a dart to or from a centre takes any number of wires.
+pub fn centre_free(job: &[u8], d: usize) -> bool
+    requires { ⌜ (32768 ≤ length (now job)) × (d < 105024) × T (eqb (codeOf (d % 64)) 3 || eqb (codeOf (d % 64)) 4) ⌝ }
+    ensures { λ b. ⌜ b ≡ free (jobOf (now (job .entry))) d ⌝ }
+{
+    open_at(job, d / 64)
+}
+
+// Whether a dart to or from a pin does.
+pub fn pin_free(job: &[u8], d: usize) -> bool
+    requires { ⌜ (32768 ≤ length (now job)) × (d < 105024) × T (eqb (codeOf (d % 64)) 6 || eqb (codeOf (d % 64)) 7) ⌝ }
+    ensures { λ b. ⌜ b ≡ free (jobOf (now (job .entry))) d ⌝ }
+{
+    if leg_mark(job, d) != 2 {
+        return false;
+    }
+    leg_way(job, d)
+}
+
+// Whether a dart does.
+pub fn is_free(job: &[u8], d: usize) -> bool
+    requires { ⌜ (32768 ≤ length (now job)) × (d < 105024) ⌝ }
+    ensures { λ b. ⌜ b ≡ free (jobOf (now (job .entry))) d ⌝ }
+{
+    match code_of(d % 64) {
+        3 | 4 => centre_free(job, d),
+        6 | 7 => pin_free(job, d),
+        _ => false,
+    }
+}

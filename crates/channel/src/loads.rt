@@ -1,0 +1,163 @@
+// The loads of a record: how many wires go along a dart, against it, and through a place. A dart's link has one byte.
+ghost use mathlib.Core.Path.{_≡_};
+ghost use Prim.Native.Nat.{_+_, _/_, _%_, _≤_, _<_};
+ghost use lib.Dec.{T};
+ghost use lib.ListN.{length, getD};
+ghost use Rattle.sums.specs.Counting.{when};
+ghost use Rattle.model.specs.Links.{pin, missing, centre, at};
+ghost use Rattle.model.specs.Loads.{arrivals, departures};
+ghost use Rattle.model.specs.Record.{forthPart, backPart, load};
+ghost use Rattle.channel.specs.Map.{inGrid, rowOf, columnOf, ownerCell, stepOf, carries, isPassDart, passedOf, view, opposed, address};
+use crate::header::in_grid;
+use crate::header::wide;
+use crate::table::code_of;
+use crate::table::kind_of;
+use crate::table::owner_of;
+use crate::table::sign_of;
+
+// What a byte has along the link's positive way.
+fn forth(b: usize) -> usize
+    ensures { λ r. ⌜ (r ≡ forthPart b) × (r ≤ b) ⌝ }
+{
+    if b < 32 { b } else { 0 }
+}
+
+// What it has against it.
+fn back(b: usize) -> usize
+    ensures { λ r. ⌜ (r ≡ backPart b) × (r ≤ b) ⌝ }
+{
+    if b < 32 { 0 } else { b - 32 }
+}
+
+// The byte of the dart's link, 0 where no cell of the grid owns it.
+fn byte_of(rec: &[u8], d: usize) -> usize
+    requires { ⌜ (32768 ≤ length (now rec)) × (d < 105024) ⌝ }
+    ensures { λ r. ⌜ (r ≡ when (inGrid (ownerCell d)) (getD (now (rec .entry)) (address d) 0)) × (r < 256) ⌝ }
+{
+    let i = d % 64;
+    let o = d / 64 + owner_of(i);
+    if o < 41 {
+        return 0;
+    }
+    if o >= 1641 {
+        return 0;
+    }
+    wide(rec[3927 + 1600 * kind_of(i) + o])
+}
+
+// How many wires go along the dart's link its way.
+pub fn load_along(rec: &[u8], d: usize) -> usize
+    requires { ⌜ (32768 ≤ length (now rec)) × (d < 105024) ⌝ }
+    ensures { λ r. ⌜ (r ≡ when (inGrid (ownerCell d)) (load (now (rec .entry)) (stepOf d))) × (r < 256) ⌝ }
+{
+    let b = byte_of(rec, d);
+    if sign_of(d % 64) == 0 {
+        return forth(b);
+    }
+    back(b)
+}
+
+// How many go the other way.
+pub fn load_against(rec: &[u8], d: usize) -> usize
+    requires { ⌜ (32768 ≤ length (now rec)) × (d < 105024) ⌝ }
+    ensures { λ r. ⌜ (r ≡ opposed (now (rec .entry)) d) × (r < 256) ⌝ }
+{
+    let b = byte_of(rec, d);
+    if sign_of(d % 64) == 0 {
+        return back(b);
+    }
+    forth(b)
+}
+
+// What four planes from p on have at the cell x against their links' positive way.
+fn back_sum(rec: &[u8], p: usize, x: usize) -> usize
+    requires { ⌜ (32768 ≤ length (now rec)) × (p < 20000) × (x < 1641) ⌝ }
+    ensures { λ r. ⌜ (r ≡ backPart (getD (now (rec .entry)) (p + x) 0) + backPart (getD (now (rec .entry)) (p + 1600 + x) 0)
+        + backPart (getD (now (rec .entry)) (p + 3200 + x) 0) + backPart (getD (now (rec .entry)) (p + 4800 + x) 0)) × (r < 1024) ⌝ }
+{
+    let n = back(wide(rec[p + x]));
+    let e = back(wide(rec[p + 1600 + x]));
+    let s = back(wide(rec[p + 3200 + x]));
+    let w = back(wide(rec[p + 4800 + x]));
+    n + e + s + w
+}
+
+// What they have along it.
+fn forth_sum(rec: &[u8], p: usize, x: usize) -> usize
+    requires { ⌜ (32768 ≤ length (now rec)) × (p < 20000) × (x < 1641) ⌝ }
+    ensures { λ r. ⌜ (r ≡ forthPart (getD (now (rec .entry)) (p + x) 0) + forthPart (getD (now (rec .entry)) (p + 1600 + x) 0)
+        + forthPart (getD (now (rec .entry)) (p + 3200 + x) 0) + forthPart (getD (now (rec .entry)) (p + 4800 + x) 0)) × (r < 1024) ⌝ }
+{
+    let n = forth(wide(rec[p + x]));
+    let e = forth(wide(rec[p + 1600 + x]));
+    let s = forth(wide(rec[p + 3200 + x]));
+    let w = forth(wide(rec[p + 4800 + x]));
+    n + e + s + w
+}
+
+// How many wires come to the centre of the cell's tile.
+pub fn through_centre(rec: &[u8], x: usize) -> usize
+    requires { ⌜ (32768 ≤ length (now rec)) × (41 ≤ x) × (x < 1641) ⌝ }
+    ensures { λ r. ⌜ (r ≡ arrivals (load (now (rec .entry))) (at centre (rowOf x) (columnOf x))) × (r < 1024) ⌝ }
+{
+    back_sum(rec, 13527, x)
+}
+
+// How many come to the cell's missing pin.
+pub fn through_missing(rec: &[u8], x: usize) -> usize
+    requires { ⌜ (32768 ≤ length (now rec)) × (41 ≤ x) × (x < 1641) ⌝ }
+    ensures { λ r. ⌜ (r ≡ arrivals (load (now (rec .entry))) (at missing (rowOf x) (columnOf x))) × (r < 1024) ⌝ }
+{
+    back_sum(rec, 19927, x)
+}
+
+// How many leave the cell's pin.
+pub fn out_of_pin(rec: &[u8], x: usize) -> usize
+    requires { ⌜ (32768 ≤ length (now rec)) × (41 ≤ x) × (x < 1641) ⌝ }
+    ensures { λ r. ⌜ (r ≡ departures (load (now (rec .entry))) (at pin (rowOf x) (columnOf x))) × (r < 1024) ⌝ }
+{
+    forth_sum(rec, 19927, x)
+}
+
+// Whether a dart of the code carries the load of its step.
+pub fn carries_load(c: usize) -> bool
+    requires { ⌜ c < 15 ⌝ }
+    ensures { λ b. ⌜ b ≡ carries c ⌝ }
+{
+    let bit: usize = (0b1101_1110 >> c) % 2;
+    bit == 1
+}
+
+// Whether a dart leads from an entry to its exit.
+pub fn is_pass_dart(d: usize) -> bool
+    requires { ⌜ d < 105024 ⌝ }
+    ensures { λ b. ⌜ b ≡ isPassDart d ⌝ }
+{
+    let c = code_of(d % 64);
+    ((c == 5) | (c == 8)) & in_grid(d / 64)
+}
+
+// How many wires pass the place of such a dart.
+pub fn passing(rec: &[u8], d: usize) -> usize
+    requires { ⌜ (32768 ≤ length (now rec)) × (d < 105024) × T (isPassDart d) ⌝ }
+    ensures { λ r. ⌜ (r ≡ arrivals (load (now (rec .entry))) (passedOf d)) × (r < 1024) ⌝ }
+{
+    if code_of(d % 64) == 5 {
+        return through_centre(rec, d / 64);
+    }
+    through_missing(rec, d / 64)
+}
+
+// How many wires go along a dart.
+pub fn carried(rec: &[u8], d: usize) -> usize
+    requires { ⌜ (32768 ≤ length (now rec)) × (d < 105024) ⌝ }
+    ensures { λ r. ⌜ (r ≡ view (now (rec .entry)) d) × (r < 1024) ⌝ }
+{
+    if carries_load(code_of(d % 64)) {
+        return load_along(rec, d);
+    }
+    if is_pass_dart(d) {
+        return passing(rec, d);
+    }
+    0
+}

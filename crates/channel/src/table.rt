@@ -1,0 +1,119 @@
+// The constant table of the map, a row for each d % 64: specs/Table.antt's lists, packed into words, so that a read builds few of them. The way back of a
+// dart stands on it.
+ghost use mathlib.Core.Path.{_≡_};
+ghost use Prim.Native.Nat.{_+_, _*_, _/_, _<_};
+ghost use lib.ListN.{getD};
+ghost use Rattle.channel.specs.Table.{turnOf, kindOf, ownerOf, signOf, codeOf};
+ghost use Rattle.channel.specs.Map.{rev};
+ghost use Rattle.channel.specs.Map.Packed.{rowWords, turnWords};
+
+// The neighbours of a spot by its kind, in document 01's clockwise order, a byte for each slot: what the dart is, and 16 times the kind of its link.
+const NEIGHBOURS: [usize; 8] = [
+    0x0000_0008_dccc_bcac,
+    0x0000_000e_d7c7_b7a7,
+    0xbd00_6ab6_5263_2201,
+    0xcd00_7ac6_2273_3211,
+    0xdd00_8ad6_3283_4201,
+    0xad00_9aa6_4293_5211,
+    0x0000_0005_9989_7969,
+    0x0000_000b_9484_7464,
+];
+
+// How far ahead the way back lies, 16 bits for each of four rows.
+const TURNS: [usize; 16] = [
+    0x0061_0a5a_0a93_00ac,
+    0x0a80_0a80_0a80_0a88,
+    0x005c_0a55_0a8e_00a7,
+    0x0a80_0a80_0a80_0a78,
+    0x0a96_0a9e_0a8a_0090,
+    0x0a72_0a80_0aa3_0a6d,
+    0x0a76_0a97_0a8a_0ad0,
+    0x0aab_0a80_0a9c_0aa6,
+    0x0a76_0a90_0a8a_1470,
+    0x14a4_0a80_0a95_149f,
+    0x0a76_0a89_0a6a_0a30,
+    0x1459_0a80_0a8e_1454,
+    0x0a77_0a70_0a69_0a62,
+    0x0a80_0a80_0a80_0a88,
+    0x0a72_0a6b_0a64_0a5d,
+    0x0a80_0a80_0a80_0a78,
+];
+
+// The neighbours of a spot of kind k.
+fn row_word(k: usize) -> usize
+    requires { ⌜ k < 8 ⌝ }
+    ensures { λ r. ⌜ r ≡ getD rowWords k 0 ⌝ }
+{
+    NEIGHBOURS[k]
+}
+
+// The ways back of the rows 4 k to 4 k + 3.
+fn turn_word(k: usize) -> usize
+    requires { ⌜ k < 16 ⌝ }
+    ensures { λ r. ⌜ r ≡ getD turnWords k 0 ⌝ }
+{
+    TURNS[k]
+}
+
+// What a dart is, 0 to 14.
+pub fn code_of(i: usize) -> usize
+    requires { ⌜ i < 64 ⌝ }
+    ensures { λ r. ⌜ r ≡ codeOf i ⌝ }
+{
+    (row_word(i / 8) >> (i % 8 * 8)) % 16
+}
+
+// The kind of its link, 0 to 13.
+pub fn kind_of(i: usize) -> usize
+    requires { ⌜ i < 64 ⌝ }
+    ensures { λ r. ⌜ r ≡ kindOf i ⌝ }
+{
+    (row_word(i / 8) >> (i % 8 * 8 + 4)) % 16
+}
+
+// 0 along the link's positive way, 1 against it.
+pub fn sign_of(i: usize) -> usize
+    requires { ⌜ i < 64 ⌝ }
+    ensures { λ r. ⌜ r ≡ signOf i ⌝ }
+{
+    (0x1000_bdbd_bcbc_1000 >> i) % 2
+}
+
+// How far the cell stands that owns the link.
+pub fn owner_of(i: usize) -> usize
+    requires { ⌜ i < 64 ⌝ }
+    ensures { λ r. ⌜ r ≡ ownerOf i ⌝ }
+{
+    (0x0000_0090_9100_0000 >> i) % 2 + (0x0000_9091_0000_0000 >> i) % 2 * 40
+}
+
+// How far ahead the way back lies, 2,688 more.
+pub fn turn_of(i: usize) -> usize
+    requires { ⌜ i < 64 ⌝ }
+    ensures { λ r. ⌜ r ≡ turnOf i ⌝ }
+{
+    (turn_word(i / 4) >> (i % 4 * 16)) % 65536
+}
+
+// The way back of a dart.
+pub fn reverse(d: usize) -> usize
+    requires { ⌜ d < 105024 ⌝ }
+    ensures { λ r. ⌜ (r ≡ rev d) × (r < 105024) ⌝ }
+{
+    let t = d + turn_of(d % 64);
+    if t < 2688 {
+        return d;
+    }
+    if t < 107712 {
+        return t - 2688;
+    }
+    d
+}
+
+// The spot that a dart leads to.
+pub fn head_of(d: usize) -> usize
+    requires { ⌜ d < 105024 ⌝ }
+    ensures { λ r. ⌜ (r ≡ rev d / 8) × (r < 13128) ⌝ }
+{
+    reverse(d) / 8
+}

@@ -1,0 +1,79 @@
+-- Document 01, "Runs": edits within the array are accepted by every service, one after the other, and give the job that they name, with nothing wired.
+-- Assumes nothing.
+use mathlib.Core.Path.{_≡_, refl, sym, ap, subst, _∙_}
+use mathlib.Core.Bool.{Bool, true, false}
+use mathlib.Core.List.{List, [], _∷_, _++_}
+use Prim.Native.Nat.{ℕ}
+use lib.Dec.{T, eqb, leb}
+use Rattle.model.specs.Job.{Job, marked, closed, isPin, isTile}
+use Rattle.model.specs.Record.{jobOf}
+use Rattle.model.specs.Calls.{Call, mark, close, refusal, Accepted, After, Did, edited, wiresIn}
+use Rattle.model.specs.Run.{Lent, Service, Sets, Follows}
+use Rattle.run.specs.Invariant.{call-leaves}
+use Rattle.run.specs.Runs.{accepted-kept, becomes-set, recAfter}
+use Rattle.run.specs.Blank.{anew-unwired, Blank}
+
+-- edits within the array, from the job J to the job K
+pub data Edits : Job → List Call → Job → Type 0 where
+  end : {J : Job} → Edits J [] J
+  marks : {J K : Job} {calls : List Call} (r c m : ℕ) → Lent (mark r c m) → T (isPin J r c) → T (leb m 2) → Edits (marked J r c m) calls K
+      → Edits J (mark r c m ∷ calls) K
+  closes : {J K : Job} {calls : List Call} (r c v : ℕ) → Lent (close r c v) → T (isTile J r c) → T (leb v 1) → Edits (closed J r c v) calls K
+      → Edits J (close r c v ∷ calls) K
+
+edited-done : (there known already : Bool) (K : Job) (rec : List ℕ) → T there → T known → wiresIn rec ≡ 0
+    → Accepted (edited there known already K rec .answer) × (wiresIn (edited there known already K rec .rec) ≡ 0)
+edited-done true true true K rec s t u = (refl, u)
+edited-done true true false K rec s t u = (refl, anew-unwired K rec)
+edited-done true false already K rec s t u = absurd t
+edited-done false known already K rec s t u = absurd s
+
+module _ (S : Service) where
+  -- one edit
+  abbrev Goes : Call → List ℕ → Job → Type 0
+  Goes c rec K = Accepted (S .does c rec .answer) × Blank (S .does c rec .rec) K
+
+  edit-goes : (c : Call) (rec : List ℕ) (J K : Job) → Blank rec J → Did c rec (S .does c rec) → Sets S c J K → (there known already : Bool) (L : Job)
+      → S .does c rec ≡ edited there known already L rec → T there → T known → Goes c rec K
+  edit-goes c rec J K k d s there known already L e t u =
+      let (x, w) = edited-done there known already L rec t u (k .unwired) in
+      let y : Accepted (S .does c rec .answer) = ap (λ (a : After). refusal (a .answer)) e ∙ x in (
+        y,
+        record {
+          kept = accepted-kept S c rec J K (S .does c rec) (call-leaves S rec J (k .kept) c (S .does c rec) d) y s;
+          unwired = ap (λ (a : After). wiresIn (a .rec)) e ∙ w;
+        },
+      )
+
+  mark-goes : (rec : List ℕ) (J : Job) (r c m : ℕ) → Blank rec J → Lent (mark r c m) → T (isPin J r c) → T (leb m 2) → Goes (mark r c m) rec (marked J r c m)
+  mark-goes rec J r c m k w t u =
+      let I : Job = jobOf rec in
+      let d : Did (mark r c m) rec (S .does (mark r c m) rec) = S .did (mark r c m) rec w (k .kept .buffer) in
+      edit-goes (mark r c m) rec J (marked J r c m) k d refl (isPin I r c) (leb m 2) (eqb (I .mark r c) m) (marked I r c m)
+      (d .legal (k .kept .legal)) (subst (λ (X : Job). T (isPin X r c)) (sym (k .kept .job)) t) u
+
+  close-goes : (rec : List ℕ) (J : Job) (r c v : ℕ) → Blank rec J → Lent (close r c v) → T (isTile J r c) → T (leb v 1)
+      → Goes (close r c v) rec (closed J r c v)
+  close-goes rec J r c v k w t u =
+      let I : Job = jobOf rec in
+      let d : Did (close r c v) rec (S .does (close r c v) rec) = S .did (close r c v) rec w (k .kept .buffer) in
+      edit-goes (close r c v) rec J (closed J r c v) k d refl (isTile I r c) (leb v 1) (eqb (I .state r c) v) (closed I r c v)
+      (d .legal (k .kept .legal)) (subst (λ (X : Job). T (isTile X r c)) (sym (k .kept .job)) t) u
+
+  pub edits-blank : {J K : Job} {calls : List Call} → Edits J calls K → (rec : List ℕ) → Blank rec J → Blank (recAfter S calls rec) K
+  edits-blank end rec k = k
+  edits-blank (marks {J = J} r c m w t u es) rec k = edits-blank es (S .does (mark r c m) rec .rec) (mark-goes rec J r c m k w t u .1)
+  edits-blank (closes {J = J} r c v w t u es) rec k = edits-blank es (S .does (close r c v) rec .rec) (close-goes rec J r c v k w t u .1)
+
+  -- followed by more calls
+  pub edits-follow : {J K : Job} {calls : List Call} → Edits J calls K → (rec : List ℕ) → Blank rec J → (others : List Call) (rec′ : List ℕ) (L : Job)
+      → Follows S (recAfter S calls rec) K others rec′ L → Follows S rec J (calls ++ others) rec′ L
+  edits-follow end rec k others rec′ L f = f
+  edits-follow (marks {J = J} r c m w t u es) rec k others rec′ L f =
+      let (x, k′) = mark-goes rec J r c m k w t u in
+      let a : After = S .does (mark r c m) rec in
+      (w, (marked J r c m, becomes-set S (mark r c m) J (marked J r c m) (a .answer) x refl, edits-follow es (a .rec) k′ others rec′ L f))
+  edits-follow (closes {J = J} r c v w t u es) rec k others rec′ L f =
+      let (x, k′) = close-goes rec J r c v k w t u in
+      let a : After = S .does (close r c v) rec in
+      (w, (closed J r c v, becomes-set S (close r c v) J (closed J r c v) (a .answer) x refl, edits-follow es (a .rec) k′ others rec′ L f))

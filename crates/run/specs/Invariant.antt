@@ -1,0 +1,203 @@
+-- Document 01, "Runs": a call on a legal record that holds the job J either is accepted and leaves a legal record that holds the job which the call makes
+-- of J, or is refused by another number than 1 and leaves the record. One lemma for each operation. Assumes nothing.
+use mathlib.Core.Path.{_≡_, refl, sym, ap, ap₂, subst, _∙_}
+use mathlib.Core.Logic.{_≢_}
+use mathlib.Core.Bool.{Bool, true, false, not, _&&_}
+use mathlib.Core.List.{List, []}
+use mathlib.Core.Option.{some}
+use Prim.Native.Nat.{ℕ, _≤_, _<_}
+use native.Mathlib.Omega.{arith}
+use lib.Dec.{T, eqb, leb, eqb→eq, leb→le, nleb→lt, le→leb}
+use lib.ListN.{length}
+use Rattle.sums.specs.Tests.{and-left, and-right}
+use Rattle.model.specs.Job.{Job, arrayFits, capsAdmitted, fresh, marked, closed, put, isPin, isTile, isChosen, Proper}
+use Rattle.model.specs.Record.{recordSize, scratchSize, jobOf, load, Legal, noLoads, unwiredRecord, over}
+use Rattle.model.specs.Wires.{partAt}
+use Rattle.model.specs.Text.{Verdict, reads, wrongAt, Reading, textOf}
+use Rattle.model.specs.Calls.{Call, new, mark, close, step, shortfall, part, readText, writeText}
+use Rattle.model.specs.Calls.{Answer, refused, done, lists, wrote, refusal, Accepted, After, after}
+use Rattle.model.specs.Calls.{edited, newly, markedBy, closedBy, listed, readIn, written, Stepped, adds, stays, lacking, Steps, Lacks, Did}
+use Rattle.model.specs.Run.{Buffer, Service, Sets}
+use Rattle.model.proofs.RecordOf.{length-record}
+use Rattle.model.proofs.Over.{anew-legal, anew-job, legal-proper}
+use Rattle.model.proofs.TextProper.{fresh-proper, marked-proper, closed-proper, reading-proper}
+use Rattle.run.specs.Buffers.{over-buffer}
+
+-- a buffer that is a legal record of the job
+pub record Kept (rec : List ℕ) (J : Job) : Type 0 where
+  pub buffer : Buffer rec
+  pub legal : Legal rec
+  pub job : jobOf rec ≡ J
+
+-- what the call c on the record rec with the job J leaves
+pub data Leaves (S : Service) (c : Call) (rec : List ℕ) (J : Job) (a : After) : Type 0 where
+  accepts : (K : Job) → Accepted (a .answer) → Sets S c J K → Kept (a .rec) K → Leaves S c rec J a
+  refuses : (k : ℕ) → refusal (a .answer) ≡ some k → k ≢ 1 → a .rec ≡ rec → Leaves S c rec J a
+
+-- ---- the calls that begin anew, on any buffer that is long enough
+
+module _ (S : Service) (rec : List ℕ) (J : Job) (b : Buffer rec) (long : recordSize ≤ length rec) where
+  anew : (K : Job) → Proper K → Kept (over (unwiredRecord K) rec) K
+  anew K p =
+      record {
+        buffer = over-buffer (unwiredRecord K) rec (length-record K noLoads) long (anew-legal K p rec) b;
+        legal = anew-legal K p rec;
+        job = anew-job K p rec;
+      }
+
+  pub new-leaves : (rows columns O D E : ℕ) → Leaves S (new rows columns O D E) rec J (newly rows columns O D E rec)
+  new-leaves rows columns O D E =
+      by (leb recordSize (length rec)) (arrayFits rows columns) (capsAdmitted O D E) (le→leb recordSize (length rec) long)
+      (fresh-proper rows columns O D E)
+    where
+      K : Job
+      K = fresh rows columns O D E
+
+      by : (x y z : Bool) → T x → (T y → T z → Proper K) → Leaves S (new rows columns O D E) rec J
+          (elim x as (λ w. After) [
+            | false ↦ after (refused 1) rec [] []
+            | true ↦ elim y as (λ w. After) [
+              | false ↦ after (refused 2) rec [] []
+              | true ↦ elim z as (λ w. After) [
+                | false ↦ after (refused 3) rec [] []
+                | true ↦ after done (over (unwiredRecord (fresh rows columns O D E)) rec) [] []
+              ]
+            ]
+          ])
+      by true true true t p = accepts K refl refl (anew K (p tt tt))
+      by true true false t p = refuses 3 refl (omega arith) refl
+      by true false z t p = refuses 2 refl (omega arith) refl
+      by false y z t p = absurd t
+
+  pub read-leaves : (text : List ℕ) (v : Verdict) → Reading text v → Leaves S (readText text) rec J (readIn v rec)
+  read-leaves text (reads K) r = accepts K refl r (anew K (reading-proper text K r))
+  read-leaves text (wrongAt o) r = refuses 6 refl (omega arith) refl
+
+-- ---- the others, on a legal record
+
+put-same : (f : ℕ → ℕ → ℕ) (r c v : ℕ) → f r c ≡ v → (i j : ℕ) → put f r c v i j ≡ f i j
+put-same f r c v e i j =
+    by (eqb i r && eqb j c) (λ t. (eqb→eq i r (and-left (eqb i r) (eqb j c) t), eqb→eq j c (and-right (eqb i r) (eqb j c) t)))
+  where
+    by : (b : Bool) → (T b → (i ≡ r) × (j ≡ c)) → elim b as (λ x. ℕ) [ true ↦ v | false ↦ f i j ] ≡ f i j
+    by true h = sym e ∙ ap₂ f (sym (h tt .0)) (sym (h tt .1))
+    by false h = refl
+
+marked-same : (J : Job) (r c m : ℕ) → J .mark r c ≡ m → marked J r c m ≡ J
+marked-same J r c m e =
+    λ i. record {
+      rows = J .rows;
+      columns = J .columns;
+      O = J .O;
+      D = J .D;
+      E = J .E;
+      mark = λ x y. put-same (J .mark) r c m e x y i;
+      state = J .state;
+    }
+
+closed-same : (J : Job) (r c v : ℕ) → J .state r c ≡ v → closed J r c v ≡ J
+closed-same J r c v e =
+    λ i. record {
+      rows = J .rows;
+      columns = J .columns;
+      O = J .O;
+      D = J .D;
+      E = J .E;
+      mark = J .mark;
+      state = λ x y. put-same (J .state) r c v e x y i;
+    }
+
+module _ (S : Service) (rec : List ℕ) (J : Job) (k : Kept rec J) where
+  -- K is the edited job
+  edit-leaves : (c : Call) (there known already : Bool) (K : Job) → (T there → T known → Proper K) → (T already → K ≡ J) → Sets S c J K
+      → Leaves S c rec J (edited there known already K rec)
+  edit-leaves c false known already K p q s = refuses 4 refl (omega arith) refl
+  edit-leaves c true false already K p q s = refuses 5 refl (omega arith) refl
+  edit-leaves c true true true K p q s = accepts J refl (subst (Sets S c J) (q tt) s) k
+  edit-leaves c true true false K p q s = accepts K refl s (anew S rec J (k .buffer) (k .legal .long) K (p tt tt))
+
+  mark-leaves : (r c m : ℕ) → Leaves S (mark r c m) rec J (markedBy r c m rec)
+  mark-leaves r c m =
+      let I : Job = jobOf rec in
+      edit-leaves (mark r c m) (isPin I r c) (leb m 2) (eqb (I .mark r c) m) (marked I r c m)
+      (λ t u. marked-proper I r c m (legal-proper rec (k .legal)) t u)
+      (λ t. marked-same I r c m (eqb→eq (I .mark r c) m t) ∙ k .job)
+      (ap (λ (X : Job). marked X r c m) (k .job))
+
+  close-leaves : (r c v : ℕ) → Leaves S (close r c v) rec J (closedBy r c v rec)
+  close-leaves r c v =
+      let I : Job = jobOf rec in
+      edit-leaves (close r c v) (isTile I r c) (leb v 1) (eqb (I .state r c) v) (closed I r c v)
+      (λ t u. closed-proper I r c v (legal-proper rec (k .legal)) t u)
+      (λ t. closed-same I r c v (eqb→eq (I .state r c) v t) ∙ k .job)
+      (ap (λ (X : Job). closed X r c v) (k .job))
+
+  part-leaves : (r c i : ℕ) → Leaves S (part r c i) rec J (listed r c i rec)
+  part-leaves r c i = by (isChosen (jobOf rec) r c)
+    where
+      by : (b : Bool) → Leaves S (part r c i) rec J
+          (elim b as (λ x. After) [ false ↦ after (refused 4) rec [] [] | true ↦ after (lists (partAt (jobOf rec) (load rec) r c i)) rec [] [] ])
+      by false = refuses 4 refl (omega arith) refl
+      by true = accepts J refl refl k
+
+  write-leaves : (output : List ℕ) → Leaves S (writeText output) rec J (written output rec)
+  write-leaves output = by (leb (length text) (length output))
+    where
+      text : List ℕ
+      text = textOf (jobOf rec)
+
+      by : (b : Bool) → Leaves S (writeText output) rec J
+          (elim b as (λ x. After) [ false ↦ after (refused 7) rec [] output | true ↦ after (wrote (length text)) rec [] (over text output) ])
+      by false = refuses 7 refl (omega arith) refl
+      by true = accepts J refl refl k
+
+  -- an accepted call that leaves the record
+  stays-kept : {rec′ : List ℕ} → rec′ ≡ rec → Kept rec′ J
+  stays-kept e = subst (λ (x : List ℕ). Kept x J) (sym e) k
+
+  pub stepped-kept : {g : ℕ} {x : Answer} {rec′ : List ℕ} → Stepped rec g x rec′ → Accepted x × Kept rec′ J
+  stepped-kept (adds l o) =
+      let (bytes, size, e) = o .rest in (
+        refl,
+        record {
+          buffer = subst Buffer (sym e) (over-buffer bytes rec size (k .legal .long) (subst Legal e (o .legal)) (k .buffer));
+          legal = o .legal;
+          job = o .job ∙ k .job;
+        },
+      )
+  stepped-kept (stays w e) = (refl, stays-kept e)
+  stepped-kept (lacking w l e) = (refl, stays-kept e)
+
+  step-leaves : (scratch : List ℕ) (a : After) → Steps scratch rec a → Leaves S (step scratch) rec J a
+  step-leaves scratch a d = by (leb scratchSize (length scratch)) (leb→le scratchSize (length scratch)) (nleb→lt scratchSize (length scratch))
+    where
+      by : (b : Bool) → (T b → scratchSize ≤ length scratch) → (T (not b) → length scratch < scratchSize) → Leaves S (step scratch) rec J a
+      by true f h = let (x, y) = stepped-kept (d .enough (f tt) .2) in accepts J x refl y
+      by false f h = subst (Leaves S (step scratch) rec J) (sym (d .small (h tt))) (refuses 8 refl (omega arith) refl)
+
+  shortfall-leaves : (scratch output : List ℕ) (a : After) → Lacks scratch output rec a → Leaves S (shortfall scratch output) rec J a
+  shortfall-leaves scratch output a d =
+      by (leb scratchSize (length scratch)) (leb recordSize (length output)) (leb→le scratchSize (length scratch)) (nleb→lt scratchSize (length scratch))
+      (leb→le recordSize (length output)) (nleb→lt recordSize (length output))
+    where
+      by : (b c : Bool) → (T b → scratchSize ≤ length scratch) → (T (not b) → length scratch < scratchSize) → (T c → recordSize ≤ length output)
+          → (T (not c) → length output < recordSize) → Leaves S (shortfall scratch output) rec J a
+      by true true f h p q =
+          let x = d .enough (f tt) (p tt) in
+          accepts J (ap refusal (x .2)) refl (stays-kept (x .4))
+      by true false f h p q =
+          subst (Leaves S (shortfall scratch output) rec J) (sym (d .narrow (f tt) (q tt))) (refuses 7 refl (omega arith) refl)
+      by false c f h p q = subst (Leaves S (shortfall scratch output) rec J) (sym (d .small (h tt))) (refuses 8 refl (omega arith) refl)
+
+  pub call-leaves : (c : Call) (a : After) → Did c rec a → Leaves S c rec J a
+  call-leaves (new rows columns O D E) a d =
+      subst (Leaves S (new rows columns O D E) rec J) (sym d) (new-leaves S rec J (k .buffer) (k .legal .long) rows columns O D E)
+  call-leaves (mark r c m) a d = subst (Leaves S (mark r c m) rec J) (sym (d .legal (k .legal))) (mark-leaves r c m)
+  call-leaves (close r c v) a d = subst (Leaves S (close r c v) rec J) (sym (d .legal (k .legal))) (close-leaves r c v)
+  call-leaves (step scratch) a d = step-leaves scratch a (d .legal (k .legal))
+  call-leaves (shortfall scratch output) a d = shortfall-leaves scratch output a (d .legal (k .legal))
+  call-leaves (part r c i) a d = subst (Leaves S (part r c i) rec J) (sym (d .legal (k .legal))) (part-leaves r c i)
+  call-leaves (readText text) a d =
+      let (v, r, e) = d .long (k .legal .long) in
+      subst (Leaves S (readText text) rec J) (sym e) (read-leaves S rec J (k .buffer) (k .legal .long) text v r)
+  call-leaves (writeText output) a d = subst (Leaves S (writeText output) rec J) (sym (d .legal (k .legal))) (write-leaves output)

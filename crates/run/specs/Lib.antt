@@ -1,0 +1,17 @@
+-- The record along a run: it stays a buffer, legal, with the job that the calls give.
+pub mod Buffers
+pub mod Invariant
+pub mod Runs
+pub mod Families
+-- Steps, and rows of them.
+pub mod Says
+pub mod Rows
+-- The end of a row, Shortfall, and the whole.
+pub mod Ending
+pub mod Shortfall
+pub mod Demand3
+-- Runs that every service makes.
+pub mod Blank
+pub mod Edits
+pub mod Settled
+pub mod Example
