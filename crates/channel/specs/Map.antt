@@ -33,24 +33,23 @@ pub mod Turning
 pub mod Packed
 pub mod Grid
 pub mod Bytes
+pub mod Entered
 pub mod Ways
 pub mod Caps
 pub mod Moving
 pub mod Laying
-use mathlib.Core.Path.{_≡_}
-use mathlib.Core.Logic.{_≢_}
 use mathlib.Core.Bool.{Bool, true, false, not, _&&_, _||_}
 use mathlib.Core.List.{List, [], _∷_}
 use mathlib.Core.Option.{Option, none, some}
-use Prim.Native.Nat.{ℕ, zero, suc, _+_, _-_, _*_, _/_, _%_, _≤_, _<_}
-use lib.Dec.{T, eqb, leb, ltb}
-use lib.ListN.{length, getD, set}
+use Prim.Native.Nat.{ℕ, zero, suc, _+_, _-_, _*_, _/_, _%_}
+use lib.Dec.{eqb, leb, ltb}
+use lib.ListN.{getD, set}
 use Rattle.sums.specs.Counting.{when}
 use Rattle.model.specs.Job.{Job, isTile, isChosen}
-use Rattle.model.specs.Links.{PlaceKind, pin, missing, centre, Place, at, isPlace, northSide, LinkKind, Link, link, linkCode, Step, turn, may, limit, pass}
+use Rattle.model.specs.Links.{pin, missing, centre, Place, at, isPlace, northSide, link, Step, turn, may, limit, pass}
 use Rattle.model.specs.Near.{size}
 use Rattle.model.specs.Loads.{arrivals, departures}
-use Rattle.model.specs.Record.{offset, loadPlane, kinds, cell, load}
+use Rattle.model.specs.Record.{kinds, load}
 use Rattle.channel.specs.Table.{turnOf, kindOf, ownerOf, signOf, codeOf}
 
 -- ---- numbers
@@ -161,10 +160,11 @@ opposed rec d = when (inGrid (ownerCell d)) (load rec (turn (stepOf d)))
 pub moves : Job → List ℕ → ℕ → Bool
 moves J rec d = ltb (view rec d) (cap J d) || (ltb 0 (view rec (rev d)) || (free J d && eqb (opposed rec d) 0))
 
--- the byte b with one more in the direction of sign s
+-- the byte b with one more in the direction of sign s; a byte stays one
 pub bump : ℕ → ℕ → ℕ
 bump zero b = elim (ltb b 32) [ true ↦ b + 1 | false ↦ elim (eqb b 33) [ true ↦ 0 | false ↦ b - 1 ] ]
-bump (suc s) b = elim (eqb b 0) [ true ↦ 33 | false ↦ elim (ltb b 32) [ true ↦ b - 1 | false ↦ b + 1 ] ]
+bump (suc s) b =
+    elim (eqb b 0) [ true ↦ 33 | false ↦ elim (ltb b 32) [ true ↦ b - 1 | false ↦ elim (ltb b 255) [ true ↦ b + 1 | false ↦ b ] ] ]
 
 -- where the byte of the dart's link stands
 pub address : ℕ → ℕ

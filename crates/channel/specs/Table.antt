@@ -2,10 +2,8 @@
 -- cells in front. A spot is 8 cell + kind: 0 a missing pin's entry, 1 its exit or the chosen pin, 2 to 5 n, e, s, w, 6 and 7 the centre's entry and exit.
 -- A dart is 8 spot + slot. The slots 0 to 4 stand in document 01's clockwise order; slot 4 of an entry leads to its exit and back; at n, e, s, w slots
 -- 5 and 7 lead to the exits of the centre and of the pin. A row of the table is d % 64. Assumes nothing.
-use mathlib.Core.Bool.{Bool, true, false, not, _&&_, _||_}
 use mathlib.Core.List.{List, [], _∷_}
-use Prim.Native.Nat.{ℕ, zero, suc, _+_, _-_, _*_, _/_, _%_}
-use lib.Dec.{T, eqb, leb, ltb}
+use Prim.Native.Nat.{ℕ}
 use lib.ListN.{getD}
 
 -- how far the way back lies ahead, 2,688 more

@@ -5,7 +5,7 @@ ghost use Prim.Native.Nat.{_≤_, _<_};
 ghost use lib.ListN.{length};
 ghost use Rattle.sums.specs.Counting.{when};
 ghost use Rattle.model.specs.Job.{isPin, isTile, isOpen, isChosen, isMissing};
-ghost use Rattle.model.specs.Record.{jobOf};
+ghost use Rattle.model.specs.Record.{jobOf, cell};
 ghost use Rattle.channel.specs.Map.{inGrid, rowOf, columnOf};
 
 // A byte as a number.
@@ -13,6 +13,14 @@ pub fn wide(b: u8) -> usize
     ensures { λ r. ⌜ (r ≡ b) × (r < 256) ⌝ }
 {
     b as usize
+}
+
+// The byte of a plane at a cell.
+pub fn byte(rec: &[u8], p: usize, r: usize, c: usize) -> usize
+    requires { ⌜ (32768 ≤ length (now rec)) × (p < 20) × (r < 40) × (c < 40) ⌝ }
+    ensures { λ b. ⌜ (b ≡ cell (now (rec .entry)) p r c) × (b < 256) ⌝ }
+{
+    wide(rec[768 + 1600 * p + 40 * r + c])
 }
 
 // The rows of pins.

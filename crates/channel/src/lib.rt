@@ -3,6 +3,7 @@ pub mod table; // the table's rows, and the way back of a dart
 pub mod header; // the job that a record holds
 pub mod loads; // how many wires go along a dart
 pub mod limits; // how many wires a dart takes
+pub mod places; // the places that darts lead to
 pub mod moves; // the moves of the search, and what a move stores
 pub mod write; // a new job, one mark or state, no wires
 

@@ -3,10 +3,10 @@ ghost use mathlib.Core.Path.{_≡_};
 ghost use mathlib.Core.Bool.{_||_};
 ghost use Prim.Native.Nat.{_/_, _%_, _≤_, _<_};
 ghost use lib.Dec.{T, eqb};
-ghost use lib.ListN.{length, getD};
+ghost use lib.ListN.{length};
 ghost use Rattle.model.specs.Record.{jobOf};
 ghost use Rattle.channel.specs.Table.{codeOf};
-ghost use Rattle.channel.specs.Map.{isStart, outside, starts, moves, isStored, bump, address, laid};
+ghost use Rattle.channel.specs.Map.{isStart, outside, starts, moves, isStored, bump, laid};
 ghost use Rattle.channel.specs.Map.Moving.{throughCentre, throughMissing};
 use crate::header::chosen_at;
 use crate::header::extra;
@@ -194,7 +194,6 @@ pub fn is_stored(c: usize) -> bool
 
 // The byte b with one more in the direction of sign s.
 fn bumped(s: usize, b: u8) -> u8
-    requires { ⌜ b < 255 ⌝ }
     ensures { λ r. ⌜ r ≡ bump s b ⌝ }
 {
     if s == 0 {
@@ -212,12 +211,15 @@ fn bumped(s: usize, b: u8) -> u8
     if b < 32 {
         return b - 1;
     }
-    b + 1
+    if b < 255 {
+        return b + 1;
+    }
+    b
 }
 
 // One move along the dart.
 pub fn lay(loads: &mut [u8], d: usize)
-    requires { ⌜ (32768 ≤ length (now loads)) × (d < 105024) × (getD (now loads) (address d) 0 < 255) ⌝ }
+    requires { ⌜ (32768 ≤ length (now loads)) × (d < 105024) ⌝ }
     ensures { λ _. ⌜ now (loads .exit) ≡ laid (now (loads .entry)) d ⌝ }
 {
     let i = d % 64;

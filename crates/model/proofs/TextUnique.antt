@@ -16,10 +16,10 @@ use Rattle.model.specs.Text.{Verdict, reads, wrongAt, Reads, ended, line
 -- ---- numbers
 
 -- a number, and what follows
-abbrev digits : ℕ → List ℕ → List ℕ
+abbrev pub digits : ℕ → List ℕ → List ℕ
 digits n X = only (leb 10 n) ((48 + n / 10) ∷ []) ++ ((48 + n % 10) ∷ X)
 
-number-unique : (n m x y : ℕ) (X Y : List ℕ) → x < 48 → y < 48 → digits n (x ∷ X) ≡ digits m (y ∷ Y) → (n ≡ m) × (x ∷ X ≡ y ∷ Y)
+pub number-unique : (n m x y : ℕ) (X Y : List ℕ) → x < 48 → y < 48 → digits n (x ∷ X) ≡ digits m (y ∷ Y) → (n ≡ m) × (x ∷ X ≡ y ∷ Y)
 number-unique n m x y X Y p q = by (leb 10 n) (leb 10 m) (nleb→lt 10 n) (nleb→lt 10 m)
   where
     by : (a b : Bool) → (T (not a) → n < 10) → (T (not b) → m < 10)

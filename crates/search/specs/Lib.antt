@@ -7,3 +7,15 @@ pub mod Unlooped
 -- Nothing more fits, and what cannot be reached stays so.
 pub mod NoMore
 pub mod Dead
+pub mod Answers
+pub mod Marks
+pub mod Spread
+pub mod Steps
+pub mod Queue
+pub mod Ways
+pub mod Pins
+pub mod Shut
+pub mod Loose
+pub mod Rings
+pub mod Fill
+pub mod Filling

@@ -1,0 +1,6 @@
+// The wire search: over the channel map's published promise alone.
+pub mod reach; // breadth-first from a pin, to the outside or to a closed set
+pub mod ways; // the way that a search found: laid, and its marks taken back
+pub mod next; // one more wire
+pub mod untangle; // loops taken out
+pub mod fill; // wires laid until no more fits

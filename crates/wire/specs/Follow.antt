@@ -90,7 +90,7 @@ module _ (J : Job) (f : Step → ℕ) (S : Sound J f) where
 
   -- ---- what `hopAt` lists
 
-  none-on : (r c i j : ℕ) → hopAt J f r c i ≡ none → hopAt J f r c (i + j) ≡ none
+  pub none-on : (r c i j : ℕ) → hopAt J f r c i ≡ none → hopAt J f r c (i + j) ≡ none
   unfolding hopAt
   none-on r c i zero e = ap (hopAt J f r c) (add-zero i) ∙ e
   none-on r c i (suc j) e = ap (hopAt J f r c) (add-suc i j) ∙ ap (onward J f) (none-on r c i j e)

@@ -13,6 +13,10 @@ pub mod Apart
 -- How many hops there are, and how often a place is listed.
 pub mod Counts
 pub mod Places
+-- Hops and parts as the code has them.
+pub mod Hops
+pub mod Walks
+pub mod Lengths
 -- The wires of all pins.
 pub mod Threads
 pub mod Bundle

@@ -52,7 +52,10 @@ module _ (s b : ℕ) where
   unfolding bump
   forth-bump e = ap (λ (x : ℕ). bump x b) e
 
-  back-bump : s ≢ 0 → bump s b ≡ elim (eqb b 0) [ true ↦ 33 | false ↦ elim (ltb b 32) [ true ↦ b - 1 | false ↦ b + 1 ] ]
+  abbrev kept : ℕ
+  kept = elim (ltb b 255) [ true ↦ b + 1 | false ↦ b ]
+
+  back-bump : s ≢ 0 → bump s b ≡ elim (eqb b 0) [ true ↦ 33 | false ↦ elim (ltb b 32) [ true ↦ b - 1 | false ↦ kept ] ]
   unfolding bump
   back-bump n = let e : s ≡ suc (s - 1) = omega arith in ap (λ (x : ℕ). bump x b) e
 
@@ -69,10 +72,16 @@ module _ (s b : ℕ) where
   drop-first n e = sym (back-bump n ∙ if-true (eqb b 0) 33 _ (eq-eqb b 0 e))
 
   pub drop-fewer : s ≢ 0 → b ≢ 0 → b < 32 → b - 1 ≡ bump s b
-  drop-fewer n e l = sym (back-bump n ∙ if-false (eqb b 0) 33 _ (ne-eqb b 0 e) ∙ if-true (ltb b 32) (b - 1) (b + 1) (lt-ltb b 32 l))
+  drop-fewer n e l = sym (back-bump n ∙ if-false (eqb b 0) 33 _ (ne-eqb b 0 e) ∙ if-true (ltb b 32) (b - 1) kept (lt-ltb b 32 l))
 
-  pub drop-more : s ≢ 0 → b ≢ 0 → 32 ≤ b → b + 1 ≡ bump s b
-  drop-more n e l = sym (back-bump n ∙ if-false (eqb b 0) 33 _ (ne-eqb b 0 e) ∙ if-false (ltb b 32) (b - 1) (b + 1) (le-ltb b 32 l))
+  past-32 : s ≢ 0 → b ≢ 0 → 32 ≤ b → bump s b ≡ kept
+  past-32 n e l = back-bump n ∙ if-false (eqb b 0) 33 _ (ne-eqb b 0 e) ∙ if-false (ltb b 32) (b - 1) kept (le-ltb b 32 l)
+
+  pub drop-more : s ≢ 0 → b ≢ 0 → 32 ≤ b → b < 255 → b + 1 ≡ bump s b
+  drop-more n e l m = sym (past-32 n e l ∙ if-true (ltb b 255) (b + 1) b (lt-ltb b 255 m))
+
+  pub drop-full : s ≢ 0 → b ≢ 0 → 32 ≤ b → 255 ≤ b → b ≡ bump s b
+  drop-full n e l m = sym (past-32 n e l ∙ if-false (ltb b 255) (b + 1) b (le-ltb b 255 m))
 
 -- ---- the record
 

@@ -1,5 +1,5 @@
 -- The network of a job: its spots are the nodes, each with eight darts. Assumes nothing.
-use Prim.Native.Nat.{ℕ, _/_}
+use Prim.Native.Nat.{_/_}
 use Rattle.flow.specs.Network.{Net}
 use Rattle.flow.specs.Slots.{node-lt}
 use Rattle.model.specs.Job.{Job}

@@ -1,16 +1,18 @@
--- Wires are wanted at the chosen pins alone: a spot at which one is wanted is the exit of a chosen pin, and the exit of a chosen pin is a spot. Assumes
--- nothing.
-use mathlib.Core.Path.{_≡_}
-use Prim.Native.Nat.{ℕ, _/_, _%_, _<_}
-use mathlib.Core.Bool.{_&&_}
+-- Wires are wanted at the chosen pins alone: a spot at which one is wanted is the exit of a chosen pin, and the exit of a chosen pin is a spot. Those
+-- spots stand 8 apart from 329 on, and none is outside. Assumes nothing.
+use mathlib.Core.Path.{_≡_, refl}
+use Prim.Native.Nat.{ℕ, _+_, _-_, _*_, _/_, _%_, _<_}
+use mathlib.Core.Bool.{not, _&&_}
 use native.Mathlib.Omega.{arith}
-use lib.Dec.{T, eqb, eqb→eq}
+use lib.Dec.{T, eqb, ltb, eqb→eq, ltb→lt}
 use Rattle.sums.specs.Tests.{and-left, and-right}
+use Rattle.sums.specs.Counting.{when}
 use Rattle.sums.specs.Sums.{when-some}
-use Rattle.model.specs.Job.{Job, arrayFits, isChosen}
+use Rattle.model.specs.Job.{Job, arrayFits, isTile, isChosen}
 use Rattle.model.specs.Links.{pin, at}
 use Rattle.model.specs.Near.{exitOf, exit}
-use Rattle.channel.specs.Map.{spots, inGrid, rowOf, columnOf, isStart, want}
+use Rattle.channel.specs.Map.{spots, inGrid, rowOf, columnOf, isStart, want, outside}
+use Rattle.channel.specs.Map.Back.{grid-at}
 use Rattle.channel.specs.Map.Darts.{grid-cell}
 use Rattle.channel.specs.Map.Spots.{held-grid}
 
@@ -28,3 +30,26 @@ module _ (J : Job) where
   pub pin-spot : T (arrayFits (J .rows) (J .columns)) → (r c : ℕ) → T (isChosen J r c) → exit (at pin r c) < spots
   unfolding exitOf
   pin-spot fits r c t = let (a, b) = held-grid J fits pin r c t in omega arith
+
+  -- ---- where a wire may start
+
+  pub want-start : (u : ℕ) → want J u ≡ when (isStart J u) 1
+  unfolding want
+  want-start u = refl
+
+  pub start-among : (u : ℕ) → T (isStart J u) → (i : ℕ) × (i < 1600) × (u ≡ 329 + 8 * i)
+  unfolding isStart
+  start-among u t =
+      let e : u % 8 ≡ 1 = eqb→eq (u % 8) 1 (and-left (eqb (u % 8) 1) (inGrid (u / 8) && isChosen J (rowOf (u / 8)) (columnOf (u / 8))) t) in
+      let g = and-right (eqb (u % 8) 1) (inGrid (u / 8) && isChosen J (rowOf (u / 8)) (columnOf (u / 8))) t in
+      let (a, b) = grid-at (u / 8) (and-left (inGrid (u / 8)) (isChosen J (rowOf (u / 8)) (columnOf (u / 8))) g) in
+      (u / 8 - 41, omega arith, omega arith)
+
+  pub start-inside : (u : ℕ) → T (isStart J u) → T (outside J u) → ⊥
+  unfolding isStart outside
+  start-inside u t o =
+      omega (
+        arith,
+        eqb→eq (u % 8) 1 (and-left (eqb (u % 8) 1) (inGrid (u / 8) && isChosen J (rowOf (u / 8)) (columnOf (u / 8))) t),
+        ltb→lt 1 (u % 8) (and-left (ltb 1 (u % 8)) (ltb (u % 8) 6 && not (inGrid (u / 8) && isTile J (rowOf (u / 8)) (columnOf (u / 8)))) o),
+      )

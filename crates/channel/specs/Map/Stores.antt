@@ -75,13 +75,15 @@ bumped zero b (l, n) h = go (ltb b 32) (less? b 32) (eqb b 33) (same? b 33)
     go true (less p) y q = forth-more b p h
     go false (most p) true (same q) = forth-last b q
     go false (most p) false (other q) = forth-less b (at-34 b p n q) l
-bumped (suc m) b (l, n) h = rw (eqb·suc-zero m) (go (eqb b 0) (same? b 0) (ltb b 32) (less? b 32) (rw (eqb·suc-zero m) at h))
+bumped (suc m) b (l, n) h =
+    rw (eqb·suc-zero m) (go (eqb b 0) (same? b 0) (ltb b 32) (less? b 32) (ltb b 255) (less? b 255) (rw (eqb·suc-zero m) at h))
   where
-    go : (y : Bool) → Same b 0 y → (x : Bool) → Less b 32 x → backPart b < 31
-        → Bumped false b (elim y [ true ↦ 33 | false ↦ elim x [ true ↦ b - 1 | false ↦ b + 1 ] ])
-    go true (same q) x p k = back-first b q
-    go false (other q) true (less p) k = back-less b p (not-none b q)
-    go false (other q) false (most p) k = back-more b (from-33 b p n) k
+    go : (y : Bool) → Same b 0 y → (x : Bool) → Less b 32 x → (z : Bool) → Less b 255 z → backPart b < 31
+        → Bumped false b (elim y [ true ↦ 33 | false ↦ elim x [ true ↦ b - 1 | false ↦ elim z [ true ↦ b + 1 | false ↦ b ] ] ])
+    go true (same q) x p z r k = back-first b q
+    go false (other q) true (less p) z r k = back-less b p (not-none b q)
+    go false (other q) false (most p) true r k = back-more b (from-33 b p n) k
+    go false (other q) false (most p) false (most r) k = absurd (omega arith)
 
 -- ---- the byte of a step
 

@@ -1,7 +1,7 @@
 -- `moves::bumped` meets its contract, way by way. Assumes nothing.
 use borrow.Author.Needs.{needs}
 use native.Mathlib.Omega.{arith}
-use Rattle.channel.specs.Map.Laying.{bump-more, bump-last, bump-fewer, drop-first, drop-fewer, drop-more}
+use Rattle.channel.specs.Map.Laying.{bump-more, bump-last, bump-fewer, drop-first, drop-fewer, drop-more, drop-full}
 use Rattle.channel.proofs.moves.bumped.Statement.{statement}
 use Rattle.channel.proofs.moves.bumped.Tie as tie
 
@@ -33,7 +33,12 @@ add-result-2 : tie.Need-add-result-2
 add-result-2 c = search needs
 
 returns-6 : tie.Need-returns-6
-returns-6 c = drop-more (c .before .before .before .args .s) (c .before .before .before .args .b) (omega arith) (omega arith) (omega arith)
+returns-6 c =
+    drop-more (c .before .before .before .before .args .s) (c .before .before .before .before .args .b) (omega arith) (omega arith) (omega arith) (omega arith)
+
+returns-7 : tie.Need-returns-7
+returns-7 c =
+    drop-full (c .before .before .before .before .args .s) (c .before .before .before .before .args .b) (omega arith) (omega arith) (omega arith) (omega arith)
 
 pub bumped-spec : {M : Type 1} → statement M
 bumped-spec =
@@ -48,4 +53,5 @@ bumped-spec =
     sub-result-2
     returns-5
     add-result-2
-    returns-6)
+    returns-6
+    returns-7)

@@ -1,15 +1,13 @@
 -- `moves::lay` meets its contract: the byte of the dart's link is bumped, where it has one. Assumes nothing.
 use borrow.Author.Needs.{needs}
-use mathlib.Core.Path.{sym, ap, subst, _∙_}
+use mathlib.Core.Path.{sym, ap, _∙_}
 use Rattle.channel.specs.Map.{isStored}
-use Prim.Native.Nat.{ℕ, _+_, _/_, _%_, _<_}
+use Prim.Native.Nat.{_+_, _/_, _%_}
 use native.Mathlib.Omega.{arith}
 use borrow.Author.Tests.{not-true, not-false}
-use lib.ListN.{getD}
 use Rattle.sums.specs.Tests.{so}
 use Rattle.channel.specs.Map.Bounds.{code-bound, owner-bound, kind-bound}
 use Rattle.channel.specs.Map.Grid.{grid-bounds}
-use Rattle.channel.specs.Map.Bytes.{address-is}
 use Rattle.channel.specs.Map.Laying.{laid-none, laid-off, laid-on}
 use Rattle.channel.proofs.moves.lay.Statement.{statement}
 use Rattle.channel.proofs.moves.lay.Tie as tie
@@ -73,11 +71,7 @@ slice-read-bumped c =
     omega (arith, kind-bound (s .args .d % 64) (omega arith), c .before .before .kind-of .ensures, g, s .pre)
 
 bumped-requires : tie.Need-bumped-requires
-bumped-requires c κs =
-    let s = c .before .before .before .before .before .before .before .before .before .before in
-    let o = c .before .before .before .before .before in
-    subst (λ (x : ℕ). getD (s .args .loads .now) x 0 < 255)
-    (sym (address-is (s .args .d) _ _ (c .before .before .kind-of .ensures) (o .owner-of .ensures))) (s .pre .2)
+bumped-requires c κs = search needs
 
 slice-write-loads : tie.Need-slice-write-loads
 slice-write-loads c =

@@ -1,0 +1,190 @@
+-- `loops::advance` meets its contract: the top of the stack is done, or meets a spot on the stack, or a new spot goes on it. Assumes nothing.
+use borrow.Author.Needs.{needs}
+use Prim.Native.Nat.{_-_, _<_}
+use native.Mathlib.Omega.{arith}
+use denote.Ref.{now}
+use lib.ListN.{getD, length-set}
+use Rattle.channel.specs.Map.{spots}
+use Rattle.audit.specs.Loops.Marks.{unseen-less}
+use Rattle.audit.specs.Loops.Turns.{turn-pop, turn-hit, new-spot, turn-push}
+use Rattle.audit.proofs.loops.advance.Statement.{statement}
+use Rattle.audit.proofs.loops.advance.Tie as tie
+
+sub-i : tie.Need-sub-i
+sub-i c = search needs
+
+mul-u : tie.Need-mul-u
+mul-u c = search needs
+
+slice-read-u : tie.Need-slice-read-u
+slice-read-u c = search needs
+
+-- the spot on top
+top : (c : tie.Start) → getD (now (c .args .st)) (c .args .n - 1) 0 < spots
+top c = c .pre .0 .on (c .args .n - 1) (omega arith) .0
+
+cast-u : tie.Need-cast-u
+cast-u c = omega (arith, top (c .before .before .before .before .before))
+
+slice-read-k0 : tie.Need-slice-read-k0
+slice-read-k0 c = search needs
+
+cast-k0 : tie.Need-cast-k0
+cast-k0 c = omega (arith, c .slice-known5 .given (c .before .before .before .before .before .before .args .n - 1))
+
+scan-requires : tie.Need-scan-requires
+scan-requires c κs =
+    let s = c .before .before .before .before .before .before .before in
+    (s .pre .0 .room .whole, s .pre .0 .room .marks, top s)
+
+add-fin : tie.Need-add-fin
+add-fin c = search needs
+
+cast-fin : tie.Need-cast-fin
+cast-fin c = search needs
+
+mul-fin : tie.Need-mul-fin
+mul-fin c = omega (arith, top (c .before .before .before .before .before .before .before .before .before))
+
+slice-write-fin : tie.Need-slice-write-fin
+slice-write-fin c =
+    let p = c .before .before .before .before .before .before .before .before .before .pre in
+    omega (arith, top (c .before .before .before .before .before .before .before .before .before), p .0 .room .marks)
+
+add-t20 : tie.Need-add-t20
+add-t20 c = search needs
+
+same-length : tie.Need-same-length
+same-length c = search needs
+
+returns : tie.Need-returns
+returns c =
+    let p = c .before .before .before .before .before .before .before .before .before .pre in
+    turn-pop (p .0) (p .1) (c .before .scan .ensures) (c .if1 .taken)
+
+cast-sl : tie.Need-cast-sl
+cast-sl c = search needs
+
+slice-write-sl : tie.Need-slice-write-sl
+slice-write-sl c = search needs
+
+mul-head-of : tie.Need-mul-head-of
+mul-head-of c = omega (arith, top (c .before .before .before .before .before .before .before .before .before))
+
+add-head-of : tie.Need-add-head-of
+add-head-of c = omega (arith, top (c .before .before .before .before .before .before .before .before .before), c .if1 .left)
+
+head-of-requires : tie.Need-head-of-requires
+head-of-requires c κs = omega (arith, top (c .before .before .before .before .before .before .before .before .before), c .if1 .left)
+
+mul-if2 : tie.Need-mul-if2
+mul-if2 c = search needs
+
+slice-read-if2 : tie.Need-slice-read-if2
+slice-read-if2 c = search needs
+
+same-length-2 : tie.Need-same-length-2
+same-length-2 c = search needs
+
+same-length-3 : tie.Need-same-length-3
+same-length-3 c = search needs
+
+returns-2 : tie.Need-returns-2
+returns-2 c =
+    let s = c .before .before .before .before .before .before .before .before .before .before .before .before in
+    let k = c .before .before .before .before .scan in
+    let i = c .before .before .before .if1 in
+    let h = c .before .before .head-of in
+    turn-hit (s .pre .0) (s .pre .1) (k .ensures) (i .left) (h .ensures .0) (c .if2 .taken)
+
+mul-fin-2 : tie.Need-mul-fin-2
+mul-fin-2 c = search needs
+
+slice-write-fin-2 : tie.Need-slice-write-fin-2
+slice-write-fin-2 c = search needs
+
+cast-st : tie.Need-cast-st
+cast-st c = search needs
+
+mul-st : tie.Need-mul-st
+mul-st c = search needs
+
+-- a spot that was not seen leaves room on the stack
+space : (c : tie.Else2) → c .before .before .before .before .before .before .before .before .before .before .before .before .args .n < spots
+space c =
+    let s = c .before .before .before .before .before .before .before .before .before .before .before .before in
+    let k = c .before .before .before .before .scan in
+    let i = c .before .before .before .if1 in
+    let h = c .before .before .head-of in
+    let (lv, z) = new-spot (s .pre .0) (s .pre .1) (k .ensures) (i .left) (h .ensures .0) (c .if2 .left) in
+    omega (arith, s .pre .0 .count, unseen-less (now (s .args .fin)) (h .result) lv (omega (arith, lv, s .pre .0 .room .marks)) 0 z)
+
+slice-write-st : tie.Need-slice-write-st
+slice-write-st c =
+    let p = c .before .before .before .before .before .before .before .before .before .before .before .before .pre in
+    omega (arith, space c, p .0 .room .stack)
+
+slice-write-sl-2 : tie.Need-slice-write-sl-2
+slice-write-sl-2 c =
+    let p = c .before .before .before .before .before .before .before .before .before .before .before .before .pre in
+    simp length-set (omega (arith, space c, p .0 .room .slots))
+
+add-t25 : tie.Need-add-t25
+add-t25 c = search needs
+
+same-length-4 : tie.Need-same-length-4
+same-length-4 c = search needs
+
+same-length-5 : tie.Need-same-length-5
+same-length-5 c = search needs
+
+same-length-6 : tie.Need-same-length-6
+same-length-6 c = search needs
+
+returns-3 : tie.Need-returns-3
+returns-3 c =
+    let s = c .before .before .before .before .before .before .before .before .before .before .before .before in
+    let k = c .before .before .before .before .scan in
+    let i = c .before .before .before .if1 in
+    let h = c .before .before .head-of in
+    turn-push (s .pre .0) (s .pre .1) (k .ensures) (i .left) (h .ensures .0) (c .if2 .left)
+
+pub advance-spec : {M : Type 1} → statement M
+advance-spec =
+    tie.close
+    (tie.spec
+    sub-i
+    mul-u
+    slice-read-u
+    cast-u
+    slice-read-k0
+    cast-k0
+    scan-requires
+    add-fin
+    cast-fin
+    mul-fin
+    slice-write-fin
+    add-t20
+    same-length
+    returns
+    cast-sl
+    slice-write-sl
+    mul-head-of
+    add-head-of
+    head-of-requires
+    mul-if2
+    slice-read-if2
+    same-length-2
+    same-length-3
+    returns-2
+    mul-fin-2
+    slice-write-fin-2
+    cast-st
+    mul-st
+    slice-write-st
+    slice-write-sl-2
+    add-t25
+    same-length-4
+    same-length-5
+    same-length-6
+    returns-3)

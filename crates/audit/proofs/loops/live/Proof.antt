@@ -1,0 +1,57 @@
+-- `loops::live` meets its contract: a slot without a load has no edge, and an edge leads where the dart does. Assumes nothing.
+use borrow.Author.Needs.{needs}
+use mathlib.Core.Path.{sym}
+use native.Mathlib.Omega.{arith}
+use Rattle.audit.specs.Loops.Dfs.{live, dead}
+use Rattle.audit.proofs.loops.live.Statement.{statement}
+use Rattle.audit.proofs.loops.live.Tie as tie
+
+mul-d : tie.Need-mul-d
+mul-d c = search needs
+
+add-d : tie.Need-add-d
+add-d c = search needs
+
+carried-requires : tie.Need-carried-requires
+carried-requires c κs = search needs
+
+returns : tie.Need-returns
+returns c = dead (λ v e. absurd (omega (arith, c .if1 .taken, c .before .carried .ensures .0, e .laden)))
+
+head-of-requires : tie.Need-head-of-requires
+head-of-requires c κs = search needs
+
+mul-if2 : tie.Need-mul-if2
+mul-if2 c = search needs
+
+shared-slice-read-if2 : tie.Need-shared-slice-read-if2
+shared-slice-read-if2 c = search needs
+
+returns-2 : tie.Need-returns-2
+returns-2 c = dead (λ v e. rw (← e .leads, ← c .before .before .head-of .ensures .0) (c .if2 .taken))
+
+returns-3 : tie.Need-returns-3
+returns-3 c =
+    let p = c .before .before .before .before .before .before .before .pre in
+    live
+    (record {
+      spot = p .2;
+      slot = p .3;
+      laden = omega (arith, c .before .before .before .if1 .left, c .before .before .before .before .carried .ensures .0);
+      leads = sym (c .before .before .head-of .ensures .0);
+    })
+    (c .if2 .left)
+
+pub live-spec : {M : Type 1} → statement M
+live-spec =
+    tie.close
+    (tie.spec
+    mul-d
+    add-d
+    carried-requires
+    returns
+    head-of-requires
+    mul-if2
+    shared-slice-read-if2
+    returns-2
+    returns-3)

@@ -1,0 +1,55 @@
+-- What the loop finder answers: that every loaded dart falls along an order of the spots, so that no chain of loaded darts is closed; or a closed path of
+-- loaded darts, by its spots and slots. Assumes nothing.
+pub mod Dfs
+pub mod Marks
+pub mod Stack
+pub mod Idle
+pub mod Rings
+pub mod Turns
+pub mod Stands
+use mathlib.Core.Path.{_≡_}
+use mathlib.Core.Bool.{Bool, true, false}
+use mathlib.Core.List.{List, [], _∷_}
+use Prim.Native.Nat.{ℕ, zero, suc, _+_, _-_, _*_, _/_, _≤_, _<_}
+use lib.Dec.{T}
+use lib.ListN.{length, getD}
+use Rattle.flow.specs.Network.{Path}
+use Rattle.flow.specs.Cancel.{Loaded}
+use Rattle.model.specs.Job.{Job, arrayFits}
+use Rattle.model.specs.Links.{Place, Step}
+use Rattle.model.specs.Loads.{Feasible, Trail}
+use Rattle.model.specs.Record.{load}
+use Rattle.channel.specs.Map.{spots, darts, rev, view}
+use Rattle.channel.specs.Map.Network.{net}
+use Rattle.audit.specs.declared.loops.Found.{Found}
+use Rattle.audit.specs.declared.loops.Found.the-variants.{Free, Ring}
+
+-- what is lent to the finder is long enough: the record, the marks, the stack's spots and its slots
+pub record Room (rec fin st sl : List ℕ) : Type 0 where
+  pub whole : 32768 ≤ length rec
+  pub marks : spots ≤ length fin
+  pub stack : spots ≤ length st
+  pub slots : spots ≤ length sl
+
+-- c darts from the j-th on, their spots in st and their slots in sl
+unfoldable pub ringDarts : List ℕ → List ℕ → ℕ → ℕ → List ℕ
+ringDarts st sl j zero = []
+ringDarts st sl j (suc c) = (8 * getD st j 0 + getD sl j 0) ∷ ringDarts st sl (suc j) c
+
+-- a closed path of loaded darts from the j-th to before the n-th
+pub record Closed (rec st sl : List ℕ) (j n : ℕ) : Type 0 where
+  pub any : j < n
+  pub within : n ≤ spots
+  pub darts< : (i : ℕ) → i < n → 8 * getD st i 0 + getD sl i 0 < darts
+  pub path : (J : Job) → Path (net J) (Loaded (view rec)) (ringDarts st sl j (n - j)) (getD st j 0) (getD st j 0)
+
+pub data Answer (rec fin st sl : List ℕ) : Found → Type 0 where
+  free : ((d : ℕ) → d < darts → 0 < view rec d → getD fin (rev d / 8) 0 < getD fin (d / 8) 0) → Answer rec fin st sl Free
+  ring : {j n : ℕ} → Closed rec st sl j n → Answer rec fin st sl (Ring j n)
+
+-- b says whether a loop stands, for every job with feasible loads
+pub record LoopStands (rec : List ℕ) (b : Bool) : Type 0 where
+  pub yes : b ≡ true → (J : Job) → T (arrayFits (J .rows) (J .columns)) → Feasible J (load rec)
+      → (x : Place) × (s : Step) × (ss : List Step) × Trail J (load rec) x (s ∷ ss) x
+  pub no : b ≡ false → (J : Job) → T (arrayFits (J .rows) (J .columns)) → Feasible J (load rec)
+      → (x : Place) (s : Step) (ss : List Step) → Trail J (load rec) x (s ∷ ss) x → ⊥

@@ -1,0 +1,77 @@
+-- The state of the loop finder. fin has 0 for a spot that is not seen, 1 for one on the stack, and 2 more than the number of those done before it for one
+-- that is done; st and sl have the spots on the stack and the slots at which they stand. Assumes nothing.
+use mathlib.Core.Path.{_≡_}
+use mathlib.Core.Logic.{_≢_}
+use mathlib.Core.Bool.{Bool, true, false}
+use mathlib.Core.List.{List}
+use Prim.Native.Nat.{ℕ, _+_, _-_, _*_, _/_, _≤_, _<_}
+use lib.Dec.{eqb}
+use lib.ListN.{getD}
+use Rattle.sums.specs.Counting.{when, sum}
+use Rattle.channel.specs.Map.{spots, rev, view}
+use Rattle.audit.specs.Loops.{Room, Closed}
+use Rattle.audit.specs.declared.loops.Turn.{Turn}
+use Rattle.audit.specs.declared.loops.Turn.the-variants.{More, Hit}
+use Rattle.audit.specs.declared.loops.Search.{Search}
+use Rattle.audit.specs.declared.loops.Search.the-variants.{Over, Ring}
+
+-- slot k of u is loaded, and leads to v
+pub record Edge (rec : List ℕ) (u k v : ℕ) : Type 0 where
+  pub spot : u < spots
+  pub slot : k < 5
+  pub laden : 0 < view rec (8 * u + k)
+  pub leads : rev (8 * u + k) / 8 ≡ v
+
+-- no spot is seen
+pub record Cleared (fin : List ℕ) : Type 0 where
+  pub all : (u : ℕ) → u < spots → getD fin u 0 ≡ 0
+
+-- whether slot k of u leads to a spot that is not done
+pub data Live (rec fin : List ℕ) (u k : ℕ) : Bool → Type 0 where
+  live : {v : ℕ} → Edge rec u k v → getD fin v 0 < 2 → Live rec fin u k true
+  dead : ((v : ℕ) → Edge rec u k v → 2 ≤ getD fin v 0) → Live rec fin u k false
+
+-- k is the first slot of u from k0 on that does, or 5 or more
+pub record Scanned (rec fin : List ℕ) (u k0 k : ℕ) : Type 0 where
+  pub from : k0 ≤ k
+  pub past : (j v : ℕ) → k0 ≤ j → j < k → Edge rec u j v → 2 ≤ getD fin v 0
+  pub edge : k < 5 → Edge rec u k (rev (8 * u + k) / 8)
+  pub live : k < 5 → getD fin (rev (8 * u + k) / 8) 0 < 2
+
+-- i is where v first stands among the first n of st, or n
+pub record Placed (st : List ℕ) (n v i : ℕ) : Type 0 where
+  pub within : i ≤ n
+  pub before : (j : ℕ) → j < i → getD st j 0 ≢ v
+  pub here : i < n → getD st i 0 ≡ v
+
+-- how many spots are not seen
+abbrev pub unseen : List ℕ → ℕ
+unseen fin = sum spots (λ u. when (eqb (getD fin u 0) 0) 1)
+
+-- n spots on the stack, and m done
+pub record Dfs (rec fin st sl : List ℕ) (n m : ℕ) : Type 0 where
+  pub room : Room rec fin st sl
+  pub count : unseen fin + n + m ≤ spots
+  pub small : (u : ℕ) → u < spots → getD fin u 0 < m + 2
+  pub on : (i : ℕ) → i < n → (getD st i 0 < spots) × (getD fin (getD st i 0) 0 ≡ 1)
+  pub off : (u : ℕ) → u < spots → getD fin u 0 ≡ 1 → (i : ℕ) × (i < n) × (getD st i 0 ≡ u)
+  pub apart : (i j : ℕ) → i < j → j < n → getD st i 0 ≢ getD st j 0
+  pub link : (i : ℕ) → i + 1 < n → Edge rec (getD st i 0) (getD sl i 0) (getD st (i + 1) 0)
+  pub past : (i : ℕ) → i < n → (k v : ℕ) → k < getD sl i 0 → Edge rec (getD st i 0) k v → 2 ≤ getD fin v 0
+  pub falls : (u : ℕ) → u < spots → 2 ≤ getD fin u 0 → (k v : ℕ) → Edge rec u k v → (2 ≤ getD fin v 0) × (getD fin v 0 < getD fin u 0)
+
+-- what was seen stays seen
+abbrev pub Kept : List ℕ → List ℕ → Type 0
+Kept fin fin' = (u : ℕ) → getD fin u 0 ≢ 0 → getD fin' u 0 ≢ 0
+
+-- one turn: the stack grows or shrinks, and there is less to do; or its top leads to v, which is on it
+pub data Turned (rec fin : List ℕ) (n : ℕ) (fin' st' sl' : List ℕ) : Turn → Type 0 where
+  more : {n' m' : ℕ} → Dfs rec fin' st' sl' n' m' → Kept fin fin' → unseen fin' + unseen fin' + n' < unseen fin + unseen fin + n
+      → Turned rec fin n fin' st' sl' (More n' m')
+  hit : {v m' : ℕ} → Dfs rec fin' st' sl' n m' → Edge rec (getD st' (n - 1) 0) (getD sl' (n - 1) 0) v → getD fin' v 0 ≡ 1
+      → Turned rec fin n fin' st' sl' (Hit v)
+
+-- the search from one spot: all that was seen is done; or a ring stands
+pub data Searched (rec fin fin' st' sl' : List ℕ) : Search → Type 0 where
+  over : {m' : ℕ} → Dfs rec fin' st' sl' 0 m' → Kept fin fin' → Searched rec fin fin' st' sl' (Over m')
+  ring : {j n : ℕ} → Closed rec st' sl' j n → Searched rec fin fin' st' sl' (Ring j n)

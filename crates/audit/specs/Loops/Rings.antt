@@ -1,0 +1,86 @@
+-- The loop finder's two ends. With every spot done, every loaded dart falls along the marks. With an edge from the top of the stack to a spot on it, the
+-- stack from that spot on is a closed path: no spot stands on it twice, so no dart comes twice. Assumes nothing.
+use mathlib.Core.Path.{_≡_, refl, sym, subst}
+use mathlib.Core.Logic.{_≢_, _⊎_, ⊎-elim}
+use mathlib.Core.List.{List}
+use Prim.Native.Nat.{ℕ, zero, suc, _+_, _-_, _*_, _/_, _%_, _<_}
+use native.Mathlib.Nat.{eq-or-lt-of-le}
+use native.Mathlib.Numerals.{add-one}
+use native.Mathlib.Omega.{arith}
+use lib.ListN.{getD}
+use Rattle.sums.specs.Counting.{total}
+use Rattle.sums.specs.Sums.{when-other}
+use Rattle.flow.specs.Network.{times, Path, here, along}
+use Rattle.flow.specs.Cancel.{Loaded}
+use Rattle.model.specs.Job.{Job}
+use Rattle.channel.specs.Map.{spots, darts, rev, view}
+use Rattle.channel.specs.Map.Network.{net}
+use Rattle.audit.specs.Loops.{ringDarts, Closed}
+use Rattle.audit.specs.Loops.Dfs.{Edge, Dfs, Placed}
+use Rattle.audit.specs.Loops.Idle.{loaded-edge}
+use Rattle.audit.specs.Loops.Marks.{below-or}
+use Rattle.audit.specs.Loops.Stack.{edge-node, seen-done}
+
+-- every spot is seen, and none is on the stack
+pub all-fall : {rec fin st sl : List ℕ} {m : ℕ} → Dfs rec fin st sl 0 m → ((u : ℕ) → u < spots → getD fin u 0 ≢ 0)
+    → (d : ℕ) → d < darts → 0 < view rec d → getD fin (rev d / 8) 0 < getD fin (d / 8) 0
+all-fall {rec} s all d ld l =
+    let lu : d / 8 < spots = omega arith in
+    s .falls (d / 8) lu (seen-done s refl (d / 8) lu (all (d / 8) lu)) (d % 8) (rev d / 8) (loaded-edge rec d ld l) .1
+
+module _ {rec fin st sl : List ℕ} {n m : ℕ} (s : Dfs rec fin st sl n m) {x : ℕ} (back : Edge rec (getD st (n - 1) 0) (getD sl (n - 1) 0) x) where
+  last : (i : ℕ) → i + 1 ≡ n → Edge rec (getD st i 0) (getD sl i 0) x
+  last i e = let p : n - 1 ≡ i = omega arith in subst (λ (y : ℕ). Edge rec (getD st y 0) (getD sl y 0) x) p back
+
+  -- the edge at each spot of the stack
+  edge-at : (i : ℕ) → i < n → (v : ℕ) × Edge rec (getD st i 0) (getD sl i 0) v
+  edge-at i l = ⊎-elim (λ e. (x, last i e)) (λ h. (getD st (i + 1) 0, s .link i h)) (next i l)
+    where
+      next : (i : ℕ) → i < n → (i + 1 ≡ n) ⊎ (i + 1 < n)
+      next i h = eq-or-lt-of-le (omega arith)
+
+  -- a dart does not come again further up
+  not-again : (c i j : ℕ) → j < i → c + i ≡ n → times (ringDarts st sl i c) (8 * getD st j 0 + getD sl j 0) ≡ 0
+  unfolding ringDarts total
+  not-again zero i j l e = refl
+  not-again (suc c) i j l e =
+      let (v, a) = edge-at i (omega arith) in
+      let (w, b) = edge-at j (omega arith) in
+      omega (
+        arith,
+        when-other (8 * getD st i 0 + getD sl i 0) (8 * getD st j 0 + getD sl j 0) 1
+            (λ q. s .apart j i l (omega arith) (spot-of (getD st j 0) (getD sl j 0) (getD st i 0) (getD sl i 0) (sym q) (b .slot) (a .slot))),
+        not-again c (suc i) j (omega arith) (omega arith),
+      )
+    where
+      spot-of : (u k v j : ℕ) → 8 * u + k ≡ 8 * v + j → k < 5 → j < 5 → u ≡ v
+      spot-of u k v j e a b = omega arith
+
+  -- from the j-th spot up to the top, and back to x
+  climb : (J : Job) (c j u : ℕ) → c + j ≡ n → (j < n → u ≡ getD st j 0) → (j ≡ n → u ≡ x) → Path (net J) (Loaded (view rec)) (ringDarts st sl j c) u x
+  unfolding ringDarts
+  climb J zero j u e a b = here (b (omega arith))
+  climb J (suc c) j u e a b =
+      let (v, g) = edge-at j (omega arith) in
+      let p : u ≡ getD st j 0 = a (omega arith) in
+      along {d = 8 * getD st j 0 + getD sl j 0} {u = u} (omega (arith, g .spot, g .slot)) (omega (arith, g .slot)) (g .laden)
+      (not-again c (suc j) j (omega arith) (omega arith))
+      (climb J c (suc j) (rev (8 * getD st j 0 + getD sl j 0) / 8) (omega arith)
+      (λ l. rw add-one at (s .link j (omega arith) .leads)) (λ l. last j (omega arith) .leads))
+
+  closed : (j : ℕ) → j < n → getD st j 0 ≡ x → Closed rec st sl j n
+  closed j l e =
+      record {
+        any = l;
+        within = omega (arith, s .count);
+        darts< = λ i li. let (v, g) = edge-at i li in omega (arith, g .spot, g .slot);
+        path = λ J. subst (λ (y : ℕ). Path (net J) (Loaded (view rec)) (ringDarts st sl j (n - j)) (getD st j 0) y) (sym e)
+            (climb J (n - j) j (getD st j 0) (omega arith) (λ q. refl) (λ q. absurd (omega arith)));
+      }
+
+  -- the spot that is met stands on the stack
+  pub hit-closed : (j : ℕ) → getD fin x 0 ≡ 1 → Placed st n x j → Closed rec st sl j n
+  hit-closed j e p =
+      let (i, li, q) = s .off x (edge-node back) e in
+      let l : j < n = ⊎-elim (λ h. h) (λ h. absurd (p .before i (omega (arith, li)) q)) (below-or j n) in
+      closed j l (p .here l)

@@ -1,0 +1,138 @@
+-- What one turn of the loop finder does, and what a caller reads off its answers. Assumes nothing.
+use mathlib.Core.Path.{_≡_, subst, _∙_}
+use mathlib.Core.Logic.{_≢_, ⊎-elim}
+use mathlib.Core.Bool.{Bool, true, false}
+use mathlib.Core.List.{List}
+use Prim.Native.Nat.{ℕ, suc, _+_, _-_, _*_, _/_, _≤_, _<_}
+use native.Mathlib.Numerals.{add-two}
+use native.Mathlib.Omega.{arith}
+use borrow.Author.Count.{below-more}
+use lib.ListN.{length, getD, set}
+use lib.Seq.{getD-set-same}
+use Rattle.channel.specs.Map.{spots, rev}
+use Rattle.audit.specs.Loops.{Closed}
+use Rattle.audit.specs.Loops.Dfs.{Edge, Live, live, dead, Scanned, unseen, Dfs, Kept, Turned, more, hit, Searched, over, ring}
+use Rattle.audit.specs.Loops.Marks.{below-or, after, unseen-less, unseen-same, kept-set}
+use Rattle.audit.specs.Loops.Stack.{edge-node, Below, dfs-slot, dfs-push, dfs-pop, dfs-leaf}
+use Rattle.audit.specs.declared.loops.Turn.{Turn}
+use Rattle.audit.specs.declared.loops.Turn.the-variants.{More, Hit}
+use Rattle.audit.specs.declared.loops.Search.{Search}
+use Rattle.audit.specs.declared.loops.Search.the-variants.{Over, Ring}
+
+-- ---- one slot
+
+module _ {rec fin : List ℕ} {u k : ℕ} {b : Bool} (d : Live rec fin u k b) where
+  pub live-yes : b ≡ true → Edge rec u k (rev (8 * u + k) / 8) × (getD fin (rev (8 * u + k) / 8) 0 < 2)
+  live-yes e = by (subst (λ (x : Bool). Live rec fin u k x) e d)
+    where
+      by : Live rec fin u k true → Edge rec u k (rev (8 * u + k) / 8) × (getD fin (rev (8 * u + k) / 8) 0 < 2)
+      by (live g h) = rw (g .leads) (g, h)
+
+  pub live-no : b ≡ false → (v : ℕ) → Edge rec u k v → 2 ≤ getD fin v 0
+  live-no e = by (subst (λ (x : Bool). Live rec fin u k x) e d)
+    where
+      by : Live rec fin u k false → (v : ℕ) → Edge rec u k v → 2 ≤ getD fin v 0
+      by (dead f) = f
+
+-- ---- a turn, after the slots of the top were scanned
+
+module _ {rec fin st sl : List ℕ} {n m k : ℕ} (d : Dfs rec fin st sl n m) (l0 : 0 < n) (s : Scanned rec fin (getD st (n - 1) 0) (getD sl (n - 1) 0) k) where
+  past : Below rec fin (getD st (n - 1) 0) k
+  past j v l e = ⊎-elim (λ h. d .past (n - 1) (omega arith) j v h e) (λ h. s .past j v h l e) (below-or j (getD sl (n - 1) 0))
+
+  pub turn-pop : 5 ≤ k → Turned rec fin n (set fin (getD st (n - 1) 0) (m + 2)) st sl (More (n - 1) (m + 1))
+  turn-pop l =
+      let u = getD st (n - 1) 0 in
+      let (lu, eu) = d .on (n - 1) (omega arith) in
+      let lf : u < length fin = omega (arith, d .room .marks) in
+      let z : unseen (set fin u (m + 2)) ≡ unseen fin = rw add-two (unseen-same fin u lu lf (suc m) eu) in
+      let kept : Kept fin (set fin u (m + 2)) = rw add-two (kept-set fin u (suc m) lf) in
+      more (dfs-pop d (n - 1) (omega arith) (λ j v e. past j v (omega (arith, e .slot)) e)) kept (omega arith)
+
+  module _ {v : ℕ} (l5 : k < 5) (ev : v ≡ rev (8 * getD st (n - 1) 0 + k) / 8) where
+    -- the slot is stored, and the edge of the top stands on the stack
+    aim : Dfs rec fin st (set sl (n - 1) k) n m
+    aim = dfs-slot d (n - 1) k (omega arith) past
+
+    aimed : Edge rec (getD st (n - 1) 0) (getD (set sl (n - 1) k) (n - 1) 0) v
+    aimed =
+        let lk : n - 1 < length sl = omega (arith, d .count, d .room .slots) in
+        rw (getD-set-same sl (n - 1) k 0 lk, ev) (s .edge l5)
+
+    pub turn-hit : getD fin v 0 ≡ 1 → Turned rec fin n fin st (set sl (n - 1) k) (Hit v)
+    turn-hit e = hit aim aimed e
+
+    pub new-spot : getD fin v 0 ≢ 1 → (v < spots) × (getD fin v 0 ≡ 0)
+    new-spot ne = let w : getD fin v 0 < 2 = rw ev (s .live l5) in (edge-node aimed, omega (arith, ne))
+
+    pub turn-push : getD fin v 0 ≢ 1 → Turned rec fin n (set fin v 1) (set st n v) (set (set sl (n - 1) k) n 0) (More (n + 1) m)
+    turn-push ne =
+        let (lv, z) = new-spot ne in
+        let lf : v < length fin = omega (arith, d .room .marks) in
+        more
+        (dfs-push aim v 0 lv z
+        (λ i e. let p : n - 1 ≡ i = omega arith in subst (λ (y : ℕ). Edge rec (getD st y 0) (getD (set sl (n - 1) k) y 0) v) p aimed)
+        (λ j x h. absurd (omega arith)))
+        (kept-set fin v 0 lf)
+        (omega (arith, unseen-less fin v lv lf 0 z))
+
+-- ---- what a turn answered
+
+module _ {rec fin : List ℕ} {n : ℕ} {fin' st' sl' : List ℕ} {t : Turn} (d : Turned rec fin n fin' st' sl' t) where
+  pub took-more : {n' m' : ℕ} → t ≡ More n' m' → Dfs rec fin' st' sl' n' m' × Kept fin fin' × (unseen fin' + unseen fin' + n' < unseen fin + unseen fin + n)
+  took-more {n'} {m'} e = by (subst (λ (x : Turn). Turned rec fin n fin' st' sl' x) e d)
+    where
+      by : Turned rec fin n fin' st' sl' (More n' m')
+          → Dfs rec fin' st' sl' n' m' × Kept fin fin' × (unseen fin' + unseen fin' + n' < unseen fin + unseen fin + n)
+      by (more s k l) = (s, k, l)
+
+  pub took-hit : {v : ℕ} → t ≡ Hit v → (m' : ℕ) × Dfs rec fin' st' sl' n m' × Edge rec (getD st' (n - 1) 0) (getD sl' (n - 1) 0) v × (getD fin' v 0 ≡ 1)
+  took-hit {v} e = by (subst (λ (x : Turn). Turned rec fin n fin' st' sl' x) e d)
+    where
+      by : Turned rec fin n fin' st' sl' (Hit v)
+          → (m' : ℕ) × Dfs rec fin' st' sl' n m' × Edge rec (getD st' (n - 1) 0) (getD sl' (n - 1) 0) v × (getD fin' v 0 ≡ 1)
+      by (hit {m' = m'} s a b) = (m', s, a, b)
+
+module _ {rec fin fin' st' sl' : List ℕ} {a : Search} (d : Searched rec fin fin' st' sl' a) where
+  pub was-over : {m' : ℕ} → a ≡ Over m' → Dfs rec fin' st' sl' 0 m' × Kept fin fin'
+  was-over {m'} e = by (subst (λ (x : Search). Searched rec fin fin' st' sl' x) e d)
+    where
+      by : Searched rec fin fin' st' sl' (Over m') → Dfs rec fin' st' sl' 0 m' × Kept fin fin'
+      by (over s k) = (s, k)
+
+  pub was-ring : {j n : ℕ} → a ≡ Ring j n → Closed rec st' sl' j n
+  was-ring {j} {n} e = by (subst (λ (x : Search). Searched rec fin fin' st' sl' x) e d)
+    where
+      by : Searched rec fin fin' st' sl' (Ring j n) → Closed rec st' sl' j n
+      by (ring c) = c
+
+-- ---- what was seen
+
+module _ (fin fin' : List ℕ) (r : ℕ) (l : r < length fin) where
+  -- r is seen as well
+  pub kept-with : getD fin' r 0 ≢ 0 → Kept fin fin' → Kept (set fin r 1) fin'
+  kept-with s k u n = ⊎-elim (λ w. rw (w .0) s) (λ w. k u (λ e. n (w .1 ∙ e))) (after fin r 1 u l)
+
+  -- one more
+  pub seen-more : ((x : ℕ) → x < r → getD fin x 0 ≢ 0) → Kept (set fin r 1) fin' → (x : ℕ) → x < r + 1 → getD fin' x 0 ≢ 0
+  seen-more all k = below-more (λ x. getD fin' x 0 ≢ 0) r
+      (λ x h. k x (kept-set fin r 0 l x (all x h))) (k r (λ e. omega (arith, getD-set-same fin r 1 0 l)))
+
+-- ---- the search from one spot
+
+module _ {rec fin st sl : List ℕ} {m : ℕ} (d : Dfs rec fin st sl 0 m) (r : ℕ) (l : r < spots) where
+  marked : r < length fin
+  marked = omega (arith, d .room .marks)
+
+  pub search-seen : getD fin r 0 ≢ 0 → Searched rec (set fin r 1) fin st sl (Over m)
+  search-seen s = over d (kept-with fin fin r marked s (λ u h. h))
+
+  module _ (e : getD fin r 0 ≡ 0) {k : ℕ} (s : Scanned rec fin r 0 k) where
+    pub search-leaf : 5 ≤ k → Searched rec (set fin r 1) (set fin r (m + 2)) st sl (Over (m + 1))
+    search-leaf h =
+        let kept : Kept fin (set fin r (m + 2)) = rw add-two (kept-set fin r (suc m) marked) in
+        over (dfs-leaf d r l e (λ j v g. s .past j v (omega arith) (omega (arith, g .slot)) g))
+        (kept-with fin (set fin r (m + 2)) r marked (λ z. omega (arith, getD-set-same fin r (m + 2) 0 marked)) kept)
+
+    pub dfs-root : Dfs rec (set fin r 1) (set st 0 r) (set sl 0 k) 1 m
+    dfs-root = dfs-push d r k l e (λ i q. absurd (omega arith)) (λ j v h g. s .past j v (omega arith) h g)

@@ -1,0 +1,179 @@
+// Closed chains of loaded links. A depth-first search with its own stack says that there is none, with an order along which every loaded dart falls,
+// or gives one. It works on what is lent to it.
+ghost use mathlib.Core.Path.{_≡_};
+ghost use Prim.Native.Nat.{_≤_, _<_};
+ghost use lib.ListN.{length, set};
+ghost use Rattle.channel.specs.Map.{spots};
+ghost use Rattle.audit.specs.Loops.{Room, Answer, LoopStands};
+ghost use Rattle.audit.specs.Loops.Dfs.{Cleared, Live, Scanned, Placed, Dfs, Turned, Searched};
+
+// No closed chain; or the spots of one in st, and its slots in sl, from the first number to before the second.
+pub enum Found {
+    Free,
+    Ring(usize, usize),
+}
+
+// What one turn leads to: another height of the stack, and how many spots are done; or a spot that is on the stack.
+enum Turn {
+    More(usize, usize),
+    Hit(usize),
+}
+
+// What the search from one spot leads to: how many spots are done; or a ring.
+enum Search {
+    Over(usize),
+    Ring(usize, usize),
+}
+
+fn clear(fin: &mut [u16])
+    requires { ⌜ spots ≤ length (now fin) ⌝ }
+    ensures { λ _. ⌜ Cleared (now (fin .exit)) ⌝ }
+{
+    for i in 0..13128 {
+        fin[i] = 0;
+    }
+}
+
+// Whether slot k of u is loaded and leads to a spot that is not done.
+fn live(rec: &[u8], fin: &[u16], u: usize, k: usize) -> bool
+    requires { ⌜ (32768 ≤ length (now rec)) × (spots ≤ length (now fin)) × (u < spots) × (k < 5) ⌝ }
+    ensures { λ b. ⌜ Live (now (rec .entry)) (now (fin .entry)) u k b ⌝ }
+{
+    let d = 8 * u + k;
+    if channel::loads::carried(rec, d) == 0 {
+        return false;
+    }
+    let v = channel::head_of(d);
+    if fin[v] >= 2 {
+        return false;
+    }
+    true
+}
+
+// The first live slot of u from k0 on; 5 or more if there is none. Slots 5 to 7 carry nothing.
+fn scan(rec: &[u8], fin: &[u16], u: usize, k0: usize) -> usize
+    requires { ⌜ (32768 ≤ length (now rec)) × (spots ≤ length (now fin)) × (u < spots) ⌝ }
+    ensures { λ k. ⌜ Scanned (now (rec .entry)) (now (fin .entry)) u k0 k ⌝ }
+{
+    let mut k = k0;
+    while k < 5 {
+        if live(rec, fin, u, k) {
+            return k;
+        }
+        k += 1;
+    }
+    k
+}
+
+// One turn on a stack of n spots, with m done.
+fn advance(rec: &[u8], fin: &mut [u16], st: &mut [u16], sl: &mut [u8], n: usize, m: usize) -> Turn
+    requires { ⌜ Dfs (now rec) (now fin) (now st) (now sl) n m × (0 < n) ⌝ }
+    ensures { λ t. ⌜ Turned (now (rec .entry)) (now (fin .entry)) n (now (fin .exit)) (now (st .exit)) (now (sl .exit)) t ⌝ }
+{
+    let i = n - 1;
+    let u = st[i] as usize;
+    let k0 = sl[i] as usize;
+    let k = scan(rec, fin, u, k0);
+    if k >= 5 {
+        fin[u] = (m + 2) as u16;
+        return Turn::More(i, m + 1);
+    }
+    sl[i] = k as u8;
+    let v = channel::head_of(8 * u + k);
+    if fin[v] == 1 {
+        return Turn::Hit(v);
+    }
+    fin[v] = 1;
+    st[n] = v as u16;
+    sl[n] = 0;
+    Turn::More(n + 1, m)
+}
+
+// Where v stands among the first n of st; n if it does not.
+fn place(st: &[u16], n: usize, v: usize) -> usize
+    requires { ⌜ n ≤ length (now st) ⌝ }
+    ensures { λ i. ⌜ Placed (now (st .entry)) n v i ⌝ }
+{
+    let mut i = 0;
+    while i < n {
+        if st[i] as usize == v {
+            return i;
+        }
+        i += 1;
+    }
+    n
+}
+
+// All that the one spot on the stack leads to, with m0 done.
+fn descend(rec: &[u8], fin: &mut [u16], st: &mut [u16], sl: &mut [u8], m0: usize) -> Search
+    requires { ⌜ Dfs (now rec) (now fin) (now st) (now sl) 1 m0 ⌝ }
+    ensures { λ s. ⌜ Searched (now (rec .entry)) (now (fin .entry)) (now (fin .exit)) (now (st .exit)) (now (sl .exit)) s ⌝ }
+{
+    let mut n = 1;
+    let mut m = m0;
+    while 0 < n {
+        match advance(rec, fin, st, sl, n, m) {
+            Turn::More(a, b) => {
+                n = a;
+                m = b;
+            }
+            Turn::Hit(v) => {
+                return Search::Ring(place(st, n, v), n);
+            }
+        }
+    }
+    Search::Over(m)
+}
+
+// All that r leads to, with m done.
+fn explore(rec: &[u8], fin: &mut [u16], st: &mut [u16], sl: &mut [u8], r: usize, m: usize) -> Search
+    requires { ⌜ Dfs (now rec) (now fin) (now st) (now sl) 0 m × (r < spots) ⌝ }
+    ensures { λ s. ⌜ Searched (now (rec .entry)) (set (now (fin .entry)) r 1) (now (fin .exit)) (now (st .exit)) (now (sl .exit)) s ⌝ }
+{
+    if fin[r] != 0 {
+        return Search::Over(m);
+    }
+    let k = scan(rec, fin, r, 0);
+    if k >= 5 {
+        fin[r] = (m + 2) as u16;
+        return Search::Over(m + 1);
+    }
+    fin[r] = 1;
+    st[0] = r as u16;
+    sl[0] = k as u8;
+    descend(rec, fin, st, sl, m)
+}
+
+// Says that no chain of loaded darts is closed, with fin as the order along which they fall; or gives one.
+pub fn find(rec: &[u8], fin: &mut [u16], st: &mut [u16], sl: &mut [u8]) -> Found
+    requires { ⌜ Room (now rec) (now fin) (now st) (now sl) ⌝ }
+    ensures { λ f. ⌜ Answer (now (rec .entry)) (now (fin .exit)) (now (st .exit)) (now (sl .exit)) f ⌝ }
+{
+    clear(fin);
+    let mut m = 0;
+    for r in 0..13128 {
+        match explore(rec, fin, st, sl, r, m) {
+            Search::Over(a) => {
+                m = a;
+            }
+            Search::Ring(a, b) => {
+                return Found::Ring(a, b);
+            }
+        }
+    }
+    Found::Free
+}
+
+// Whether a loop stands, in a record that is feasible.
+pub fn stands(rec: &[u8]) -> bool
+    requires { ⌜ 32768 ≤ length (now rec) ⌝ }
+    ensures { λ b. ⌜ LoopStands (now (rec .entry)) b ⌝ }
+{
+    let mut fin = [0u16; 13128];
+    let mut st = [0u16; 13128];
+    let mut sl = [0u8; 13128];
+    match find(rec, &mut fin, &mut st, &mut sl) {
+        Found::Free => false,
+        Found::Ring(_, _) => true,
+    }
+}

@@ -1,0 +1,43 @@
+-- `places::step_back` meets its contract: the three ways out are the three cases of `fromExit`. Assumes nothing.
+use borrow.Author.Needs.{needs}
+use mathlib.Core.Path.{_≡_, sym, ap, subst, _∙_}
+use Prim.Native.Nat.{ℕ, _<_}
+use lib.Dec.{T}
+use Rattle.model.specs.Links.{turn}
+use Rattle.channel.specs.Map.{darts, rev, stepOf, isLinkDart}
+use Rattle.channel.specs.Map.Darts.{dartOf}
+use Rattle.channel.specs.Map.Entered.{fromExit, exit-entry, exit-twin, exit-same, back-exit, back-range}
+use Rattle.channel.proofs.places.step_back.Statement.{statement}
+use Rattle.channel.proofs.places.step_back.Tie as tie
+
+-- what `fromExit` gives of the way back
+back-to : (d b r : ℕ) → (d < darts) × T (isLinkDart d) → b ≡ rev d → r ≡ fromExit b → (r ≡ dartOf (turn (stepOf d))) × (r < darts)
+back-to d b r (l, t) e f =
+    let q : r ≡ dartOf (turn (stepOf d)) = f ∙ ap fromExit e ∙ back-exit d l t in
+    (q, subst (λ (n : ℕ). n < darts) (sym q) (back-range d t))
+
+reverse-requires : tie.Need-reverse-requires
+reverse-requires c κs = search needs
+
+add-result : tie.Need-add-result
+add-result c = search needs
+
+returns : tie.Need-returns
+returns c = back-to (c .before .before .args .d) _ _ (c .before .before .pre) (c .before .reverse .ensures .0) (exit-entry _ (c .if1 .taken))
+
+sub-result : tie.Need-sub-result
+sub-result c = search needs
+
+returns-2 : tie.Need-returns-2
+returns-2 c =
+    back-to (c .before .before .before .args .d) _ _ (c .before .before .before .pre) (c .before .before .reverse .ensures .0)
+    (exit-twin _ (c .before .if1 .left) (c .if2 .taken))
+
+returns-3 : tie.Need-returns-3
+returns-3 c =
+    back-to (c .before .before .before .args .d) _ _ (c .before .before .before .pre) (c .before .before .reverse .ensures .0)
+    (exit-same _ (c .before .if1 .left) (c .if2 .left))
+
+pub step-back-spec : {M : Type 1} → statement M
+step-back-spec =
+    tie.close (tie.spec reverse-requires add-result returns sub-result returns-2 returns-3)

@@ -1,0 +1,38 @@
+-- What taking loops out keeps and answers. Assumes nothing.
+use mathlib.Core.Path.{_≡_}
+use mathlib.Core.List.{List}
+use Prim.Native.Nat.{ℕ, _+_, _*_, _/_, _≤_, _<_}
+use lib.ListN.{length, getD}
+use Rattle.model.specs.Job.{Job}
+use Rattle.model.specs.Loads.{Feasible}
+use Rattle.model.specs.Record.{load}
+use Rattle.channel.specs.Map.{spots, darts, rev, view, starts}
+use Rattle.search.specs.Laid.{BytesFit, SameButLoads}
+use Rattle.audit.specs.Loops.{Room}
+use Rattle.search.specs.Pins.{Held}
+
+-- rec′ has the wires of rec's pins, and no more load anywhere
+pub record Loosened (J : Job) (rec rec′ : List ℕ) : Type 0 where
+  pub feasible : Feasible J (load rec′)
+  pub bytes : BytesFit rec′
+  pub begun : (x : ℕ) → x < spots → starts J rec′ x ≡ starts J rec x
+  pub less : (d : ℕ) → d < darts → view rec′ d ≤ view rec d
+  pub kept : SameButLoads rec rec′
+
+-- the darts to be taken out are darts
+pub record Ringed (rec st sl : List ℕ) (n : ℕ) : Type 0 where
+  pub whole : 32768 ≤ length rec
+  pub stack : n ≤ length st
+  pub slots : n ≤ length sl
+  pub darts< : (i : ℕ) → i < n → 8 * getD st i 0 + getD sl i 0 < darts
+
+-- what is lent to the untangling, and that the loads are those of some job
+pub record Tangled (rec fin st sl : List ℕ) : Type 0 where
+  pub room : Room rec fin st sl
+  pub job : Job
+  pub held : Held job rec
+
+-- for every job of which the loads are feasible they still are, with the same starts; and every loaded dart falls along fin
+pub record Untangled (rec rec′ fin : List ℕ) : Type 0 where
+  pub loose : (J : Job) → Held J rec → Loosened J rec rec′
+  pub falls : (d : ℕ) → d < darts → 0 < view rec′ d → getD fin (rev d / 8) 0 < getD fin (d / 8) 0

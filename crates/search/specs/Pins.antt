@@ -1,0 +1,61 @@
+-- What the search for the next wire keeps and answers. The marked spots are dead: no move leads out of them, and none is outside. Assumes nothing.
+use mathlib.Core.Path.{_≡_}
+use mathlib.Core.Logic.{_≢_}
+use mathlib.Core.Bool.{Bool, true, false}
+use mathlib.Core.List.{List}
+use Prim.Native.Nat.{ℕ, _+_, _*_, _≤_, _<_}
+use lib.Dec.{T}
+use lib.ListN.{length, getD}
+use Rattle.model.specs.Job.{Job, arrayFits, capsFit}
+use Rattle.model.specs.Loads.{Feasible}
+use Rattle.model.specs.Record.{recordSize, load}
+use Rattle.channel.specs.Map.{spots, isStart, want, starts}
+use Rattle.search.specs.Laid.{BytesFit}
+use Rattle.search.specs.OneMore.{OneMore}
+use Rattle.search.specs.NoMore.{Reached, ClosedUnderMoves, NoneOutside}
+use Rattle.search.specs.Marks.{marked}
+use Rattle.search.specs.declared.next.Next.{Next}
+use Rattle.search.specs.declared.next.Next.the-variants.{Laid, Nothing}
+
+-- the loads are feasible, and every load byte is in range
+pub record Held (J : Job) (rec : List ℕ) : Type 0 where
+  pub fits : T (arrayFits (J .rows) (J .columns))
+  pub caps : T (capsFit (J .O) (J .D) (J .E))
+  pub long : recordSize ≤ length rec
+  pub bytes : BytesFit rec
+  pub feasible : Feasible J (load rec)
+
+pub record Dead (J : Job) (rec t : List ℕ) : Type 0 where
+  pub closed : ClosedUnderMoves J rec (marked t)
+  pub none : NoneOutside J (marked t)
+
+-- a wire is wanted at u, and none starts there
+abbrev pub Unwired : Job → List ℕ → ℕ → Type 0
+Unwired J rec u = starts J rec u < want J u
+
+-- every marked spot is reached from an unwired pin
+abbrev pub AllReached : Job → List ℕ → List ℕ → Type 0
+AllReached J rec t = (x : ℕ) → T (marked t x) → Reached J rec x
+
+-- whether a search is to begin at u: an unwired pin that is not marked
+pub data Open (J : Job) (rec t : List ℕ) (u : ℕ) : Bool → Type 0 where
+  open-pin : T (isStart J u) → Unwired J rec u → getD t u 0 ≢ 1 → Open J rec t u true
+  no-pin : (Unwired J rec u → T (marked t u)) → Open J rec t u false
+
+-- whether a wire was laid from u; if none was, an unwired u is marked
+pub data Tested (J : Job) (rec t : List ℕ) (u : ℕ) (rec′ t′ : List ℕ) : Bool → Type 0 where
+  wired : Unwired J rec u → OneMore J rec rec′ u → Dead J rec′ t′ → Tested J rec t u rec′ t′ true
+  shut : rec′ ≡ rec → Dead J rec t′ → ((x : ℕ) → T (marked t x) → T (marked t′ x)) → (Unwired J rec u → T (marked t′ u))
+      → (AllReached J rec t → AllReached J rec t′) → Tested J rec t u rec′ t′ false
+
+-- the first m pins have no way out
+pub record Passed (J : Job) (rec t t′ : List ℕ) (m : ℕ) : Type 0 where
+  pub dead : Dead J rec t′
+  pub shut : (i : ℕ) → i < m → Unwired J rec (329 + 8 * i) → T (marked t′ (329 + 8 * i))
+  pub reached : AllReached J rec t → AllReached J rec t′
+
+-- One wire more starts at u; or no wire more fits, and every unwired pin is marked.
+pub data Answered (J : Job) (rec t rec′ t′ : List ℕ) : Next → Type 0 where
+  laid : {u : ℕ} → u < spots → Unwired J rec u → OneMore J rec rec′ u → Dead J rec′ t′ → Answered J rec t rec′ t′ (Laid u)
+  nothing : rec′ ≡ rec → Dead J rec t′ → ((u : ℕ) → u < spots → Unwired J rec u → T (marked t′ u)) → (AllReached J rec t → AllReached J rec t′)
+      → Answered J rec t rec′ t′ Nothing

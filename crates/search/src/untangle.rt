@@ -1,0 +1,43 @@
+// Taking loops out: one move back along each dart of a closed path of loaded darts, until there is none.
+ghost use mathlib.Core.Path.{_≡_};
+ghost use mathlib.Core.List.{map};
+ghost use Prim.Native.Nat.{_-_, _≤_};
+ghost use Rattle.channel.specs.Map.{rev};
+ghost use Rattle.search.specs.Laid.{laidAll};
+ghost use Rattle.audit.specs.Loops.{ringDarts};
+ghost use Rattle.search.specs.Loose.{Ringed, Tangled, Untangled};
+use audit::loops::Found;
+use audit::loops::find;
+use channel::lay;
+use channel::reverse;
+
+// The ring from the j-th dart to before the n-th.
+fn take_out(loads: &mut [u8], st: &[u16], sl: &[u8], j: usize, n: usize)
+    requires { ⌜ Ringed (now loads) (now st) (now sl) n × (j ≤ n) ⌝ }
+    ensures { λ _. ⌜ now (loads .exit) ≡ laidAll (now (loads .entry)) (map rev (ringDarts (now (st .entry)) (now (sl .entry)) j (n - j))) ⌝ }
+{
+    let mut i = j;
+    while i < n {
+        let u = st[i] as usize;
+        let m = sl[i] as usize;
+        lay(loads, reverse(8 * u + m));
+        i += 1;
+    }
+}
+
+// Every ring.
+pub fn untangle(loads: &mut [u8], fin: &mut [u16], st: &mut [u16], sl: &mut [u8])
+    requires { ⌜ Tangled (now loads) (now fin) (now st) (now sl) ⌝ }
+    ensures { λ _. ⌜ Untangled (now (loads .entry)) (now (loads .exit)) (now (fin .exit)) ⌝ }
+{
+    loop {
+        match find(loads, fin, st, sl) {
+            Found::Free => {
+                return;
+            }
+            Found::Ring(j, n) => {
+                take_out(loads, st, sl, j, n);
+            }
+        }
+    }
+}

@@ -1,0 +1,173 @@
+-- Laws of which line may stand. The code's tests are those of `admit` by the stage's rank; a line that may stand has numbers below 100, and no other line
+-- begins where one does, so a line that is refused is the only one to ask about. Assumes nothing.
+use mathlib.Core.Path.{_≡_, refl, sym, ap, _∙_}
+use mathlib.Core.Logic.{_≢_}
+use mathlib.Core.Bool.{Bool, true, false, not, _&&_}
+use mathlib.Core.List.{List, _++_}
+use mathlib.Core.Option.{Option, none, some}
+use Prim.Native.Nat.{ℕ, _+_, _*_, _≤_, _<_}
+use native.Mathlib.Omega.{arith}
+use lib.Dec.{T, eqb, leb, eqb→eq, leb→le}
+use borrow.Author.Tests.{le-leb, lt-ltb}
+use lib.ListN.{length, getD, drop}
+use Rattle.sums.specs.Tests.{and-left, and-right}
+use Rattle.model.specs.Job.{fresh, inRange, arrayFits, capsAdmitted, isPin}
+use Rattle.model.specs.Text.{Group, chosenPins, missingPins, closedTiles, Line, arrayLine, groupLine, endLine, lineBytes, begin, afterArray, finished}
+use Rattle.model.specs.Text.{within, rank, Reader}
+use Rattle.model.specs.Text.{start, asking, inTurn, names, admit, wrongAt, wrong, Reading}
+use Rattle.model.proofs.TextUnique.{line-unique}
+use Rattle.model.proofs.TextProper.{asked}
+use Rattle.model.proofs.TextNames.{names-inside}
+use Rattle.text.specs.declared.lines.Line.the-variants.{Wrong as WrongLine}
+use Rattle.text.specs.declared.lines.Opening.the-variants.{Wrong as WrongOpening}
+use Rattle.text.specs.declared.reader.Cursor.{Cursor}
+use Rattle.text.specs.declared.reader.Step.the-variants.{To, Wrong}
+use Rattle.text.specs.Lines.{LineAt, Below100, ArrayAt}
+use Rattle.text.specs.Reader.{turnFits, namesFit, Follows, afterGroup, afterEnd, Stepped, byGroup, byEnd, stops}
+
+-- ---- refusals
+
+none-some : (R : Reader) → _≢_ {A = Option Reader} none (some R)
+none-some R e = let w : _≡_ {A = ℕ} 0 1 = cc in omega arith
+
+-- where a line begins that may not stand, none begins that may
+pub line-refused : (R : Reader) (text : List ℕ) (l : Line) (rest : List ℕ) → text ≡ lineBytes l ++ rest → admit R l ≡ none
+    → (m : Line) (R′ : Reader) (more : List ℕ) → admit R m ≡ some R′ → text ≢ lineBytes m ++ more
+line-refused R text l rest q e m R′ more a p = none-some R′ (sym e ∙ (ap (admit R) (line-unique l m rest more (sym q ∙ p) .0) ∙ a))
+
+-- ---- the array line
+
+range-small : (least most n : ℕ) → T (inRange least most n) → n ≤ most
+range-small least most n t = leb→le n most (and-right (leb least n) (leb n most) t)
+
+pub array-small : (a b : ℕ) → T (arrayFits a b) → (a ≤ 40) × (b ≤ 40)
+array-small a b t = (range-small 2 40 a (and-left (inRange 2 40 a) (inRange 2 40 b) t), range-small 2 40 b (and-right (inRange 2 40 a) (inRange 2 40 b) t))
+
+caps-small : (o d e : ℕ) → T (capsAdmitted o d e) → (o ≤ 8) × (d ≤ 2 * o) × (e ≤ 16)
+caps-small o d e t =
+    let u : T (inRange o (2 * o) d && inRange 0 16 e) = and-right (inRange 1 8 o) (inRange o (2 * o) d && inRange 0 16 e) t in (
+      range-small 1 8 o (and-left (inRange 1 8 o) (inRange o (2 * o) d && inRange 0 16 e) t),
+      range-small o (2 * o) d (and-left (inRange o (2 * o) d) (inRange 0 16 e) u),
+      range-small 0 16 e (and-right (inRange o (2 * o) d) (inRange 0 16 e) u),
+    )
+
+pub five-small : (a b o d e : ℕ) → T (arrayFits a b) → T (capsAdmitted o d e) → Below100 a b o d e
+five-small a b o d e s t =
+    let (x, y) = array-small a b s in
+    let (u, v, w) = caps-small o d e t in
+    record { rows = omega arith; columns = omega arith; O = omega arith; D = omega arith; E = omega arith }
+
+-- what may stand at the start is an array line
+opened : (l : Line) (R : Reader) → admit start l ≡ some R
+    → (a : ℕ) × (b : ℕ) × (o : ℕ) × (d : ℕ) × (e : ℕ) × (l ≡ arrayLine a b o d e) × T (arrayFits a b) × T (capsAdmitted o d e)
+unfolding admit
+opened (arrayLine a b o d e) R q =
+    let (t, p) = asked (arrayFits a b && capsAdmitted o d e) _ R q in
+    (a, b, o, d, e, refl, and-left (arrayFits a b) (capsAdmitted o d e) t, and-right (arrayFits a b) (capsAdmitted o d e) t)
+opened (groupLine g r c) R q = absurd (none-some R q)
+opened endLine R q = absurd (none-some R q)
+
+not-begun : begin ≢ finished
+not-begun e = omega (arith, ap rank e)
+
+pub open-wrong : (text : List ℕ) → ArrayAt text WrongOpening → Reading text (wrongAt 0)
+open-wrong text f =
+    wrong (λ s. absurd (not-begun s))
+    (λ l R rest q p. let (a, b, o, d, e, i, s, t) = opened l R q in f a b o d e rest (five-small a b o d e s t) (p ∙ ap (λ (m : Line). lineBytes m ++ rest) i))
+
+abbrev afterArray′ : ℕ → ℕ → ℕ → ℕ → ℕ → Reader
+afterArray′ a b o d e = record { stage = afterArray; from = 0; job = fresh a b o d e }
+
+pub open-refused : (text : List ℕ) (a b o d e : ℕ) (rest : List ℕ) → text ≡ lineBytes (arrayLine a b o d e) ++ rest
+    → (arrayFits a b && capsAdmitted o d e) ≡ false → Reading text (wrongAt 0)
+unfolding admit
+open-refused text a b o d e rest q n =
+    wrong (λ s. absurd (not-begun s)) (line-refused start text (arrayLine a b o d e) rest q (ap (λ (t : Bool). asking t (afterArray′ a b o d e)) n))
+
+-- ---- a line of a group
+
+and-true : (b : Bool) → b ≡ (b && true)
+and-true true = refl
+and-true false = refl
+
+pub and-false : (b : Bool) → (b && false) ≡ false
+and-false true = refl
+and-false false = refl
+
+-- where no line of a group and no end line begins, none begins that may stand after the array line
+pub none-stands : (R : Reader) (text : List ℕ) (at : ℕ) → 1 ≤ rank (R .stage) → R .job .rows ≤ 40 → R .job .columns ≤ 40 → LineAt text at WrongLine
+    → (l : Line) (R′ : Reader) (rest : List ℕ) → admit R l ≡ some R′ → drop at text ≢ lineBytes l ++ rest
+unfolding admit
+none-stands R text at k x y (f, h) (arrayLine a b o d e) R′ rest q p =
+    let (t, z) = asked (eqb (rank (R .stage)) 0 && (arrayFits a b && capsAdmitted o d e)) _ R′ q in
+    omega (arith, eqb→eq (rank (R .stage)) 0 (and-left (eqb (rank (R .stage)) 0) (arrayFits a b && capsAdmitted o d e) t))
+none-stands R text at k x y (f, h) (groupLine g r c) R′ rest q p =
+    let (t, z) = asked (inTurn R g r c && names (R .job) g r c) _ R′ q in
+    let (u, v) = names-inside (R .job) g r c (and-right (inTurn R g r c) (names (R .job) g r c) t) in
+    f g r c rest (omega arith) (omega arith) p
+none-stands R text at k x y (f, h) endLine R′ rest q p = h rest p
+
+-- the code's tests are those of the definitions
+module _ {R : Reader} {s f rows columns : ℕ} {chosen : List ℕ} (w : Follows R s f rows columns chosen) (begun : 1 ≤ s) (a : rows ≤ 40) (b : columns ≤ 40) where
+  abbrev bit : ℕ → ℕ → Bool
+  bit r c = eqb (getD chosen (40 * r + c) 0) 1
+
+  turn-same : (g : Group) (r c : ℕ) → turnFits s f (rank (within g)) (40 * r + c) ≡ inTurn R g r c
+  turn-same g r c =
+      (λ i. turnFits (w .stage i) (w .from i) (rank (within g)) (40 * r + c))
+      ∙ sym (ap (λ (b : Bool). b && turnFits (rank (R .stage)) (R .from) (rank (within g)) (40 * r + c)) (le-leb 1 (rank (R .stage)) (omega (arith, w .stage))))
+
+  names-same : (g : Group) (r c : ℕ) → namesFit rows columns (bit r c) (rank (within g)) r c ≡ names (R .job) g r c
+  names-same g r c = (λ i. namesFit (sym (w .high) i) (sym (w .wide) i) (bit r c) (rank (within g)) r c) ∙ by g
+    where
+      kept : (a x y : Bool) → (T a → x ≡ y) → (a && not x) ≡ (a && not y)
+      kept true x y e = ap not (e tt)
+      kept false x y e = refl
+
+      inside : T (isPin (R .job) r c) → bit r c ≡ eqb (R .job .mark r c) 1
+      inside t =
+          let (x, y) = names-inside (R .job) chosenPins r c t in
+          w .marks r c (omega (arith, w .high)) (omega (arith, w .wide))
+
+      by : (h : Group) → namesFit (R .job .rows) (R .job .columns) (bit r c) (rank (within h)) r c ≡ names (R .job) h r c
+      by chosenPins = sym (and-true (isPin (R .job) r c))
+      by missingPins = kept (isPin (R .job) r c) (bit r c) (eqb (R .job .mark r c) 1) inside
+      by closedTiles = refl
+
+  -- a line of a group at the offset
+  module _ (text : List ℕ) (at n r c next : ℕ) (g : Group) (is : n ≡ rank (within g)) (here : drop at text ≡ lineBytes (groupLine g r c) ++ drop next text)
+    where
+      pub step-group : (d : Cursor) → next ≤ length text → d .at ≡ next → d .stage ≡ n → d .from ≡ 40 * r + c + 1 → turnFits s f n (40 * r + c) ≡ true
+          → namesFit rows columns (bit r c) n r c ≡ true → Stepped text R at (To d)
+      unfolding admit
+      step-group d l i j k t u =
+          byGroup {d = d} g r c (λ z. asking ((sym (turn-same g r c) ∙ (ap (λ (m : ℕ). turnFits s f m (40 * r + c)) (sym is) ∙ t)) z
+          && (sym (names-same g r c) ∙ (ap (λ (m : ℕ). namesFit rows columns (bit r c) m r c) (sym is) ∙ u)) z) (afterGroup R g r c)) (j ∙ is) k (omega arith)
+          (here ∙ ap (λ (m : ℕ). lineBytes (groupLine g r c) ++ drop m text) (sym i))
+
+      pub step-out-of-turn : turnFits s f n (40 * r + c) ≡ false → Stepped text R at Wrong
+      unfolding admit
+      step-out-of-turn t =
+          stops (line-refused R (drop at text) (groupLine g r c) (drop next text) here
+          (λ z. asking ((sym (turn-same g r c) ∙ (ap (λ (m : ℕ). turnFits s f m (40 * r + c)) (sym is) ∙ t)) z && names (R .job) g r c) (afterGroup R g r c)))
+
+      pub step-unnamed : namesFit rows columns (bit r c) n r c ≡ false → Stepped text R at Wrong
+      unfolding admit
+      step-unnamed u =
+          stops (line-refused R (drop at text) (groupLine g r c) (drop next text) here
+          ((λ z. asking (inTurn R g r c && (sym (names-same g r c) ∙ (ap (λ (m : ℕ). namesFit rows columns (bit r c) m r c) (sym is) ∙ u)) z)
+          (afterGroup R g r c))
+          ∙ ap (λ (b : Bool). asking b (afterGroup R g r c)) (and-false (inTurn R g r c))))
+
+  -- the end line at the offset
+  pub step-end : (text : List ℕ) (at next : ℕ) (d : Cursor) → s < 5 → next ≤ length text → d .at ≡ next → d .stage ≡ 5 → d .from ≡ 0
+      → drop at text ≡ lineBytes endLine ++ drop next text → Stepped text R at (To d)
+  unfolding admit
+  step-end text at next d l m i j k q =
+      byEnd {d = d} (λ z. asking (le-leb 1 (rank (R .stage)) (omega (arith, w .stage)) z && lt-ltb (rank (R .stage)) 5 (omega (arith, w .stage)) z)
+      (afterEnd R)) j k
+      (omega arith) (q ∙ ap (λ (p : ℕ). lineBytes endLine ++ drop p text) (sym i))
+
+  -- no line of a group and no end line at the offset
+  pub step-wrong : (text : List ℕ) (at : ℕ) → LineAt text at WrongLine → Stepped text R at Wrong
+  step-wrong text at f = stops (none-stands R text at (omega (arith, w .stage)) (omega (arith, w .high)) (omega (arith, w .wide)) f)

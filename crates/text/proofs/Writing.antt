@@ -1,0 +1,183 @@
+-- A job written line by line from a text that reads: at each line the record is that of the job so far, and the reader that stands there reads the rest of
+-- the text as the same job. Assumes nothing.
+use mathlib.Core.Path.{_≡_, refl, sym, ap, subst, _∙_}
+use mathlib.Core.Logic.{_≢_}
+use mathlib.Core.Bool.{_&&_}
+use mathlib.Core.List.{List, _++_}
+use mathlib.Core.Option.{some}
+use Prim.Native.Nat.{ℕ, _+_, _-_, _≤_, _<_}
+use native.Mathlib.Omega.{arith}
+use lib.Dec.{T, leb, ltb}
+use lib.ListN.{length, drop, set}
+use Rattle.sums.specs.Tests.{and-left, and-right}
+use Rattle.model.specs.Job.{Job, fresh, arrayFits, capsAdmitted}
+use Rattle.model.specs.Record.{recordSize, markPlane, statePlane, offset, noLoads, unwiredRecord, over}
+use Rattle.model.specs.Text.{Group as TextGroup, chosenPins, missingPins, closedTiles, Line, arrayLine, groupLine, endLine, lineBytes, afterArray}
+use Rattle.model.specs.Text.{finished, within, rank, Reader}
+use Rattle.model.specs.Text.{inTurn, names, named, admit, Verdict, reads, wrongAt, Reads, ended, line, wrong, Reading}
+use Rattle.model.proofs.TextUnique.{line-unique, line-some, reads-unique}
+use Rattle.model.proofs.TextProper.{asked}
+use Rattle.model.proofs.TextNames.{rank-group, names-inside, Alike, named-alike}
+use Rattle.channel.specs.Written.{marked-over, closed-over, over-over}
+use Rattle.text.specs.declared.lines.Line.the-variants.{Group, End, Wrong as WrongLine}
+use Rattle.text.specs.Lines.{LineAt}
+use Rattle.text.specs.Reader.{afterGroup, afterEnd}
+use Rattle.text.proofs.Standing.{array-small, none-stands}
+use Rattle.text.proofs.Midway.{line-length, finished-none}
+
+-- ---- reading on
+
+-- a verdict that gives a job
+abbrev Well : Verdict → Type 0
+Well (reads K) = Unit {0}
+Well (wrongAt o) = ⊥
+
+-- the reader after the line that begins there
+reads-on : {R : Reader} {o : ℕ} {text : List ℕ} {v : Verdict} (l : Line) (rest : List ℕ) → text ≡ lineBytes l ++ rest → Well v → Reads R o text v
+    → (R′ : Reader) × (admit R l ≡ some R′) × Reads R′ (o + length (lineBytes l)) rest v
+reads-on l rest q t (ended g e) = absurd (line-some l rest (sym e ∙ q))
+reads-on {R} {o} {text} {v} l rest q t (line m S more b p r) =
+    let (x, y) = line-unique l m rest more (sym q ∙ p) in (
+      S,
+      ap (admit R) x ∙ b,
+      subst (λ (n : Line). Reads S (o + length (lineBytes n)) rest v) (sym x)
+          (subst (λ (X : List ℕ). Reads S (o + length (lineBytes m)) X v) (sym y) r),
+    )
+reads-on l rest q t (wrong f n) = absurd t
+
+-- a finished reader has the text's job
+finished-job : {R : Reader} {o : ℕ} {text : List ℕ} {v : Verdict} → R .stage ≡ finished → Well v → Reads R o text v → reads (R .job) ≡ v
+finished-job z t (ended g e) = refl
+finished-job {R} z t (line m S more b p r) = absurd (finished-none R m S z b)
+finished-job z t (wrong f n) = absurd t
+
+same-job : (K L : Job) → reads K ≡ reads L → K ≡ L
+same-job K L e = cc
+
+-- one that is not finished stands before a line
+none-read : {R : Reader} {o : ℕ} {text : List ℕ} {v : Verdict} → rank (R .stage) ≤ 4
+    → ((l : Line) (R′ : Reader) (rest : List ℕ) → admit R l ≡ some R′ → text ≡ lineBytes l ++ rest → ⊥) → Well v → Reads R o text v → ⊥
+none-read l n t (ended g e) = omega (arith, ap rank g)
+none-read l n t (line m S more b p r) = n m S more b p
+none-read l n t (wrong f h) = t
+
+named-size : (J : Job) (g : TextGroup) (r c : ℕ) → (named J g r c .rows ≡ J .rows) × (named J g r c .columns ≡ J .columns)
+named-size J g r c =
+    let a : Alike (named J g r c) J = named-alike J J g r c (record { rows = refl; columns = refl; O = refl; D = refl; E = refl }) in
+    (a .rows, a .columns)
+
+-- ---- the record so far
+
+pub record Writing (text rec : List ℕ) (K : Job) (at : ℕ) (out : List ℕ) : Type 0 where
+  pub reader : Reader
+  pub begun : 1 ≤ rank (reader .stage)
+  pub going : rank (reader .stage) ≤ 4
+  pub high : reader .job .rows ≤ 40
+  pub wide : reader .job .columns ≤ 40
+  pub rest : Reads reader at (drop at text) (reads K)
+  pub here : out ≡ over (unwiredRecord (reader .job)) rec
+
+-- after the array line
+pub writing-open : (text rec out : List ℕ) (a b o d e next : ℕ) → next ≤ length text → text ≡ lineBytes (arrayLine a b o d e) ++ drop next text
+    → out ≡ over (unwiredRecord (fresh a b o d e)) rec → (K : Job) → Reading text (reads K) → Writing text out K next out
+unfolding admit
+writing-open text rec out a b o d e next l q x K h =
+    let (R′, s, r) = reads-on (arrayLine a b o d e) (drop next text) q tt h in
+    let (t, z) = asked (arrayFits a b && capsAdmitted o d e) R R′ s in
+    let (y, w) = array-small a b (and-left (arrayFits a b) (capsAdmitted o d e) t) in
+    record {
+      reader = R;
+      begun = omega arith;
+      going = omega arith;
+      high = y;
+      wide = w;
+      rest = subst (λ (S : Reader). Reads S next (drop next text) (reads K)) (sym z)
+          (subst (λ (n : ℕ). Reads R′ n (drop next text) (reads K)) (sym (line-length text 0 next (arrayLine a b o d e) (omega arith) l q .0)) r);
+      here = x ∙ (sym (over-over J J noLoads noLoads rec) ∙ ap (over (unwiredRecord J)) (sym x));
+    }
+  where
+    J : Job
+    J = fresh a b o d e
+
+    R : Reader
+    R = record { stage = afterArray; from = 0; job = J }
+
+module _ {text rec : List ℕ} {K : Job} {at : ℕ} {out : List ℕ} (w : Writing text rec K at out) where
+  abbrev R : Reader
+  R = w .reader
+
+  -- ---- a line of a group
+
+  module _ (inside : at ≤ length text) (n r c next : ℕ) (f : LineAt text at (Group n r c next)) where
+    abbrev g : TextGroup
+    g = f .0
+
+    -- the pin or tile that it names, and the reader after it
+    group-read : T (names (R .job) g r c) × Reads (afterGroup R g r c) next (drop next text) (reads K)
+    unfolding admit
+    group-read =
+        let (R′, s, x) = reads-on (groupLine g r c) (drop next text) (f .5) tt (w .rest) in
+        let (t, z) = asked (inTurn R g r c && names (R .job) g r c) (afterGroup R g r c) R′ s in (
+          and-right (inTurn R g r c) (names (R .job) g r c) t,
+          subst (λ (S : Reader). Reads S next (drop next text) (reads K)) (sym z)
+              (subst (λ (o : ℕ). Reads R′ o (drop next text) (reads K)) (sym (line-length text at next (groupLine g r c) inside (f .4) (f .5) .0)) x),
+        )
+
+    pub group-cell : (r < 40) × (c < 40)
+    group-cell =
+        let (x, y) = names-inside (R .job) g r c (group-read .0) in
+        (omega (arith, w .high), omega (arith, w .wide))
+
+    pub group-rank : (2 ≤ n) × (n ≤ 4)
+    group-rank = (omega (arith, f .1, rank-group g .0), omega (arith, f .1, rank-group g .1))
+
+    writing-group : (new : List ℕ) → new ≡ over (unwiredRecord (named (R .job) g r c)) rec → Writing text rec K next new
+    writing-group new e =
+        record {
+          reader = afterGroup R g r c;
+          begun = omega (arith, rank-group g .0);
+          going = rank-group g .1;
+          high = omega (arith, w .high, named-size (R .job) g r c .0);
+          wide = omega (arith, w .wide, named-size (R .job) g r c .1);
+          rest = group-read .1;
+          here = e;
+        }
+
+    module _ (long : recordSize ≤ length rec) where
+      closed-so : (h : TextGroup) → rank (within h) ≡ 4 → set out (offset statePlane r c) 1 ≡ over (unwiredRecord (named (R .job) h r c)) rec
+      closed-so chosenPins e = absurd (omega arith)
+      closed-so missingPins e = absurd (omega arith)
+      closed-so closedTiles e =
+          ap (λ (s : List ℕ). set s (offset statePlane r c) 1) (w .here) ∙ closed-over (R .job) rec r c 1 long (group-cell .0) (group-cell .1)
+
+      marked-so : (h : TextGroup) → rank (within h) ≢ 4 → set out (offset markPlane r c) (rank (within h) - 1) ≡ over (unwiredRecord (named (R .job) h r c)) rec
+      marked-so chosenPins e =
+          ap (λ (s : List ℕ). set s (offset markPlane r c) 1) (w .here) ∙ marked-over (R .job) rec r c 1 long (group-cell .0) (group-cell .1)
+      marked-so missingPins e =
+          ap (λ (s : List ℕ). set s (offset markPlane r c) 2) (w .here) ∙ marked-over (R .job) rec r c 2 long (group-cell .0) (group-cell .1)
+      marked-so closedTiles e = absurd (e refl)
+
+      pub writing-closed : n ≡ 4 → (new : List ℕ) → new ≡ set out (offset statePlane r c) 1 → Writing text rec K next new
+      writing-closed e new q = writing-group new (q ∙ closed-so g (sym (f .1) ∙ e))
+
+      pub writing-marked : n ≢ 4 → (new : List ℕ) → new ≡ set out (offset markPlane r c) (n - 1) → Writing text rec K next new
+      writing-marked e new q =
+          writing-group new (q ∙ (ap (λ (k : ℕ). set out (offset markPlane r c) (k - 1)) (f .1) ∙ marked-so g (λ x. e (f .1 ∙ x))))
+
+  -- ---- the end
+
+  -- where no line of a group begins, the job is whole
+  pub writing-ended : (next : ℕ) → LineAt text at (End next) → out ≡ over (unwiredRecord K) rec
+  unfolding admit
+  writing-ended next (l, q) =
+      let (R′, s, x) = reads-on endLine (drop next text) q tt (w .rest) in
+      let (t, z) = asked (leb 1 (rank (R .stage)) && ltb (rank (R .stage)) 5) (afterEnd R) R′ s in
+      let e : R .job ≡ K = same-job (R .job) K (ap (λ (S : Reader). reads (S .job)) z ∙ finished-job (ap (λ (S : Reader). S .stage) (sym z)) tt x) in
+      w .here ∙ ap (λ (J : Job). over (unwiredRecord J) rec) e
+
+  pub writing-wrong : LineAt text at WrongLine → ⊥
+  writing-wrong f = none-read (w .going) (none-stands R text at (w .begun) (w .high) (w .wide) f) tt (w .rest)
+
+-- a text has one verdict
+pub not-both : (text : List ℕ) (K : Job) (o : ℕ) → Reading text (reads K) → Reading text (wrongAt o) → ⊥
+not-both text K o h k = let e : reads K ≡ wrongAt o = reads-unique h k in let z : _≡_ {A = ℕ} 0 1 = cc in omega arith

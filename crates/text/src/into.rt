@@ -1,0 +1,63 @@
+// The job of a text in a record. The text is judged as a whole first, so a text that is wrong leaves every byte.
+use crate::lines::Line;
+use crate::lines::Opening;
+use crate::lines::array_at;
+use crate::lines::line_at;
+use crate::reader::Judged;
+use crate::reader::judge;
+ghost use Prim.Native.Nat.{_≤_};
+ghost use lib.ListN.{length};
+ghost use Rattle.model.specs.Record.{recordSize};
+ghost use Rattle.text.specs.Into.{Readable, Holds, ReadsInto};
+
+// The job of a text that reads, line by line. The groups' marks are 1 and 2; a closed tile's state is 1.
+fn write_job(text: &[u8], rec: &mut [u8])
+    requires { ⌜ recordSize ≤ length (now rec) ⌝ }
+    requires { ⌜ Readable (now text) ⌝ }
+    ensures { λ _. ⌜ Holds (now (text .entry)) (now (rec .entry)) (now (rec .exit)) ⌝ }
+{
+    let Opening::Array {
+        rows,
+        columns,
+        o,
+        d,
+        e,
+        next,
+    } = array_at(text)
+    else {
+        return;
+    };
+    channel::write_fresh(rec, rows, columns, o, d, e);
+    let mut at = next;
+    loop {
+        let Line::Group {
+            group,
+            row,
+            column,
+            next,
+        } = line_at(text, at)
+        else {
+            return;
+        };
+        if group == 4 {
+            channel::set_state(rec, row, column, 1);
+            at = next;
+        } else {
+            channel::set_mark(rec, row, column, group - 1);
+            at = next;
+        }
+    }
+}
+
+// The judgement of a text, and its job in the record if it reads.
+pub fn read_into(text: &[u8], rec: &mut [u8]) -> Judged
+    requires { ⌜ recordSize ≤ length (now rec) ⌝ }
+    ensures { λ r. ⌜ ReadsInto (now (text .entry)) (now (rec .entry)) (now (rec .exit)) r ⌝ }
+{
+    let judged = judge(text);
+    let Judged::Reads = judged else {
+        return judged;
+    };
+    write_job(text, rec);
+    Judged::Reads
+}

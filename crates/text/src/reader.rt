@@ -1,0 +1,185 @@
+// The reader of a job text: a cursor by value, which takes each line that may stand where it stands, and the judgement of a whole text.
+use crate::lines::Line;
+use crate::lines::Opening;
+use crate::lines::array_at;
+use crate::lines::line_at;
+use model::Array;
+use model::Capacities;
+ghost use mathlib.Core.Path.{_≡_};
+ghost use Prim.Native.Nat.{_+_, _*_, _≤_, _<_};
+ghost use lib.ListN.{length, getD};
+ghost use lib.Dec.{eqb};
+ghost use Rattle.text.specs.Reader.{turnFits, namesFit, Opens, Leads, Judges};
+
+// What a text is: a job's, or wrong at a line's offset.
+pub enum Judged {
+    Reads,
+    WrongAt(usize),
+}
+
+// The array line, if it may stand at the start.
+pub fn opened(text: &[u8]) -> Opening
+    ensures { λ r. ⌜ Opens (now (text .entry)) r ⌝ }
+{
+    let Opening::Array {
+        rows,
+        columns,
+        o,
+        d,
+        e,
+        next,
+    } = array_at(text)
+    else {
+        return Opening::Wrong;
+    };
+    let array = Array { rows, columns };
+    if !array.fits() {
+        return Opening::Wrong;
+    }
+    let capacities = Capacities {
+        orthogonal: o,
+        diagonal: d,
+        extra: e,
+    };
+    if !capacities.admitted() {
+        return Opening::Wrong;
+    }
+    Opening::Array {
+        rows,
+        columns,
+        o,
+        d,
+        e,
+        next,
+    }
+}
+
+// Whether the array has the pin or tile that a line of a group names, and no other group names the pin.
+fn names(
+    rows: usize,
+    columns: usize,
+    chosen: &[u8; 1600],
+    group: usize,
+    row: usize,
+    column: usize,
+) -> bool
+    requires { ⌜ (rows ≤ 40) × (columns ≤ 40) × (row < 100) × (column < 100) ⌝ }
+    ensures { λ r. ⌜ r ≡ namesFit rows columns (eqb (getD (now (chosen .entry)) (40 * row + column) 0) 1) group row column ⌝ }
+{
+    if group == 4 {
+        if row + 1 < rows {
+            return column + 1 < columns;
+        }
+        return false;
+    }
+    if row >= rows {
+        return false;
+    }
+    if column >= columns {
+        return false;
+    }
+    if group == 3 {
+        return chosen[40 * row + column] != 1;
+    }
+    true
+}
+
+// The offset of the next line; the stage: 1 after the array, 2, 3, 4 in a group, 5 after the end; the least 40 r + c that the group may still name.
+pub struct Cursor {
+    pub at: usize,
+    pub stage: usize,
+    pub from: usize,
+}
+
+// Where the next line leads.
+pub enum Step {
+    To(Cursor),
+    Wrong,
+}
+
+impl Cursor {
+    // Whether a group's line at a cell is in turn.
+    fn in_turn(self, group: usize, cell: usize) -> bool
+        ensures { λ r. ⌜ r ≡ turnFits (self .stage) (self .from) group cell ⌝ }
+    {
+        if group < self.stage {
+            return false;
+        }
+        if group == self.stage {
+            return self.from <= cell;
+        }
+        true
+    }
+
+    // The next line, if it may stand there.
+    pub fn next(self, text: &[u8], rows: usize, columns: usize, chosen: &[u8; 1600]) -> Step
+        requires { ⌜ (self .at ≤ length (now text)) × (1 ≤ self .stage) × (self .stage < 5) × (rows ≤ 40) × (columns ≤ 40) ⌝ }
+        ensures { λ r. ⌜ Leads (now (text .entry)) self rows columns (now (chosen .entry)) r ⌝ }
+    {
+        let at = self.at;
+        match line_at(text, at) {
+            Line::Group {
+                group,
+                row,
+                column,
+                next,
+            } => {
+                let cell = 40 * row + column;
+                if !self.in_turn(group, cell) {
+                    return Step::Wrong;
+                }
+                if !names(rows, columns, chosen, group, row, column) {
+                    return Step::Wrong;
+                }
+                Step::To(Cursor {
+                    at: next,
+                    stage: group,
+                    from: cell + 1,
+                })
+            }
+            Line::End { next } => Step::To(Cursor {
+                at: next,
+                stage: 5,
+                from: 0,
+            }),
+            Line::Wrong => Step::Wrong,
+        }
+    }
+}
+
+// The judgement of a text: a job's, or the offset of the first line that may not stand there.
+pub fn judge(text: &[u8]) -> Judged
+    ensures { λ r. ⌜ Judges (now (text .entry)) r ⌝ }
+{
+    let Opening::Array {
+        rows,
+        columns,
+        o: _,
+        d: _,
+        e: _,
+        next,
+    } = opened(text)
+    else {
+        return Judged::WrongAt(0);
+    };
+    let mut chosen = [0u8; 1600];
+    let mut cursor = Cursor {
+        at: next,
+        stage: 1,
+        from: 0,
+    };
+    while cursor.stage < 5 {
+        let Step::To(then) = cursor.next(text, rows, columns, &chosen) else {
+            return Judged::WrongAt(cursor.at);
+        };
+        if then.stage == 2 {
+            let cell = then.from - 1;
+            chosen[cell] = 1;
+        }
+        cursor = then;
+    }
+    if cursor.at < text.len() {
+        return Judged::WrongAt(cursor.at);
+    }
+    Judged::Reads
+}

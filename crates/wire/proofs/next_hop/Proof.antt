@@ -1,0 +1,81 @@
+-- `wire::next_hop` meets its contract: outside the wire ends, and at a place it goes on as `partner` answers. Assumes nothing.
+use borrow.Author.Needs.{needs}
+use mathlib.Core.Path.{sym, _∙_}
+use native.Mathlib.Omega.{arith}
+use Rattle.wire.specs.Walks.{out-ends, slot-five, lane-comes, answer-five, goes-next}
+use Rattle.wire.proofs.next_hop.Statement.{statement}
+use Rattle.wire.proofs.next_hop.Tie as tie
+
+head-of-requires : tie.Need-head-of-requires
+head-of-requires c κs = search needs
+
+is-outside-requires : tie.Need-is-outside-requires
+is-outside-requires c κs = search needs
+
+returns : tie.Need-returns
+returns c =
+    let s = c .before .before .before .before in
+    out-ends (s .args .rec .now) (s .pre .0) (s .args .dart) (s .args .lane) (s .pre .1) _ (c .before .before .head-of .ensures .0)
+    (sym (c .before .is-outside .ensures) ∙ c .if1 .taken)
+
+step-back-requires : tie.Need-step-back-requires
+step-back-requires c κs = search needs
+
+mul-first : tie.Need-mul-first
+mul-first c = search needs
+
+arriving-requires : tie.Need-arriving-requires
+arriving-requires c κs = search needs
+
+departing-requires : tie.Need-departing-requires
+departing-requires c κs = search needs
+
+partner-requires : tie.Need-partner-requires
+partner-requires c κs =
+    let t = c .before .before in
+    let u = t .before .before .before in
+    let s = u .before .before .before .before in (
+      slot-five (s .args .rec .now) (s .pre .0) (s .args .dart) (s .args .lane) (s .pre .1) _ (u .before .before .head-of .ensures .0)
+          (sym (u .before .is-outside .ensures) ∙ u .if1 .left) _ (t .before .before .step-back .ensures .0),
+      lane-comes (s .args .rec .now) (s .pre .0) (s .args .dart) (s .args .lane) (s .pre .1) _ (u .before .before .head-of .ensures .0)
+          (sym (u .before .is-outside .ensures) ∙ u .if1 .left) _ (t .before .before .step-back .ensures .0)
+          _ _ (t .before .arriving .ensures) (t .departing .ensures),
+    )
+
+add-t12 : tie.Need-add-t12
+add-t12 c =
+    let t = c .before .before .before in
+    let u = t .before .before .before in
+    let s = u .before .before .before .before in
+    omega (
+      arith,
+      answer-five (s .args .rec .now) (s .pre .0) (s .args .dart) (s .args .lane) (s .pre .1) _ (u .before .before .head-of .ensures .0)
+          (sym (u .before .is-outside .ensures) ∙ u .if1 .left) _ (t .before .before .step-back .ensures .0)
+          _ _ (t .before .arriving .ensures) (t .departing .ensures)
+          _ _ (c .partner .ensures),
+    )
+
+returns-2 : tie.Need-returns-2
+returns-2 c =
+    let t = c .before .before .before in
+    let u = t .before .before .before in
+    let s = u .before .before .before .before in
+    goes-next (s .args .rec .now) (s .pre .0) (s .args .dart) (s .args .lane) (s .pre .1) _ (u .before .before .head-of .ensures .0)
+    (sym (u .before .is-outside .ensures) ∙ u .if1 .left) _ (t .before .before .step-back .ensures .0)
+    _ _ (t .before .arriving .ensures) (t .departing .ensures)
+    _ _ (c .partner .ensures)
+
+pub next-hop-spec : {M : Type 1} → statement M
+next-hop-spec =
+    tie.close
+    (tie.spec
+    head-of-requires
+    is-outside-requires
+    returns
+    step-back-requires
+    mul-first
+    arriving-requires
+    departing-requires
+    partner-requires
+    add-t12
+    returns-2)
