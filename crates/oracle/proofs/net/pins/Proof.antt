@@ -1,0 +1,33 @@
+-- `oracle::net::pins` is safe and ends. The loop's counter is at most its end. Assumes nothing.
+use Prim.Native.Nat.{_≤_, _-_}
+use borrow.Author.Needs.{needs}
+use Rattle.oracle.proofs.net.pins.Statement.{statement}
+use Rattle.oracle.proofs.net.pins.Tie as tie
+
+abbrev Inv-loop : tie.InvT-loop
+Inv-loop m₀ job p₀ m p = p ≤ 1600
+
+abbrev μ-loop : tie.MeasureT-loop
+μ-loop m₀ job p₀ m p = 1600 - p
+
+loop-holds : tie.Need-loop-holds Inv-loop μ-loop
+loop-holds c = search needs
+
+pin-requires : tie.Need-pin-requires Inv-loop μ-loop
+pin-requires c κs = search needs
+
+add-p : tie.Need-add-p Inv-loop μ-loop
+add-p c = search needs
+
+loop-less : tie.Need-loop-less Inv-loop μ-loop
+loop-less c = search needs
+
+loop-again : tie.Need-loop-again Inv-loop μ-loop
+loop-again c = search needs
+
+returns : tie.Need-returns Inv-loop μ-loop
+returns c = search needs
+
+pub pins-spec : {M : Type 1} → statement M
+pins-spec =
+    tie.close (tie.spec Inv-loop μ-loop loop-holds pin-requires add-p loop-less loop-again returns)
