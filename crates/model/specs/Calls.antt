@@ -142,11 +142,12 @@ pub record OneMore (rec rec′ : List ℕ) : Type 0 where
   pub number : wiresIn rec′ ≡ suc (wiresIn rec)
   pub others : (r c : ℕ) → (T (eqb r row && eqb c column) → ⊥) → wiredIn rec′ r c ≡ wiredIn rec r c
 
--- "Stepping says added while more wires fit"; "the last two change no record byte". g is the greatest number.
-pub data Stepped (rec : List ℕ) (g : ℕ) : Answer → List ℕ → Type 0 where
-  adds : {rec′ : List ℕ} → wiresIn rec < g → OneMore rec rec′ → Stepped rec g added rec′
-  stays : {rec′ : List ℕ} → wiresIn rec ≡ chosenCount (jobOf rec) → rec′ ≡ rec → Stepped rec g allWired rec′
-  lacking : {rec′ : List ℕ} → wiresIn rec ≡ g → g < chosenCount (jobOf rec) → rec′ ≡ rec → Stepped rec g short rec′
+-- "Stepping says added while more wires fit": "all wired" only where every chosen pin is, "short" only where the wires are the greatest number and that is
+-- less; "the last two change no record byte".
+pub data Stepped (rec : List ℕ) : Answer → List ℕ → Type 0 where
+  adds : {rec′ : List ℕ} → OneMore rec rec′ → Stepped rec added rec′
+  stays : {rec′ : List ℕ} → wiresIn rec ≡ chosenCount (jobOf rec) → rec′ ≡ rec → Stepped rec allWired rec′
+  lacking : {rec′ : List ℕ} → Greatest (jobOf rec) (wiresIn rec) → wiresIn rec < chosenCount (jobOf rec) → rec′ ≡ rec → Stepped rec short rec′
 
 -- "one byte (1 near, 0 not) per pin, place, entry and exit in the published order, the rest of the output zero"
 abbrev pub nearBytes : (ℕ → Bool) → List ℕ
@@ -167,8 +168,7 @@ pub record On (rec scratch output : List ℕ) (a : After) (Accepts : Type 0) : T
 -- "8 scratch under 65,536 bytes"
 pub record Steps (scratch rec : List ℕ) (a : After) : Type 0 where
   pub small : length scratch < scratchSize → a ≡ after (refused 8) rec scratch []
-  pub enough : scratchSize ≤ length scratch
-      → (g : ℕ) × Greatest (jobOf rec) g × Stepped rec g (a .answer) (a .rec) × (a .scratch ≡ cleared scratch) × (a .output ≡ [])
+  pub enough : scratchSize ≤ length scratch → Stepped rec (a .answer) (a .rec) × (a .scratch ≡ cleared scratch) × (a .output ≡ [])
 
 -- "8; 7 output under 32,768 bytes. Gives chosen minus greatest number and, where that is not 0," the near side
 pub record Lacks (scratch output rec : List ℕ) (a : After) : Type 0 where

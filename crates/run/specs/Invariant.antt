@@ -155,8 +155,8 @@ module _ (S : Service) (rec : List ℕ) (J : Job) (k : Kept rec J) where
   stays-kept : {rec′ : List ℕ} → rec′ ≡ rec → Kept rec′ J
   stays-kept e = subst (λ (x : List ℕ). Kept x J) (sym e) k
 
-  pub stepped-kept : {g : ℕ} {x : Answer} {rec′ : List ℕ} → Stepped rec g x rec′ → Accepted x × Kept rec′ J
-  stepped-kept (adds l o) =
+  pub stepped-kept : {x : Answer} {rec′ : List ℕ} → Stepped rec x rec′ → Accepted x × Kept rec′ J
+  stepped-kept (adds o) =
       let (bytes, size, e) = o .rest in (
         refl,
         record {
@@ -166,13 +166,13 @@ module _ (S : Service) (rec : List ℕ) (J : Job) (k : Kept rec J) where
         },
       )
   stepped-kept (stays w e) = (refl, stays-kept e)
-  stepped-kept (lacking w l e) = (refl, stays-kept e)
+  stepped-kept (lacking G l e) = (refl, stays-kept e)
 
   step-leaves : (scratch : List ℕ) (a : After) → Steps scratch rec a → Leaves S (step scratch) rec J a
   step-leaves scratch a d = by (leb scratchSize (length scratch)) (leb→le scratchSize (length scratch)) (nleb→lt scratchSize (length scratch))
     where
       by : (b : Bool) → (T b → scratchSize ≤ length scratch) → (T (not b) → length scratch < scratchSize) → Leaves S (step scratch) rec J a
-      by true f h = let (x, y) = stepped-kept (d .enough (f tt) .2) in accepts J x refl y
+      by true f h = let (x, y) = stepped-kept (d .enough (f tt) .0) in accepts J x refl y
       by false f h = subst (Leaves S (step scratch) rec J) (sym (d .small (h tt))) (refuses 8 refl (omega arith) refl)
 
   shortfall-leaves : (scratch output : List ℕ) (a : After) → Lacks scratch output rec a → Leaves S (shortfall scratch output) rec J a

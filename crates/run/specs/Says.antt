@@ -11,7 +11,7 @@ use Rattle.sums.specs.Entries.{none-some}
 use Rattle.model.specs.Job.{Job}
 use Rattle.model.specs.Route.{Greatest, chosenCount}
 use Rattle.model.specs.Record.{scratchSize, jobOf, load}
-use Rattle.model.specs.Calls.{step, Answer, added, allWired, short, refusal, Accepted, After, wiresIn, Stepped, adds, stays, lacking, Steps}
+use Rattle.model.specs.Calls.{step, shortfall, Answer, added, allWired, short, refusal, Accepted, After, wiresIn, Stepped, adds, stays, lacking, Steps, Lacks}
 use Rattle.model.specs.Run.{Buffer, Service}
 use Rattle.model.proofs.Unique.{greatest-unique}
 use Rattle.model.proofs.Empty.{greatest-le-chosen}
@@ -27,7 +27,7 @@ pub data Says (J : Job) (g : ℕ) (rec : List ℕ) : Answer → List ℕ → Typ
 -- a step that is lent enough is accepted, and one that is accepted was lent enough
 pub enough-accepted : (S : Service) (rec scratch : List ℕ) (J : Job) (a : After) → Kept rec J → Steps scratch rec a → scratchSize ≤ length scratch
     → Accepted (a .answer)
-enough-accepted S rec scratch J a k d l = stepped-kept S rec J k (d .enough l .2) .0
+enough-accepted S rec scratch J a k d l = stepped-kept S rec J k (d .enough l .0) .0
 
 step-lent : (rec scratch : List ℕ) (a : After) → Steps scratch rec a → Accepted (a .answer) → scratchSize ≤ length scratch
 step-lent rec scratch a d x = by (leb scratchSize (length scratch)) (leb→le scratchSize (length scratch)) (nleb→lt scratchSize (length scratch))
@@ -40,7 +40,9 @@ module _ (S : Service) (J : Job) where
   -- the service itself finds the greatest number
   pub greatest-there : (rec : List ℕ) → Kept rec J → (g : ℕ) × Greatest J g
   greatest-there rec k =
-      let (g, G, s, c, o) = S .did (step zeroScratch) rec scratch-buffer (k .buffer) .legal (k .legal) .enough scratch-long in
+      let d : Lacks zeroScratch zeroScratch rec (S .does (shortfall zeroScratch zeroScratch) rec) =
+      S .did (shortfall zeroScratch zeroScratch) rec (scratch-buffer, scratch-buffer) (k .buffer) .legal (k .legal) in
+      let (g, G, e, s, r, c) = d .enough scratch-long (omega (arith, scratch-long)) in
       (g, subst (λ (X : Job). Greatest X g) (k .job) G)
 
   module _ (g : ℕ) (G : Greatest J g) where
@@ -52,17 +54,20 @@ module _ (S : Service) (J : Job) where
         let (rs, H, F) = sound-holds (jobOf rec) (load rec) (k .legal .sound) in
         omega (arith, H .number, subst (λ (X : Job). Greatest X g) (sym (k .job)) G .most rs F)
 
-    stepped-says : {x : Answer} {rec′ : List ℕ} (rec : List ℕ) (h : ℕ) → Kept rec J → h ≡ g → Stepped rec h x rec′ → Says J g rec x rec′
-    stepped-says rec h k e (adds l o) = one (omega arith) (stepped-kept S rec J k {g = h} (adds l o) .1) (o .number)
-    stepped-says rec h k e (stays w q) =
+    stepped-says : {x : Answer} {rec′ : List ℕ} (rec : List ℕ) → Kept rec J → Stepped rec x rec′ → Says J g rec x rec′
+    stepped-says rec k (adds {rec′ = rec′} o) =
+        let k′ : Kept rec′ J = stepped-kept S rec J k (adds o) .1 in
+        one (omega (arith, held-le rec′ k′, o .number)) k′ (o .number)
+    stepped-says rec k (stays w q) =
         let c : chosenCount (jobOf rec) ≡ chosenCount J = ap chosenCount (k .job) in
         all (omega (arith, held-le rec k, greatest-le-chosen J g G)) (omega (arith, held-le rec k, greatest-le-chosen J g G)) q
-    stepped-says rec h k e (lacking w l q) = few (omega arith) (omega (arith, ap chosenCount (k .job))) q
+    stepped-says rec k (lacking H l q) =
+        let e : wiresIn rec ≡ g = same-greatest rec (wiresIn rec) k H in
+        few e (omega (arith, ap chosenCount (k .job))) q
 
     pub step-says : (rec scratch : List ℕ) → Kept rec J → Buffer scratch → Accepted (S .does (step scratch) rec .answer)
         → Says J g rec (S .does (step scratch) rec .answer) (S .does (step scratch) rec .rec)
     step-says rec scratch k b x =
         let a : After = S .does (step scratch) rec in
         let d : Steps scratch rec a = S .did (step scratch) rec b (k .buffer) .legal (k .legal) in
-        let (h, H, s, c, o) = d .enough (step-lent rec scratch a d x) in
-        stepped-says rec h k (same-greatest rec h k H) s
+        stepped-says rec k (d .enough (step-lent rec scratch a d x) .0)
