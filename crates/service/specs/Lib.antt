@@ -1,0 +1,10 @@
+-- document 01's number and values for each answer
+pub mod Answers
+-- what a call on a damaged and on a legal record leaves
+pub mod Outcomes
+-- what Mark and Close store
+pub mod Edits
+-- what New and Read text answer
+pub mod Anew
+-- what Part answers
+pub mod Parts

@@ -1,0 +1,20 @@
+// Read text and Write text.
+use crate::answer::Answer;
+use text::Judged;
+use text::read_into;
+ghost use mathlib.Core.List.{[]};
+ghost use Rattle.model.specs.Calls.{readText, after, Did};
+ghost use Rattle.service.specs.Answers.{asAnswer};
+
+// The job of a text.
+pub fn read_text(rec: &mut [u8], text: &[u8]) -> Answer
+    ensures { λ a. ⌜ Did (readText (now (text .entry))) (now (rec .entry)) (after (asAnswer a) (now (rec .exit)) [] []) ⌝ }
+{
+    if rec.len() < 32768 {
+        return Answer::Refused(1);
+    }
+    match read_into(text, rec) {
+        Judged::Reads => Answer::Done,
+        Judged::WrongAt(o) => Answer::WrongText(o),
+    }
+}
