@@ -1,0 +1,2 @@
+-- how far a text is read
+pub mod TextBound

@@ -1,0 +1,156 @@
+-- Document 01, "Job text": a text is read or refused within its first 320,200 bytes, for the lines that may stand have rising turns, of which there are 8,005,
+-- and no line has more than 40 bytes. Assumes nothing.
+use mathlib.Core.Path.{_≡_, refl, sym, ap, subst, _∙_}
+use mathlib.Core.Bool.{Bool, true, false, _&&_}
+use mathlib.Core.List.{List, [], _∷_, _++_}
+use mathlib.Core.Option.{some}
+use Prim.Native.Nat.{ℕ, suc, _+_, _-_, _*_, _/_, _%_, _≤_, _<_}
+use native.Mathlib.Omega.{arith}
+use lib.Dec.{T, eqb, leb, ltb, leb→le, eqb→eq, ltb→lt}
+use lib.ListN.{length, length-append}
+use borrow.Author.Tests.{eq-eqb}
+use Rattle.sums.specs.Counting.{when, only}
+use Rattle.sums.specs.Tests.{Same, same, other, same?, and-left, and-right}
+use Rattle.model.specs.Job.{Job, inRange, arrayFits, capsAdmitted, Proper}
+use Rattle.model.specs.Text.{Group, chosenPins, missingPins, closedTiles, Line, arrayLine, groupLine, endLine, decimal, numbers, form, arrayWord, pinsWord}
+use Rattle.model.specs.Text.{capsWord, groupWord, endWord, formOf, lineBytes, within, rank, Reader, names, named, admit, Verdict, reads, wrongAt, Reads, ended}
+use Rattle.model.specs.Text.{line, wrong, Reading, textOf}
+use Rattle.model.proofs.RecordOf.{range-most}
+use Rattle.model.proofs.TextProper.{asked}
+use Rattle.model.proofs.TextNames.{due, rank-group, names-inside}
+use Rattle.model.proofs.RoundTrip.{round-trip}
+
+-- ---- bytes of a line
+
+digits : (b : Bool) (x y : ℕ) → length (only b (x ∷ []) ++ (y ∷ [])) ≤ 2
+digits true x y = omega arith
+digits false x y = omega arith
+
+number-short : (n : ℕ) → length (decimal n) ≤ 2
+number-short n = digits (leb 10 n) (48 + n / 10) (48 + n % 10)
+
+numbers-short : (l : List ℕ) → length (numbers l) ≤ 3 * length l
+numbers-short [] = omega arith
+numbers-short (n ∷ l) = omega (arith, length-append (decimal n) (numbers l), number-short n, numbers-short l)
+
+form-short : (word l : List ℕ) → length (form word l) ≤ 2 + (length word + 3 * length l)
+form-short word l =
+    omega (arith, length-append word (numbers l ++ (41 ∷ [])), length-append (numbers l) (41 ∷ []), numbers-short l)
+
+group-short : (g : Group) → length (groupWord g) ≤ 7
+group-short chosenPins = omega arith
+group-short missingPins = omega arith
+group-short closedTiles = omega arith
+
+forms-short : (l : Line) → length (formOf l) ≤ 39
+forms-short (arrayLine a b o d e) =
+    let x : List ℕ = form pinsWord (a ∷ b ∷ []) in
+    let y : List ℕ = form capsWord (o ∷ d ∷ e ∷ []) in
+    omega (
+      arith,
+      length-append arrayWord (32 ∷ x ++ (32 ∷ y ++ (41 ∷ []))),
+      length-append x (32 ∷ y ++ (41 ∷ [])),
+      length-append y (41 ∷ []),
+      form-short pinsWord (a ∷ b ∷ []),
+      form-short capsWord (o ∷ d ∷ e ∷ []),
+    )
+forms-short (groupLine g r c) = omega (arith, form-short (groupWord g) (r ∷ c ∷ []), group-short g)
+forms-short endLine = omega (arith, form-short endWord [])
+
+line-short : (l : Line) → length (lineBytes l) ≤ 40
+unfolding lineBytes
+line-short l = omega (arith, length-append (formOf l) (10 ∷ []), forms-short l)
+
+-- ---- turns
+
+-- how many lines may still follow
+abbrev left : Reader → ℕ
+left R = (8000 - due R) + (5 - rank (R .stage))
+
+record Midst (R : Reader) : Type 0 where
+  from : R .from ≤ 1600
+  turn : due R ≤ 8000
+  size : 1 ≤ rank (R .stage) → (R .job .rows ≤ 40) × (R .job .columns ≤ 40)
+
+named-rows : (J : Job) (g : Group) (r c : ℕ) → (named J g r c .rows ≡ J .rows) × (named J g r c .columns ≡ J .columns)
+named-rows J chosenPins r c = (refl, refl)
+named-rows J missingPins r c = (refl, refl)
+named-rows J closedTiles r c = (refl, refl)
+
+when-same : (s t f : ℕ) → s ≡ t → when (eqb s t) f ≡ f
+when-same s t f e = by (eqb s t) (eq-eqb s t e)
+  where
+    by : (b : Bool) → b ≡ true → when b f ≡ f
+    by true q = refl
+    by false q = absurd (subst T (sym q) tt)
+
+-- in turn, a line of a group is at least due
+turn-due : (s t f x : ℕ) → s ≤ t → when (eqb s t) f ≤ x → f ≤ 1600 → 1600 * s + f ≤ 1600 * t + x
+turn-due s t f x l k m = by (eqb s t) (same? s t) (when-same s t f)
+  where
+    by : (b : Bool) → Same s t b → (s ≡ t → when (eqb s t) f ≡ f) → 1600 * s + f ≤ 1600 * t + x
+    by true (same e) h = omega (arith, h e)
+    by false (other n) h = let q : s < t = omega arith in omega arith
+
+goes-on : (R : Reader) (l : Line) (R′ : Reader) → Midst R → admit R l ≡ some R′ → Midst R′ × (left R′ < left R)
+unfolding admit
+goes-on R (arrayLine rows columns O D E) R′ m e =
+    let a : Bool = eqb (rank (R .stage)) 0 in
+    let b : Bool = arrayFits rows columns in
+    let d : Bool = capsAdmitted O D E in
+    let (t, q) = asked (a && (b && d)) _ R′ e in
+    let u : T b = and-left b d (and-right a (b && d) t) in
+    let z : rank (R .stage) ≡ 0 = eqb→eq (rank (R .stage)) 0 (and-left a (b && d) t) in
+    let x : rows ≤ 40 = range-most 2 40 rows (and-left (inRange 2 40 rows) (inRange 2 40 columns) u) in
+    let y : columns ≤ 40 = range-most 2 40 columns (and-right (inRange 2 40 rows) (inRange 2 40 columns) u) in
+    subst (λ S. Midst S × (left S < left R)) q (record { from = omega arith; turn = omega arith; size = λ k. (x, y) }, omega (arith, m .from))
+goes-on R (groupLine g r c) R′ m e =
+    let s : ℕ = rank (R .stage) in
+    let a : Bool = leb 1 s in
+    let b : Bool = leb s (rank (within g)) in
+    let d : Bool = leb (when (eqb s (rank (within g))) (R .from)) (40 * r + c) in
+    let n : Bool = names (R .job) g r c in
+    let (t, q) = asked ((a && (b && d)) && n) _ R′ e in
+    let u : T (a && (b && d)) = and-left (a && (b && d)) n t in
+    let v : T (b && d) = and-right a (b && d) u in
+    let begun : 1 ≤ s = leb→le 1 s (and-left a (b && d) u) in
+    let later : s ≤ rank (within g) = leb→le s (rank (within g)) (and-left b d v) in
+    let beyond : when (eqb s (rank (within g))) (R .from) ≤ 40 * r + c = leb→le _ _ (and-right b d v) in
+    let (x, y) = m .size begun in
+    let (lr, lc) = names-inside (R .job) g r c (and-right (a && (b && d)) n t) in
+    let h : due R ≤ 1600 * rank (within g) + (40 * r + c) = turn-due s (rank (within g)) (R .from) (40 * r + c) later beyond (m .from) in
+    let (ex, ey) = named-rows (R .job) g r c in
+    subst (λ S. Midst S × (left S < left R)) q (
+      record { from = omega arith; turn = omega (arith, rank-group g); size = λ k. omega arith },
+      omega (arith, rank-group g, h),
+    )
+goes-on R endLine R′ m e =
+    let s : ℕ = rank (R .stage) in
+    let (t, q) = asked (leb 1 s && ltb s 5) _ R′ e in
+    let l : s < 5 = ltb→lt s 5 (and-right (leb 1 s) (ltb s 5) t) in
+    let k : 1 ≤ s = leb→le 1 s (and-left (leb 1 s) (ltb s 5) t) in
+    subst (λ S. Midst S × (left S < left R)) q (record { from = omega arith; turn = omega arith; size = λ i. m .size k }, omega (arith, m .turn))
+
+-- ---- the whole text
+
+-- the offset of a refusal, and the length of a text that reads
+abbrev pub Within : List ℕ → Verdict → ℕ → ℕ → Type 0
+Within text (reads K) o n = length text ≤ 40 * n
+Within text (wrongAt p) o n = p ≤ o + 40 * n
+
+farther : (text rest : List ℕ) (v : Verdict) (o k n n′ : ℕ) → length text ≡ k + length rest → k ≤ 40 → n′ < n → Within rest v (o + k) n′ → Within text v o n
+farther text rest (reads K) o k n n′ e l d w = omega arith
+farther text rest (wrongAt p) o k n n′ e l d w = omega arith
+
+reads-within : {R : Reader} {o : ℕ} {text : List ℕ} {v : Verdict} → Reads R o text v → Midst R → Within text v o (left R)
+reads-within (ended e f) m = omega (arith, ap length f)
+reads-within (line {R = R} {o = o} {text = text} {v = v} l R′ rest a q r) m =
+    let (m′, d) = goes-on R l R′ m a in
+    farther text rest v o (length (lineBytes l)) (left R) (left R′) (ap length q ∙ length-append (lineBytes l) rest) (line-short l) d (reads-within r m′)
+reads-within (wrong f n) m = omega arith
+
+pub reading-within : (text : List ℕ) (v : Verdict) → Reading text v → Within text v 0 8005
+reading-within text v r = reads-within r (record { from = omega arith; turn = omega arith; size = λ k. absurd (omega arith) })
+
+pub text-short : (J : Job) → Proper J → length (textOf J) ≤ 320200
+text-short J p = reading-within (textOf J) (reads J) (round-trip .reads-written J p)

@@ -1,0 +1,1 @@
+// The operations for hosts in C, Rust or Python.
