@@ -43,10 +43,10 @@ module _ (J : Job) (f : Step → ℕ) (F : Feasible J f) where
 
   -- ---- the pairing round a place
 
-  abbrev partner : Place → ℕ → ℕ
+  abbrev pub partner : Place → ℕ → ℕ
   partner x = partnerIn (pairsAt f x)
 
-  perfect-at : (x : Place) → T (isPlace J x) → T (isEntered J x) → Perfect (arrives (ends f x)) (length (ends f x)) (partner x)
+  pub perfect-at : (x : Place) → T (isPlace J x) → T (isEntered J x) → Perfect (arrives (ends f x)) (length (ends f x)) (partner x)
   unfolding arrivals departures
   perfect-at x p t = pairs-perfect (arrives (ends f x)) (length (ends f x)) (ends-even f (around x) (F .balance x p t))
 
@@ -70,7 +70,7 @@ module _ (J : Job) (f : Step → ℕ) (F : Feasible J f) where
   departs : (e : End) → e .arriving ≡ false → e ≡ departure (e .step) (e .lane)
   departs e a = ap (λ (b : Bool). record { step = e .step; arriving = b; lane = e .lane }) a
 
-  arrives-at : (l : List End) (i : ℕ) (e : End) → getElem? l i ≡ some e → arrives l i ≡ e .arriving
+  pub arrives-at : (l : List End) (i : ℕ) (e : End) → getElem? l i ≡ some e → arrives l i ≡ e .arriving
   arrives-at l i e a = ap (λ (o : Option End). elim o as (λ x. Bool) [ none ↦ false | some e ↦ e .arriving ]) a
 
   goes-by : (h : Hop) (x : Place) → T (isPlace J x) → T (isEntered J x) → head J (h .step) ≡ x

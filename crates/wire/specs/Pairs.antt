@@ -1,5 +1,5 @@
--- The lanes round a place by their positions: a loaded lane that arrives stands where `arrivalAt` finds it, and a lane that departs stands at one position
--- only and is loaded. Both follow from the numbering of the positions by the loads, since the steps go by different links. Assumes nothing.
+-- The lanes round a place by their positions: the loaded lanes stand there, an arriving one where `arrivalAt` finds it and a departing one at one position
+-- only, and no other lane does. All follows from the numbering of the positions by the loads, since the steps go by different links. Assumes nothing.
 use mathlib.Core.Path.{_≡_, sym, ap, subst, _∙_}
 use mathlib.Core.List.{List, List·Memᴰ}
 use mathlib.Core.Option.{some}
@@ -20,6 +20,27 @@ module _ (f : Step → ℕ) (l : List Step) (apart : Apart l) where
   arrival-there s i m h =
       let (k, g) = has-entry m in
       ap (getElem? (endsOn f l)) (arrival-found f l apart k i s g h) ∙ arrival-entry f l k i s g h
+
+  -- what stands at a position as an arrival is a loaded lane, and stands where `arrivalAt` finds it
+  pub record Arrives (p : ℕ) (e : End) : Type 0 where
+    pub listed : List·Memᴰ (e .step) l
+    pub loaded : e .lane < f (turn (e .step))
+    pub place : arrivalAt (e .step .link) (e .lane) (endsOn f l) ≡ p
+
+  pub arrival-listed : (p : ℕ) (e : End) → getElem? (endsOn f l) p ≡ some e → T (e .arriving) → Arrives p e
+  arrival-listed p e a t = by (entry f l p)
+    where
+      by : Entry f l p → Arrives p e
+      by (arrive k j s g h q) =
+          let c : arrival s j ≡ e = some-one (arrival s j) e (sym (arrival-entry f l k j s g h) ∙ (ap (getElem? (endsOn f l)) (sym q) ∙ a)) in
+          subst (Arrives p) c (record { listed = entry-member l k s g; loaded = h; place = arrival-found f l apart k j s g h ∙ sym q })
+      by (depart k j s g h q) =
+          let c : departure s j ≡ e = some-one (departure s j) e (sym (departure-entry f l k j s g h) ∙ (ap (getElem? (endsOn f l)) (sym q) ∙ a)) in
+          absurd (subst (λ (o : End). T (o .arriving)) (sym c) t)
+      by (done h) = absurd (none-some e (sym (entry-past (endsOn f l) p h) ∙ a))
+
+  pub departure-there : (s : Step) (i : ℕ) → List·Memᴰ s l → i < f s → (p : ℕ) × (getElem? (endsOn f l) p ≡ some (departure s i))
+  departure-there s i m h = let (k, g) = has-entry m in (_, departure-entry f l k i s g h)
 
   -- the position p is the lane i of the step s, which departs
   record Departs (p : ℕ) (s : Step) (i : ℕ) : Type 0 where

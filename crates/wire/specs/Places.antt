@@ -20,7 +20,7 @@ when-and true b = refl
 when-and false b = refl
 
 -- at most one number passes the test
-sum-one : (n a x : ℕ) → sum n (λ i. when (eqb a i) x) ≤ x
+pub sum-one : (n a x : ℕ) → sum n (λ i. when (eqb a i) x) ≤ x
 sum-one n a x = by (ltb a n) refl
   where
     by : (b : Bool) → ltb a n ≡ b → sum n (λ i. when (eqb a i) x) ≤ x
