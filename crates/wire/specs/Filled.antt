@@ -2,28 +2,27 @@
 -- a chosen pin, since no place is met twice, and a pin's wire starts on its one loaded lane. Assumes nothing.
 use mathlib.Core.Path.{_≡_, refl, sym, ap, subst, _∙_}
 use mathlib.Core.Logic.{_⊎_, inl, inr}
-use mathlib.Core.Bool.{true, not}
 use mathlib.Core.List.{List, _∷_, List·Memᴰ, List·Memᴰ·head, List·Memᴰ·tail}
 use mathlib.Core.Option.{some}
 use Prim.Native.Nat.{ℕ, zero, suc, _+_, _≤_, _<_}
 use native.Mathlib.Omega.{arith}
 use lib.Dec.{T, ltb}
-use lib.ListN.{length, getElem?}
+use lib.ListN.{length}
 use borrow.Author.Tests.{lt-ltb, le-ltb}
 use Rattle.sums.specs.Counting.{total}
 use Rattle.sums.specs.Tests.{so, and-both}
 use Rattle.sums.specs.Totals.{total-has}
-use Rattle.sums.specs.Entries.{entry-below, entry-there}
+use Rattle.sums.specs.Entries.{entry-member, has-entry}
 use Rattle.model.specs.Job.{Job, isChosen}
 use Rattle.model.specs.Links.{PlaceKind, pin, missing, centre, outside, nowhere, side, Place, at, holds, isPlace, enters, isEntered, places, Step, head, tail, turn, around}
 use Rattle.model.specs.Loads.{departures, Feasible, Sound}
-use Rattle.model.specs.Wires.{departure, ends, arrives, departing, leaving, Hop, firstLoaded, onward, hopAt, isWired}
+use Rattle.model.specs.Wires.{leaving, Hop, firstLoaded, onward, hopAt, isWired}
 use Rattle.model.proofs.Listed.{step-listed, may-leaves}
-use Rattle.pairing.specs.Perfect.{Perfect}
-use Rattle.pairing.specs.Leaving.{around-apart}
+use Rattle.pairing.specs.Slots.{departurePos}
+use Rattle.pairing.specs.Lanes.{lanesIn, lanesOut}
+use Rattle.pairing.specs.Leaving.{partnerOn, Arrives, departure-within, lanes-perfect, departure-partner, leaving-lane}
 use Rattle.wire.specs.Around.{around-leaves}
-use Rattle.wire.specs.Pairs.{Arrives, arrival-listed, departure-there}
-use Rattle.wire.specs.Next.{Loaded, hop-may, partner, perfect-at, arrives-at}
+use Rattle.wire.specs.Next.{Loaded, hop-may, even-at}
 use Rattle.wire.specs.Follow.{Long, longer, long-none, long-short}
 
 -- where only one lane leaves, it is the first loaded one
@@ -52,31 +51,23 @@ module _ (J : Job) (f : Step → ℕ) (F : Feasible J f) where
     follows : onward J f (some hop) ≡ some v
 
   comes-by : (v : Hop) (x : Place) → T (isPlace J x) → T (isEntered J x) → tail J (v .step) ≡ x → List·Memᴰ (v .step) (around x) → Loaded f v → Before v
-  unfolding leaving
-  comes-by v x p t come m l = by (departure-there f (around x) (around-apart x) (v .step) (v .lane) m l)
-    where
-      P : Perfect (arrives (ends f x)) (length (ends f x)) (partner J f F x)
-      P = perfect-at J f F x p t
-
-      by : (q : ℕ) × (getElem? (ends f x) q ≡ some (departure (v .step) (v .lane))) → Before v
-      by (q, here) =
-          let q< : q < length (ends f x) = entry-below (ends f x) q (departure (v .step) (v .lane)) here in
-          let (d, there) = entry-there (ends f x) (partner J f F x q) (P .within q q<) in
-          let comes-in : d .arriving ≡ true =
-          sym (arrives-at J f F (ends f x) (partner J f F x q) d there)
-          ∙ (P .swaps q q< ∙ ap not (arrives-at J f F (ends f x) q (departure (v .step) (v .lane)) here)) in
-          let A : Arrives f (around x) (around-apart x) (partner J f F x q) d =
-          arrival-listed f (around x) (around-apart x) (partner J f F x q) d there (so comes-in) in
-          let back : head J (turn (d .step)) ≡ x = around-leaves J x p (d .step) (A .listed) in
-          record {
-            hop = record { step = turn (d .step); lane = d .lane };
-            loaded = A .loaded;
-            comes = back ∙ sym come;
-            follows =
-                ap (λ (y : Place). leaving f y (d .step .link) (d .lane)) back
-                ∙ (ap (λ (n : ℕ). departing (getElem? (ends f x) (partner J f F x n))) (A .place)
-                ∙ (ap (λ (n : ℕ). departing (getElem? (ends f x) n)) (P .twice q q<) ∙ ap departing here));
-          }
+  comes-by v x p t come m l =
+      let even = even-at J f F x p t in
+      let (k, g) = has-entry m in
+      let q : ℕ = departurePos (lanesIn f (around x)) (lanesOut f (around x)) k (v .lane) in
+      let A : Arrives f (around x) (partnerOn f (around x) q) = departure-partner f (around x) even k (v .lane) (v .step) g l in
+      let back : head J (turn (A .step)) ≡ x = around-leaves J x p (A .step) (entry-member (around x) (A .slot) (A .step) (A .there)) in
+      let twice : partnerOn f (around x) (partnerOn f (around x) q) ≡ q =
+      lanes-perfect f (around x) even .twice q (departure-within f (around x) k (v .lane) (v .step) g l) in
+      record {
+        hop = record { step = turn (A .step); lane = A .lane };
+        loaded = A .loaded;
+        comes = back ∙ sym come;
+        follows =
+            ap (λ (y : Place). leaving f y (A .step .link) (A .lane)) back
+            ∙ leaving-lane f x (A .slot) (A .lane) (A .step) (A .there) (A .loaded) k (v .lane) (v .step) g l
+            (ap (partnerOn f (around x)) (sym (A .place)) ∙ twice);
+      }
 
 -- the hop lies on the wire of a pin
 pub record OnWire (J : Job) (f : Step → ℕ) (v : Hop) : Type 0 where

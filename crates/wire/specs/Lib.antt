@@ -5,7 +5,6 @@ pub mod Around
 pub mod Diagonals
 pub mod LengthBound
 -- The wire from a hop: how it goes on, and that it ends outside.
-pub mod Pairs
 pub mod Next
 pub mod Trails
 pub mod Follow
