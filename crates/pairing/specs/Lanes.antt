@@ -14,8 +14,9 @@ use Rattle.sums.specs.Counting.{when, sum, total}
 use Rattle.sums.specs.Sums.{sum-none, sum-cong, sum-first}
 use Rattle.sums.specs.Tests.{and-left, and-right, and-both, so}
 use Rattle.sums.specs.Entries.{entry-past, entry-below}
-use Rattle.model.specs.Links.{Link, Step, turn, linkCode, sameLink}
+use Rattle.model.specs.Links.{Link, Step, turn, sameLink}
 use Rattle.model.specs.Wires.{End, arrival, departure, endsOn, arrives, arrivalAt}
+use Rattle.model.proofs.Same.{same-link}
 use Rattle.model.proofs.LaneOrder.{length-falling, length-rising, lane-order}
 use Rattle.pairing.specs.Perfect.{Even}
 use Rattle.pairing.specs.Slots.{start, arrivalPos, departurePos, arrivesAt, Spot, arriving, departing, past, spot}
@@ -53,11 +54,6 @@ kindOf o = elim o [ none ↦ false | some e ↦ e .arriving ]
 
 abbrev matches : Link → ℕ → End → Bool
 matches x i e = e .arriving && (sameLink x (e .step .link) && eqb i (e .lane))
-
-same-link : (x : Link) → T (sameLink x x)
-same-link x =
-    and-both (eqb (linkCode (x .kind)) (linkCode (x .kind))) (eqb (x .row) (x .row) && eqb (x .column) (x .column)) (eqb-refl (linkCode (x .kind)))
-    (and-both (eqb (x .row) (x .row)) (eqb (x .column) (x .column)) (eqb-refl (x .row)) (eqb-refl (x .column)))
 
 -- `arrivalAt` gives the first end that matches
 arrival-first : (x : Link) (i : ℕ) (es : List End) (p : ℕ) (e : End) → getElem? es p ≡ some e → T (matches x i e)

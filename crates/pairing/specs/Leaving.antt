@@ -122,12 +122,12 @@ module _ (f : Step → ℕ) (l : List Step) where
   kind-out k i s g h = ap (λ (o : Option End). elim o as (λ _. Bool) [ none ↦ false | some e ↦ e .arriving ]) (departure-entry f l k i s g h)
 
   -- a lane lies within the sequence
-  arrival-within : (k i : ℕ) (s : Step) → getElem? l k ≡ some s → i < f (turn s) → arrivalPos (lanesIn f l) (lanesOut f l) k i < length (endsOn f l)
+  pub arrival-within : (k i : ℕ) (s : Step) → getElem? l k ≡ some s → i < f (turn s) → arrivalPos (lanesIn f l) (lanesOut f l) k i < length (endsOn f l)
   arrival-within k i s g h =
       omega
       (arith, ends-length f l (length l) (omega arith), in-load f l k i s g h, start-later (lanesIn f l) (lanesOut f l) k (length l) (entry-below l k s g))
 
-  departure-within : (k i : ℕ) (s : Step) → getElem? l k ≡ some s → i < f s → departurePos (lanesIn f l) (lanesOut f l) k i < length (endsOn f l)
+  pub departure-within : (k i : ℕ) (s : Step) → getElem? l k ≡ some s → i < f s → departurePos (lanesIn f l) (lanesOut f l) k i < length (endsOn f l)
   departure-within k i s g h =
       omega
       (arith, ends-length f l (length l) (omega arith), out-load f l k i s g h, start-later (lanesIn f l) (lanesOut f l) k (length l) (entry-below l k s g))

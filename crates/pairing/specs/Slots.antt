@@ -74,20 +74,6 @@ module _ (a d : ℕ → ℕ) where
       let s : k ≡ j = omega arith in
       (s, omega (arith, ap a s, ap (start a d) s))
 
-  pub departure-one : (k i j q : ℕ) → i < d k → q < d j → departurePos a d k i ≡ departurePos a d j q → (k ≡ j) × (i ≡ q)
-  departure-one k i j q h g e =
-      let n : ¬ (k < j) = λ l. omega (arith, start-later k j l) in
-      let m : ¬ (j < k) = λ l. omega (arith, start-later j k l) in
-      let s : k ≡ j = omega arith in
-      (s, omega (arith, ap a s, ap (start a d) s))
-
-  pub arrival-departure : (k i j q : ℕ) → i < a k → q < d j → arrivalPos a d k i ≡ departurePos a d j q → ⊥
-  arrival-departure k i j q h g e =
-      let n : ¬ (k < j) = λ l. omega (arith, start-later k j l) in
-      let m : ¬ (j < k) = λ l. omega (arith, start-later j k l) in
-      let s : k ≡ j = omega arith in
-      omega (arith, ap a s, ap (start a d) s)
-
   -- ---- the kind of a position
 
   before-slot : (m p : ℕ) → p < start a d m → arrivesAt a d (suc m) p ≡ arrivesAt a d m p

@@ -1,49 +1,56 @@
--- Two wires from pins that share a hop begin with one hop: going back from the hop they keep together, and no hop goes on as the first of a pin, which no
+-- No two wires share a lane, and no wire has one twice: going back from a lane the wires keep together, and no hop goes on as the first of a pin, which no
 -- step enters. Assumes nothing.
-use mathlib.Core.Path.{_≡_, refl, sym, ap, subst, _∙_}
-use mathlib.Core.List.{List, [], _∷_, List·Memᴰ, List·Memᴰ·head, List·Memᴰ·tail, List·Memᴰ·not-nil}
-use mathlib.Core.Option.{some}
-use Prim.Native.Nat.{ℕ}
+use mathlib.Core.Path.{_≡_, sym, ap, subst, _∙_}
+use mathlib.Core.Option.{Option, none, some}
+use Prim.Native.Nat.{ℕ, zero, suc}
 use lib.Dec.{T}
+use Rattle.sums.specs.Entries.{none-some, some-one, entry-member}
 use Rattle.model.specs.Job.{Job}
 use Rattle.model.specs.Links.{pin, Place, at, isEntered, Step, tail}
-use Rattle.model.specs.Loads.{Feasible}
-use Rattle.model.specs.Wires.{Hop, onward}
+use Rattle.model.specs.Loads.{Sound}
+use Rattle.model.specs.Wires.{Hop, onward, hopAt, isWired}
 use Rattle.model.proofs.Listed.{may-enters}
 use Rattle.wire.specs.Next.{Loaded, hop-may, follow-leaves, follow-one}
-use Rattle.wire.specs.Follow.{Goes}
+use Rattle.wire.specs.Follow.{goes-loaded}
+use Rattle.wire.specs.Threads.{Thread, hops, thread, thread-wire}
 
-module _ (J : Job) (f : Step → ℕ) where
-  -- the wire from the hop a comes to the hop v
-  data Reach (a : Hop) : Hop → Type 0 where
-    here : {v : Hop} → v ≡ a → Reach a v
-    on : {u v : Hop} → Reach a u → Loaded f u → onward J f (some u) ≡ some v → Reach a v
+module _ (J : Job) (f : Step → ℕ) (S : Sound J f) where
+  -- the wire's hops carry it
+  pub wire-loaded : (r c n : ℕ) (v : Hop) → T (isWired J f r c) → hopAt J f r c n ≡ some v → Loaded f v
+  wire-loaded r c n v w e =
+      let t : Thread J f r c = thread J f S r c w in
+      goes-loaded J f S (t .first) (t .rest) (t .loaded) (t .goes) v (entry-member (hops t) n v (sym (thread-wire J f S r c t n) ∙ e))
 
-  -- the hop leaves a pin
-  pub record First (a : Hop) : Type 0 where
-    pub row : ℕ
-    pub column : ℕ
-    pub from : tail J (a .step) ≡ at pin row column
+  wire-from : (r c : ℕ) (v : Hop) → T (isWired J f r c) → hopAt J f r c 0 ≡ some v → tail J (v .step) ≡ at pin r c
+  wire-from r c v w e =
+      let t : Thread J f r c = thread J f S r c w in
+      ap (λ (u : Hop). tail J (u .step)) (some-one v (t .first) (sym e ∙ t .begins)) ∙ t .from
 
-  goes-reach : (a h : Hop) (hs : List Hop) → Reach a h → Loaded f h → Goes J f h hs → (k : Hop) → List·Memᴰ k (h ∷ hs) → Reach a k
-  goes-reach a h hs r l g k (List·Memᴰ·head e) = subst (λ (u : Hop). Reach a u) (sym e) r
-  goes-reach a h [] r l g k (List·Memᴰ·tail m) = absurd (List·Memᴰ·not-nil m)
-  goes-reach a h (u ∷ hs) r l g k (List·Memᴰ·tail m) = goes-reach a u hs (on r l (g .2)) (g .0) (g .3) k m
+  -- the hop before the hop at suc n
+  wire-before : (r c n : ℕ) (v : Hop) → hopAt J f r c (suc n) ≡ some v → (u : Hop) × (hopAt J f r c n ≡ some u) × (onward J f (some u) ≡ some v)
+  unfolding hopAt
+  wire-before r c n v e = by (hopAt J f r c n) e
+    where
+      by : (o : Option Hop) → onward J f o ≡ some v → (u : Hop) × (o ≡ some u) × (onward J f (some u) ≡ some v)
+      by none q = absurd (none-some v q)
+      by (some u) q = (u, (λ i. some u), q)
 
-  module _ (F : Feasible J f) where
-    no-before : (a u v : Hop) → First a → Loaded f u → onward J f (some u) ≡ some v → v ≡ a → ⊥
-    no-before a u v A l e q =
-        subst (λ (x : Place). T (isEntered J x))
-        (sym (follow-leaves J f F u v l e) ∙ (ap (λ (w : Hop). tail J (w .step)) q ∙ A .from))
-        (may-enters J (u .step) (hop-may J f F u l))
+  -- no hop goes on as the first of a wire
+  first-only : (r c q d n : ℕ) (v : Hop) → T (isWired J f r c) → T (isWired J f q d) → hopAt J f r c 0 ≡ some v → hopAt J f q d (suc n) ≡ some v → ⊥
+  first-only r c q d n v w x a b =
+      let (u, k, on) = wire-before q d n v b in
+      let l : Loaded f u = wire-loaded q d n u x k in
+      subst (λ (y : Place). T (isEntered J y)) (sym (follow-leaves J f (S .feasible) u v l on) ∙ wire-from r c v w a)
+      (may-enters J (u .step) (hop-may J f (S .feasible) u l))
 
-    meet : (a b v w : Hop) → First a → First b → v ≡ w → Reach a v → Reach b w → a ≡ b
-    meet a b v w A B e (here p) (here q) = sym p ∙ (e ∙ q)
-    meet a b v w A B e (here p) (on {u = u} s l d) = absurd (no-before a u w A l d (sym e ∙ p))
-    meet a b v w A B e (on {u = u} r k c) (here q) = absurd (no-before b u v B k c (e ∙ q))
-    meet a b v w A B e (on {u = u} r k c) (on {u = t} s l d) = meet a b u t A B (follow-one J f F u t v k l c (d ∙ ap some (sym e))) r s
-
-    pub shared-first : (a b : Hop) (hs ks : List Hop) → First a → First b → Loaded f a → Loaded f b → Goes J f a hs → Goes J f b ks
-        → (v w : Hop) → v ≡ w → List·Memᴰ v (a ∷ hs) → List·Memᴰ w (b ∷ ks) → a ≡ b
-    shared-first a b hs ks A B l m g d v w e x y =
-        meet a b v w A B e (goes-reach a a hs (here refl) l g v x) (goes-reach b b ks (here refl) m d w y)
+  pub lane-one : (r c m q d n : ℕ) (v : Hop) → T (isWired J f r c) → T (isWired J f q d) → hopAt J f r c m ≡ some v → hopAt J f q d n ≡ some v
+      → (at pin r c ≡ at pin q d) × (m ≡ n)
+  lane-one r c zero q d zero v w x a b = (sym (wire-from r c v w a) ∙ wire-from q d v x b, λ i. 0)
+  lane-one r c zero q d (suc n) v w x a b = absurd (first-only r c q d n v w x a b)
+  lane-one r c (suc m) q d zero v w x a b = absurd (first-only q d r c m v x w b a)
+  lane-one r c (suc m) q d (suc n) v w x a b =
+      let (u, k, on) = wire-before r c m v a in
+      let (t, l, also) = wire-before q d n v b in
+      let e : t ≡ u = follow-one J f (S .feasible) t u v (wire-loaded q d n t x l) (wire-loaded r c m u w k) also on in
+      let (p, i) = lane-one r c m q d n u w x k (l ∙ ap some e) in
+      (p, ap suc i)

@@ -1,9 +1,10 @@
--- All threads, in the order of the places: one for each wired pin. No hop stands in them twice: within a thread no place is met twice, and two threads that
--- share a hop have one pin. Assumes nothing.
-use mathlib.Core.Path.{_≡_, refl, sym, ap, subst, _∙_}
+-- All threads, in the order of the places: one for each wired pin. Every loaded hop stands in them, and none twice: within a thread no place is met twice,
+-- and two threads that share a hop have one pin. Assumes nothing.
+use mathlib.Core.Path.{_≡_, refl, sym, ap, ap₂, subst, _∙_}
 use mathlib.Core.Logic.{_⊎_, inl, inr}
 use mathlib.Core.Bool.{Bool, true, false, _&&_}
-use mathlib.Core.List.{List, [], _∷_, _++_, List·Memᴰ, List·Memᴰ·head, List·Memᴰ·tail, List·Memᴰ·not-nil, List·Memᴰ·append-cases, Memᴰ·append-right}
+use mathlib.Core.List.{List, [], _∷_, _++_, List·Memᴰ, List·Memᴰ·head, List·Memᴰ·tail, List·Memᴰ·not-nil, List·Memᴰ·append-cases, Memᴰ·append-left, Memᴰ·append-right}
+use mathlib.Core.Option.{some}
 use Prim.Native.Nat.{ℕ, _+_, _≤_}
 use native.Mathlib.Omega.{arith}
 use lib.Dec.{T, eqb→eq}
@@ -12,17 +13,20 @@ use Rattle.sums.specs.Counting.{when, total, count}
 use Rattle.sums.specs.Tests.{so, and-left, and-right, count-some, total-count-some}
 use Rattle.sums.specs.Sums.{when-so}
 use Rattle.sums.specs.Totals.{total-le, total-append, total-map}
+use Rattle.sums.specs.Entries.{has-entry, entry-member}
 use Rattle.model.specs.Job.{Job}
-use Rattle.model.specs.Links.{compassCode, PlaceKind, pin, missing, centre, outside, nowhere, side, Place, at, isPinKind, places, samePlace, Step, head, tail}
+use Rattle.model.specs.Links.{compassCode, PlaceKind, pin, missing, centre, outside, nowhere, side, Place, at, isPinKind, places, samePlace, Step, head}
 use Rattle.model.specs.Loads.{Sound}
-use Rattle.model.specs.Wires.{Hop, isWired}
+use Rattle.model.specs.Wires.{Hop, hopAt, isWired}
+use Rattle.model.proofs.Listed.{place-listed}
 use Rattle.model.proofs.Same.{same-place}
 use Rattle.wire.specs.Next.{Loaded}
 use Rattle.wire.specs.Follow.{goes-loaded}
-use Rattle.wire.specs.Apart.{First, shared-first}
+use Rattle.wire.specs.Apart.{lane-one}
+use Rattle.wire.specs.Filled.{OnWire, lane-wired}
 use Rattle.wire.specs.Counts.{sameHop, same-hop-eq}
 use Rattle.wire.specs.Places.{places-once}
-use Rattle.wire.specs.Threads.{Thread, hops, thread, thread-once}
+use Rattle.wire.specs.Threads.{Thread, hops, wired-chosen, thread, thread-wire, thread-once}
 
 pub pin-place : (x : Place) → T (isPinKind x) → at pin (x .row) (x .column) ≡ x
 pin-place x = by (x .kind) (x .row) (x .column)
@@ -35,10 +39,11 @@ pin-place x = by (x .kind) (x .row) (x .column)
     by nowhere r c t = absurd t
     by (side d) r c t = absurd (omega (arith, eqb→eq (5 + compassCode d) 0 t))
 
--- a pin with its thread
+-- a wired pin with its thread
 pub record Strand (J : Job) (f : Step → ℕ) : Type 0 where
   pub row : ℕ
   pub column : ℕ
+  pub wired : T (isWired J f row column)
   pub thread : Thread J f row column
 
 abbrev pub pinOf : {J : Job} {f : Step → ℕ} → Strand J f → Place
@@ -53,11 +58,8 @@ module _ (J : Job) (f : Step → ℕ) (S : Sound J f) where
 
   strandAt : (x : Place) (b : Bool) → wiredPin x ≡ b → List (Strand J f)
   strandAt x true e =
-      record {
-        row = x .row;
-        column = x .column;
-        thread = thread J f S (x .row) (x .column) (and-right (isPinKind x) (isWired J f (x .row) (x .column)) (so e));
-      } ∷ []
+      let w : T (isWired J f (x .row) (x .column)) = and-right (isPinKind x) (isWired J f (x .row) (x .column)) (so e) in
+      record { row = x .row; column = x .column; wired = w; thread = thread J f S (x .row) (x .column) w } ∷ []
   strandAt x false e = []
 
   pub strands : List Place → List (Strand J f)
@@ -123,6 +125,21 @@ module _ (J : Job) (f : Step → ℕ) (S : Sound J f) where
       by (inl n) r = goes-loaded J f S (t .thread .first) (t .thread .rest) (t .thread .loaded) (t .thread .goes) h n
       by (inr n) r = r n
 
+  hops-has : (ts : List (Strand J f)) (t : Strand J f) (h : Hop) → List·Memᴰ t ts → List·Memᴰ h (strandHops t) → List·Memᴰ h (hopsOf ts)
+  unfolding hopsOf
+  hops-has (u ∷ ts) t h (List·Memᴰ·head e) m = Memᴰ·append-left (hopsOf ts) (subst (λ (w : Strand J f). List·Memᴰ h (strandHops w)) e m)
+  hops-has (u ∷ ts) t h (List·Memᴰ·tail n) m = Memᴰ·append-right (strandHops u) (hops-has ts t h n m)
+
+  -- every loaded hop is one of them
+  pub hops-all : (h : Hop) → Loaded f h → List·Memᴰ h (hopsOf (strands (places J)))
+  hops-all h l =
+      let W : OnWire J f h = lane-wired J f S h l in
+      let x : Place = at pin (W .row) (W .column) in
+      let (t, m, a, b) = strands-has x (places J) (W .wired) (place-listed J x (wired-chosen J f (W .row) (W .column) (W .wired))) in
+      let e : hopAt J f (t .row) (t .column) (W .index) ≡ some h = ap₂ (λ (r c : ℕ). hopAt J f r c (W .index)) a b ∙ W .listed in
+      hops-has (strands (places J)) t h m
+      (entry-member (strandHops t) (W .index) h (sym (thread-wire J f S (t .row) (t .column) (t .thread) (W .index)) ∙ e))
+
   -- ---- none twice
 
   same-head : (h k : Hop) → when (sameHop h k) 1 ≤ when (samePlace (head J (h .step)) (head J (k .step))) 1
@@ -147,16 +164,15 @@ module _ (J : Job) (f : Step → ℕ) (S : Sound J f) where
         thread-once J f S (t .row) (t .column) (t .thread) x,
       )
 
-  first-of : (t : Strand J f) → First J f (t .thread .first)
-  first-of t = record { row = t .row; column = t .column; from = t .thread .from }
+  -- the hop stands in the list of the strand's wire
+  strand-lists : (t : Strand J f) (h : Hop) → List·Memᴰ h (strandHops t) → (n : ℕ) × (hopAt J f (t .row) (t .column) n ≡ some h)
+  strand-lists t h m = let (n, e) = has-entry m in (n, thread-wire J f S (t .row) (t .column) (t .thread) n ∙ e)
 
   one-pin : (t u : Strand J f) (h k : Hop) → h ≡ k → List·Memᴰ h (strandHops t) → List·Memᴰ k (strandHops u) → pinOf t ≡ pinOf u
   one-pin t u h k e m n =
-      sym (t .thread .from)
-      ∙ (ap (λ (a : Hop). tail J (a .step))
-      (shared-first J f (S .feasible) (t .thread .first) (u .thread .first) (t .thread .rest) (u .thread .rest) (first-of t) (first-of u)
-      (t .thread .loaded) (u .thread .loaded) (t .thread .goes) (u .thread .goes) h k e m n)
-      ∙ u .thread .from)
+      let (i, a) = strand-lists t h m in
+      let (j, b) = strand-lists u k n in
+      lane-one J f S (t .row) (t .column) i (u .row) (u .column) j h (t .wired) (u .wired) a (b ∙ ap some (sym e)) .0
 
   -- where a thread has the hop h, every other thread that has it is of the same pin
   hop-pin : (h : Hop) (t : Strand J f) (k : Hop) → List·Memᴰ k (strandHops t) → T (sameHop h k)

@@ -1,17 +1,18 @@
 -- Loaded hops, none of them twice: a step has at most as many of them as it has lanes, a link at most the load of both ways, and a place is come to at
--- most as often as wires arrive there. So they keep to the limits of the loads. Assumes nothing.
-use mathlib.Core.Path.{_≡_, refl, sym, subst}
+-- most as often as wires arrive there. So they keep to the limits of the loads. Where all loaded hops are there, a link has exactly its load of them.
+-- Assumes nothing.
+use mathlib.Core.Path.{_≡_, refl, sym, subst, _∙_}
 use mathlib.Core.Logic.{_⊎_, inl, inr}
 use mathlib.Core.Bool.{Bool, true, false, _&&_, Bool·beq}
 use mathlib.Core.List.{List, List·Memᴰ}
 use mathlib.Core.Option.{some}
 use Prim.Native.Nat.{ℕ, _+_, _≤_, _<_}
 use native.Mathlib.Omega.{arith}
-use lib.Dec.{T, eqb, eqb→eq}
+use lib.Dec.{T, eqb, eqb→eq, eqb-refl}
 use Rattle.sums.specs.Counting.{when, sum, count}
 use Rattle.sums.specs.Tests.{so, and-left, and-right, and-both, count-some}
-use Rattle.sums.specs.Sums.{when-so, sum-le, sum-pick, sum-ones}
-use Rattle.sums.specs.Totals.{total-add, total-le, total-has, total-le-in, total-swap, total-sum}
+use Rattle.sums.specs.Sums.{when-so, sum-le, sum-none, sum-pick, sum-ones}
+use Rattle.sums.specs.Totals.{total-add, total-le, total-cong, total-has, total-le-in, total-swap, total-sum}
 use Rattle.sums.specs.Entries.{none-some}
 use Rattle.model.specs.Job.{Job}
 use Rattle.model.specs.Links.{PlaceKind, pin, missing, centre, outside, nowhere, side, Place, isPlace, isEntered, samePlace, holds, enters, Link, sameLink, Step, head, turn, around, limit, passOf, pass}
@@ -21,6 +22,7 @@ use Rattle.model.proofs.Listed.{may-enters}
 use Rattle.model.proofs.Same.{same-link, same-link-eq, same-place-eq}
 use Rattle.wire.specs.Ways.{way, turn-turn, turn-listed}
 use Rattle.wire.specs.Next.{Loaded, hop-may}
+use Rattle.wire.specs.Places.{sum-one}
 
 -- ---- sameness of steps and hops
 
@@ -55,16 +57,19 @@ same-hop-eq h k e =
     let n : k .lane ≡ h .lane = eqb→eq (k .lane) (h .lane) (and-right (sameStep (h .step) (k .step)) (eqb (k .lane) (h .lane)) e) in
     λ i. record { step = s i; lane = sym n i }
 
+same-hop : (h : Hop) → T (sameHop h h)
+same-hop h = and-both (sameStep (h .step) (h .step)) (eqb (h .lane) (h .lane)) (same-step (h .step)) (eqb-refl (h .lane))
+
 -- ---- hops
 
 abbrev on : Step → ℕ → Hop
 on s i = record { step = s; lane = i }
 
 -- one test or the other
-way-or : (a w : Bool) → when a 1 ≤ when (a && Bool·beq true w) 1 + when (a && Bool·beq false w) 1
-way-or true true = omega arith
-way-or true false = omega arith
-way-or false w = omega arith
+way-or : (a w : Bool) → when a 1 ≡ when (a && Bool·beq true w) 1 + when (a && Bool·beq false w) 1
+way-or true true = refl
+way-or true false = refl
+way-or false w = refl
 
 -- a hop by the step s has one of its lanes
 one-lane : (f : Step → ℕ) (s : Step) (h : Hop) → Loaded f h → when (sameStep s (h .step)) 1 ≤ sum (f s) (λ i. when (sameHop (on s i) h) 1)
@@ -73,6 +78,14 @@ one-lane f s h l = by (sameStep s (h .step)) refl
     by : (b : Bool) → sameStep s (h .step) ≡ b → when b 1 ≤ sum (f s) (λ i. when (b && eqb (h .lane) i) 1)
     by true e = omega (arith, sum-pick (f s) (h .lane) (λ i. 1) (subst (λ (t : Step). h .lane < f t) (sym (same-step-eq s (h .step) (so e))) l))
     by false e = omega arith
+
+-- and only one
+lane-once : (f : Step → ℕ) (s : Step) (h : Hop) → sum (f s) (λ i. when (sameHop (on s i) h) 1) ≤ when (sameStep s (h .step)) 1
+lane-once f s h = by (sameStep s (h .step))
+  where
+    by : (b : Bool) → sum (f s) (λ i. when (b && eqb (h .lane) i) 1) ≤ when b 1
+    by true = sum-one (f s) (h .lane) 1
+    by false = omega (arith, sum-none (f s) (λ i. 0) (λ i k. refl))
 
 -- a step to the place x is the turn of one around x
 one-around : (J : Job) (x : Place) (s : Step) → T (isPlace J x) → when (samePlace x (head J s)) 1 ≤ count (around x) (λ t. sameStep (turn t) s)
@@ -107,19 +120,41 @@ module _ (f : Step → ℕ) (hs : List Hop) (loaded : (h : Hop) → List·Memᴰ
         sum-ones (f s),
       )
 
+  -- a link is taken one way or the other
+  link-ways : (l : Link) → count hs (λ h. sameLink l (h .step .link))
+      ≡ count hs (λ h. sameStep (way l true) (h .step)) + count hs (λ h. sameStep (way l false) (h .step))
+  link-ways l =
+      total-cong hs (λ h. when (sameLink l (h .step .link)) 1) (λ h. when (sameStep (way l true) (h .step)) 1 + when (sameStep (way l false) (h .step)) 1)
+      (λ h. way-or (sameLink l (h .step .link)) (h .step .forth))
+      ∙ total-add hs (λ h. when (sameStep (way l true) (h .step)) 1) (λ h. when (sameStep (way l false) (h .step)) 1)
+
+  module _ (all : (h : Hop) → Loaded f h → List·Memᴰ h hs) where
+    lane-there : (s : Step) (i : ℕ) → i < f s → 1 ≤ count hs (sameHop (on s i))
+    lane-there s i k =
+        omega (
+          arith,
+          total-has hs (λ h. when (sameHop (on s i) h) 1) (all (on s i) k),
+          when-so (sameHop (on s i) (on s i)) 1 (same-hop (on s i)),
+        )
+
+    step-full : (s : Step) → count hs (λ h. sameStep s (h .step)) ≡ f s
+    step-full s =
+        omega (
+          arith,
+          step-hops s,
+          sum-ones (f s),
+          sum-le (f s) (λ i. 1) (λ i. count hs (sameHop (on s i))) (lane-there s),
+          total-sum hs (f s) (λ h i. when (sameHop (on s i) h) 1),
+          total-le hs (λ h. sum (f s) (λ i. when (sameHop (on s i) h) 1)) (λ h. when (sameStep s (h .step)) 1) (lane-once f s),
+        )
+
+    pub link-full : (l : Link) → count hs (λ h. sameLink l (h .step .link)) ≡ f (way l true) + f (way l false)
+    link-full l = omega (arith, link-ways l, step-full (way l true), step-full (way l false))
+
   module _ (J : Job) (F : Feasible J f) where
     pub link-hops : (l : Link) (k : ℕ) → limit J l ≡ some k → count hs (λ h. sameLink l (h .step .link)) ≤ k
     link-hops l k e =
-        omega (
-          arith,
-          total-le hs (λ h. when (sameLink l (h .step .link)) 1)
-              (λ h. when (sameStep (way l true) (h .step)) 1 + when (sameStep (way l false) (h .step)) 1)
-              (λ h. way-or (sameLink l (h .step .link)) (h .step .forth)),
-          total-add hs (λ h. when (sameStep (way l true) (h .step)) 1) (λ h. when (sameStep (way l false) (h .step)) 1),
-          step-hops (way l true),
-          step-hops (way l false),
-          F .limits (way l true) k e,
-        )
+        omega (arith, link-ways l, step-hops (way l true), step-hops (way l false), F .limits (way l true) k e)
 
     place-hops : (x : Place) → T (isPlace J x) → count hs (λ h. samePlace x (head J (h .step))) ≤ arrivals f x
     unfolding arrivals

@@ -1,33 +1,28 @@
 -- Document 01, "The array and its channels": routes that together exceed no limit cross each diagonal of a tile at most D times inside that tile. A
 -- crossing goes along one of two corners, each at most O/2 rounded down, or through the centre, which passes at most the rest of D. Assumes nothing.
 use mathlib.Core.Path.{_≡_, refl}
-use mathlib.Core.Bool.{Bool, true, false, _&&_}
+use mathlib.Core.Bool.{Bool, _&&_}
 use mathlib.Core.List.{List, [], _∷_}
 use mathlib.Core.Option.{some}
 use Prim.Native.Nat.{ℕ, _+_, _/_, _≤_}
 use native.Mathlib.Omega.{arith}
-use Rattle.sums.specs.Counting.{when, total}
+use Rattle.sums.specs.Counting.{total}
+use Rattle.sums.specs.Tests.{and-left}
+use Rattle.sums.specs.Sums.{when-implies}
 use Rattle.sums.specs.Totals.{total-add, total-le}
 use Rattle.model.specs.Job.{Job, centreLimit}
 use Rattle.model.specs.Links.{north, east, south, west, centre, at, samePlace, LinkKind, corner, link, limitOf, Step, head, tail}
 use Rattle.model.specs.Route.{Route, uses, visits, Together}
 use Rattle.model.specs.Length.{Diagonal, falling, rising, apart, throughCentre, crossings}
 
-when-and : (a b : Bool) → when (a && b) 1 ≤ when a 1
-when-and true true = omega arith
-when-and true false = omega arith
-when-and false b = omega arith
-
 through-le : (J : Job) (g : Diagonal) (r c : ℕ) (ss : List Step) → throughCentre J g r c ss ≤ visits J (at centre r c) ss
 unfolding throughCentre total
 through-le J g r c [] = omega arith
 through-le J g r c (s ∷ []) = omega arith
 through-le J g r c (s ∷ t ∷ ss) =
-    omega (
-      arith,
-      through-le J g r c (t ∷ ss),
-      when-and (samePlace (at centre r c) (head J s)) (apart g (tail J s .kind) (head J t .kind)),
-    )
+    let here : Bool = samePlace (at centre r c) (head J s) in
+    let crossed : Bool = apart g (tail J s .kind) (head J t .kind) in
+    omega (arith, through-le J g r c (t ∷ ss), when-implies (here && crossed) here 1 (and-left here crossed))
 
 module _ (J : Job) (rs : List (Route J)) (F : Together J rs) where
   diagonal-by : (g : Diagonal) (r c : ℕ) (a b : LinkKind) → limitOf J a r c ≡ some (J .O / 2) → limitOf J b r c ≡ some (J .O / 2) → J .O ≤ J .D

@@ -28,14 +28,14 @@ Goes J f h (k ∷ hs) = Loaded f k × (tail J (k .step) ≡ head J (h .step)) ×
 
 module _ (J : Job) (f : Step → ℕ) (S : Sound J f) where
   -- a trail of n steps over places
-  record Long (n : ℕ) (x : Place) : Type 0 where
+  pub record Long (n : ℕ) (x : Place) : Type 0 where
     steps : List Step
     to : Place
     trail : Trail J f x steps to
     inside : Inside J f S steps
     size : length steps ≡ n
 
-  longer : (n : ℕ) (s : Step) (x : Place) → 0 < f s → T (isPlace J (head J s)) → x ≡ head J s → Long n x → Long (suc n) (tail J s)
+  pub longer : (n : ℕ) (s : Step) (x : Place) → 0 < f s → T (isPlace J (head J s)) → x ≡ head J s → Long n x → Long (suc n) (tail J s)
   longer n s x l p e L =
       record {
         steps = s ∷ L .steps;
@@ -49,8 +49,15 @@ module _ (J : Job) (f : Step → ℕ) (S : Sound J f) where
       within t (List·Memᴰ·head q) = subst (λ (u : Step). T (isPlace J (head J u))) (sym q) p
       within t (List·Memᴰ·tail m) = L .inside t m
 
+  pub long-none : (x : Place) → Long zero x
+  long-none x = record { steps = []; to = x; trail = refl; inside = λ s m. absurd (List·Memᴰ·not-nil m); size = refl }
+
+  -- none has more steps than there are places
+  pub long-short : (n : ℕ) (x : Place) → Long n x → length (places J) < n → ⊥
+  long-short n x L h = omega (arith, L .size, trail-short J f S x (L .to) (L .steps) (L .trail) (L .inside))
+
   follow : (n : ℕ) (h : Hop) → Loaded f h → ((hs : List Hop) × Goes J f h hs) ⊎ Long n (tail J (h .step))
-  follow zero h l = inr (record { steps = []; to = tail J (h .step); trail = refl; inside = λ s m. absurd (List·Memᴰ·not-nil m); size = refl })
+  follow zero h l = inr (long-none (tail J (h .step)))
   follow (suc n) h l = by (step-lands J (h .step) (hop-may J f (S .feasible) h l)) (follow n)
     where
       Found : Type 0
@@ -71,7 +78,7 @@ module _ (J : Job) (f : Step → ℕ) (S : Sound J f) where
     where
       by : ((hs : List Hop) × Goes J f h hs) ⊎ Long (suc (length (places J))) (tail J (h .step)) → (hs : List Hop) × Goes J f h hs
       by (inl w) = w
-      by (inr L) = absurd (omega (arith, L .size, trail-short J f S (tail J (h .step)) (L .to) (L .steps) (L .trail) (L .inside)))
+      by (inr L) = absurd (long-short (suc (length (places J))) (tail J (h .step)) L (omega arith))
 
   -- ---- what it is
 
@@ -87,6 +94,11 @@ module _ (J : Job) (f : Step → ℕ) (S : Sound J f) where
   goes-loaded h hs l g k (List·Memᴰ·head e) = subst (λ (u : Hop). Loaded f u) (sym e) l
   goes-loaded h [] l g k (List·Memᴰ·tail m) = absurd (List·Memᴰ·not-nil m)
   goes-loaded h (u ∷ hs) l g k (List·Memᴰ·tail m) = goes-loaded u hs (g .0) (g .3) k m
+
+  -- its last hop comes to the outside
+  pub goes-out : (h : Hop) (hs : List Hop) → Goes J f h hs → (n : ℕ) × (k : Hop) × (getElem? (h ∷ hs) n ≡ some k) × (head J (k .step) ≡ theOutside)
+  goes-out h [] g = (0, h, refl, g)
+  goes-out h (u ∷ hs) g = let (n, k, e, o) = goes-out u hs (g .3) in (suc n, k, e, o)
 
   -- ---- what `hopAt` lists
 

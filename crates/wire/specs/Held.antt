@@ -1,27 +1,27 @@
 -- Document 01, "Runs" and "Lanes and pairing": the wires of sound loads are routes, one for each wired pin, that together exceed no limit, meet no place
--- twice and do not cross. For no hop is taken twice, so links and places have at most as many as the loads, which keep the limits. Assumes nothing.
+-- twice and do not cross. For every loaded hop is taken once, so links and places have as many as the loads, which keep the limits. Assumes nothing.
 use mathlib.Core.Path.{_≡_, refl, sym, ap, subst, _∙_}
+use mathlib.Core.Bool.{true, false}
 use mathlib.Core.List.{List, [], _∷_, map, List·Memᴰ, List·Memᴰ·head, List·Memᴰ·tail, List·Memᴰ·not-nil}
-use Prim.Native.Nat.{ℕ, _≤_}
+use Prim.Native.Nat.{ℕ, _+_, _≤_}
 use native.Mathlib.Omega.{arith}
-use lib.Dec.{T, ltb}
 use lib.ListN.{length, length-map}
 use Rattle.sums.specs.Counting.{when, total, count}
-use Rattle.sums.specs.Tests.{and-left}
 use Rattle.sums.specs.Totals.{total-cong, total-map}
-use Rattle.model.specs.Job.{Job, isChosen}
-use Rattle.model.specs.Links.{pin, Place, at, places, samePlace, sameLink, Step, head}
-use Rattle.model.specs.Route.{Route, visits, Together}
-use Rattle.model.specs.Loads.{departures, Sound}
-use Rattle.model.specs.Wires.{Hop, ends, arrives, Wire, isWired, wireCount, Holds}
+use Rattle.model.specs.Job.{Job}
+use Rattle.model.specs.Links.{pin, Place, at, places, samePlace, Link, sameLink, Step, head}
+use Rattle.model.specs.Route.{Route, uses, visits, Together}
+use Rattle.model.specs.Loads.{Sound}
+use Rattle.model.specs.Wires.{Hop, ends, arrives, Wire, wireCount, Holds}
 use Rattle.model.proofs.Listed.{place-listed}
 use Rattle.pairing.specs.Perfect.{pairs-nested}
+use Rattle.wire.specs.Ways.{way}
 use Rattle.wire.specs.Next.{Loaded}
 use Rattle.wire.specs.Follow.{stepsOf}
-use Rattle.wire.specs.Counts.{sameHop, link-hops, passing-hops}
+use Rattle.wire.specs.Counts.{sameHop, link-full, link-hops, passing-hops}
 use Rattle.wire.specs.Places.{places-once}
-use Rattle.wire.specs.Threads.{routeOf, thread-wire, thread-once}
-use Rattle.wire.specs.Bundle.{Strand, strandHops, strands, strands-count, strands-at, strands-has, hopsOf, hops-total, hops-loaded, hops-once}
+use Rattle.wire.specs.Threads.{wired-chosen, routeOf, thread-wire, thread-once}
+use Rattle.wire.specs.Bundle.{Strand, strandHops, strands, strands-count, strands-at, strands-has, hopsOf, hops-total, hops-loaded, hops-all, hops-once}
 
 -- an entry of a list of images is one
 images : {A B : Type 0} (g : A → B) (P : B → Type 0) (l : List A) → ((a : A) → P (g a)) → (b : B) → List·Memᴰ b (map g l) → P b
@@ -41,7 +41,7 @@ module _ (J : Job) (f : Step → ℕ) (S : Sound J f) where
   route t = routeOf J f S (t .thread)
 
   -- the wires as routes
-  wireRoutes : List (Route J)
+  pub wireRoutes : List (Route J)
   wireRoutes = map route ts
 
   -- a count over the steps of all routes is one over all hops
@@ -60,7 +60,7 @@ module _ (J : Job) (f : Step → ℕ) (S : Sound J f) where
   unfolding ts
   once h = hops-once J f S h
 
-  routes-together : Together J wireRoutes
+  pub routes-together : Together J wireRoutes
   unfolding wireRoutes ts routeOf
   routes-together =
       record {
@@ -77,11 +77,12 @@ module _ (J : Job) (f : Step → ℕ) (S : Sound J f) where
             );
       }
 
-  pin-chosen : (r c : ℕ) → T (isWired J f r c) → T (isChosen J r c)
-  unfolding isWired
-  pin-chosen r c w = and-left (isChosen J r c) (ltb 0 (departures f (at pin r c))) w
+  -- the wires on a link are as many as its load
+  pub routes-full : (l : Link) → total wireRoutes (λ p. uses l (p .steps)) ≡ f (way l true) + f (way l false)
+  unfolding ts
+  routes-full l = steps-hops (λ s. when (sameLink l (s .link)) 1) ∙ link-full f (hopsOf J f S ts) loaded once (hops-all J f S) l
 
-  routes-held : Holds J f wireRoutes
+  pub routes-held : Holds J f wireRoutes
   unfolding wireRoutes ts routeOf wireCount
   routes-held =
       record {
@@ -90,7 +91,7 @@ module _ (J : Job) (f : Step → ℕ) (S : Sound J f) where
             (λ t. (strandHops t, thread-wire J f S (t .row) (t .column) (t .thread), refl));
         wired =
             λ r c w.
-            let (t, m, a, b) = strands-has J f S (at pin r c) (places J) w (place-listed J (at pin r c) (pin-chosen r c w)) in
+            let (t, m, a, b) = strands-has J f S (at pin r c) (places J) w (place-listed J (at pin r c) (wired-chosen J f r c w)) in
             (route t, image-of route ts m, a, b);
         number = length-map ts route ∙ strands-count J f S (places J);
         once = images route (λ p. (x : Place) → visits J x (p .steps) ≤ 1) ts (λ t. thread-once J f S (t .row) (t .column) (t .thread));

@@ -1,8 +1,7 @@
 -- How long a wire is: one hop more than it meets places, none of which it meets twice, and a job has at most 7 places for each of 1,600 cells. So a walk
 -- along it ends. Assumes nothing.
 use mathlib.Core.Path.{_≡_, refl, sym, ap, subst, _∙_}
-use mathlib.Core.Bool.{Bool, true, false}
-use mathlib.Core.List.{List, [], _∷_, List·Memᴰ, List·Memᴰ·head, List·Memᴰ·tail, List·Memᴰ·not-nil}
+use mathlib.Core.List.{List, [], _∷_}
 use mathlib.Core.Option.{none, some}
 use Prim.Native.Nat.{ℕ, zero, suc, _+_, _*_, _≤_, _<_}
 use native.Mathlib.Nat.{suc-mul, zero-add}
@@ -13,17 +12,16 @@ use Rattle.sums.specs.Counting.{when, sum, total}
 use Rattle.sums.specs.Totals.{length-total, total-le}
 use Rattle.sums.specs.Entries.{none-some, entry-below}
 use Rattle.model.specs.Job.{Job, inRange, arrayFits}
-use Rattle.model.specs.Links.{pin, Place, at, isPlace, placesAt, places, Step, head, tail, around}
-use Rattle.model.specs.Loads.{Trail, Sound}
+use Rattle.model.specs.Links.{pin, Place, at, isPlace, placesAt, places, Step, tail, around}
+use Rattle.model.specs.Loads.{Sound}
 use Rattle.model.specs.Record.{jobOf, load, Legal}
 use Rattle.model.specs.Wires.{Hop, firstLoaded, hopAt, Wire}
 use Rattle.model.proofs.Listed.{may-leaves}
 use Rattle.model.proofs.RecordOf.{range-most}
 use Rattle.sums.specs.Tests.{and-left, and-right}
 use Rattle.wire.specs.Next.{Loaded, hop-may}
-use Rattle.wire.specs.Trails.{Inside, trail-short}
-use Rattle.wire.specs.Follow.{Goes, comes-out, goes-listed, none-on}
-use Rattle.wire.specs.Places.{places-total}
+use Rattle.wire.specs.Follow.{Long, longer, long-none, long-short, Goes, comes-out, goes-listed, none-on}
+use Rattle.wire.specs.Places.{when-drop, places-total}
 use Rattle.wire.specs.Hops.{hop, Takes}
 use Rattle.wire.specs.declared.Hop.the-variants.{End, On}
 
@@ -46,13 +44,9 @@ unfolding sum
 sum-most zero b g h = omega arith
 sum-most (suc n) b g h = rw suc-mul (omega (arith, sum-most n b g h, h n))
 
-when-most : (b : Bool) → when b 1 ≤ 1
-when-most true = omega arith
-when-most false = omega arith
-
 cell-most : (J : Job) (r c : ℕ) → total (placesAt r c) (λ y. when (isPlace J y) 1) ≤ 7
 unfolding total
-cell-most J r c = total-le (placesAt r c) (λ y. when (isPlace J y) 1) (λ y. 1) (λ y. when-most (isPlace J y))
+cell-most J r c = total-le (placesAt r c) (λ y. when (isPlace J y) 1) (λ y. 1) (λ y. when-drop (isPlace J y) 1)
 
 pub places-few : (J : Job) → T (arrayFits (J .rows) (J .columns)) → length (places J) ≤ 11200
 places-few J fits =
@@ -70,40 +64,17 @@ places-few J fits =
 -- ---- the length of a wire
 
 module _ (J : Job) (f : Step → ℕ) (S : Sound J f) where
-  -- a trail of n steps over places
-  record Front (n : ℕ) (x : Place) : Type 0 where
-    steps : List Step
-    to : Place
-    trail : Trail J f x steps to
-    inside : Inside J f S steps
-    size : length steps ≡ n
-
   -- all steps of a wire but its last come to places
-  front : (h : Hop) (hs : List Hop) → Loaded f h → Goes J f h hs → Front (length hs) (tail J (h .step))
-  front h [] l g = record { steps = []; to = tail J (h .step); trail = refl; inside = λ s m. absurd (List·Memᴰ·not-nil m); size = refl }
-  front h (k ∷ hs) l g = on (front k hs (g .0) (g .3))
-    where
-      place : T (isPlace J (head J (h .step)))
-      place = subst (λ (y : Place). T (isPlace J y)) (g .1) (may-leaves J (k .step) (hop-may J f (S .feasible) k (g .0)))
-
-      on : Front (length hs) (tail J (k .step)) → Front (suc (length hs)) (tail J (h .step))
-      on F =
-          record {
-            steps = h .step ∷ F .steps;
-            to = F .to;
-            trail = (refl, omega arith, subst (λ (y : Place). Trail J f y (F .steps) (F .to)) (g .1) (F .trail));
-            inside = within F;
-            size = ap suc (F .size);
-          }
-        where
-          within : (F : Front (length hs) (tail J (k .step))) (t : Step) → List·Memᴰ t (h .step ∷ F .steps) → T (isPlace J (head J t))
-          within F t (List·Memᴰ·head q) = subst (λ (u : Step). T (isPlace J (head J u))) (sym q) place
-          within F t (List·Memᴰ·tail m) = F .inside t m
+  front : (h : Hop) (hs : List Hop) → Loaded f h → Goes J f h hs → Long J f S (length hs) (tail J (h .step))
+  front h [] l g = long-none J f S (tail J (h .step))
+  front h (k ∷ hs) l g =
+      longer J f S (length hs) (h .step) (tail J (k .step)) (omega arith)
+      (subst (λ (y : Place). T (isPlace J y)) (g .1) (may-leaves J (k .step) (hop-may J f (S .feasible) k (g .0)))) (g .1) (front k hs (g .0) (g .3))
 
   pub goes-short : (h : Hop) (hs : List Hop) → Loaded f h → Goes J f h hs → length hs ≤ length (places J)
   goes-short h hs l g =
-      let F : Front (length hs) (tail J (h .step)) = front h hs l g in
-      omega (arith, F .size, trail-short J f S (tail J (h .step)) (F .to) (F .steps) (F .trail) (F .inside))
+      let no : ¬ (length (places J) < length hs) = long-short J f S (length hs) (tail J (h .step)) (front h hs l g) in
+      omega arith
 
 -- ---- the walk along it
 

@@ -4,12 +4,14 @@ pub mod Around
 -- What routes within the limits keep to besides: the diagonals and the length.
 pub mod Diagonals
 pub mod LengthBound
--- The wire from a hop: how it goes on, that it ends outside, that no two share a hop.
-pub mod Pairs
+-- The wire from a hop: how it goes on, and that it ends outside.
 pub mod Next
 pub mod Trails
 pub mod Follow
+-- The wire of a pin: no two share a lane, and every loaded lane is on one.
+pub mod Threads
 pub mod Apart
+pub mod Filled
 -- How many hops there are, and how often a place is listed.
 pub mod Counts
 pub mod Places
@@ -18,6 +20,7 @@ pub mod Hops
 pub mod Walks
 pub mod Lengths
 -- The wires of all pins.
-pub mod Threads
 pub mod Bundle
 pub mod Held
+-- What holds of the wires of every legal record.
+pub mod LegalWires

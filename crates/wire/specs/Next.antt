@@ -1,28 +1,27 @@
 -- The hop that follows a hop: a loaded lane that comes to a place goes on there as the lane at its partner's position, which is loaded and leaves the
 -- place, and two lanes never go on as one. For the pairing round the place is perfect, since as many wires come as leave. Assumes nothing.
-use mathlib.Core.Path.{_≡_, refl, sym, ap, subst, _∙_}
+use mathlib.Core.Path.{_≡_, refl, sym, ap, ap₂, subst, _∙_}
 use mathlib.Core.Logic.{_⊎_, inl, inr}
-use mathlib.Core.Bool.{Bool, true, false, not}
-use mathlib.Core.List.{List}
-use mathlib.Core.Option.{Option, none, some}
+use mathlib.Core.Bool.{Bool, true, false}
+use mathlib.Core.Option.{none, some}
 use Prim.Native.Nat.{ℕ, _<_}
 use native.Mathlib.Omega.{arith}
 use lib.Dec.{T}
-use lib.ListN.{length, getElem?}
+use lib.ListN.{getElem?}
+use Rattle.sums.specs.Counting.{total}
 use Rattle.sums.specs.Tests.{so, so-not}
-use Rattle.sums.specs.Entries.{none-some, some-one, entry-below, entry-there}
+use Rattle.sums.specs.Entries.{none-some, some-one, entry-member, has-entry}
 use Rattle.model.specs.Job.{Job}
-use Rattle.model.specs.Links.{Place, theOutside, isPlace, isEntered, Step, head, tail, turn, may, around}
+use Rattle.model.specs.Links.{Place, theOutside, isPlace, isEntered, sameLink, Step, head, tail, turn, may, around}
 use Rattle.model.specs.Loads.{departures, arrivals, Feasible}
-use Rattle.model.specs.Pairing.{partnerIn}
-use Rattle.model.specs.Wires.{End, arrival, departure, endsOn, ends, arrives, pairsAt, Hop, arrivalAt, departing, leaving, onward}
+use Rattle.model.specs.Wires.{endsOn, Hop, leaving, onward}
 use Rattle.model.proofs.Listed.{may-enters}
-use Rattle.pairing.specs.Perfect.{Perfect, pairs-perfect}
-use Rattle.pairing.specs.Lanes.{ends-even}
-use Rattle.pairing.specs.Leaving.{around-apart}
+use Rattle.model.proofs.Same.{same-link}
+use Rattle.pairing.specs.Slots.{arrivalPos, departurePos, arrival-one}
+use Rattle.pairing.specs.Lanes.{lanesIn, lanesOut, in-load}
+use Rattle.pairing.specs.Leaving.{around-apart, partnerOn, Departs, arrival-within, lanes-perfect, arrival-partner, leaving-lane}
 use Rattle.wire.specs.Ways.{turn-turn, turn-listed}
 use Rattle.wire.specs.Around.{around-leaves, step-lands}
-use Rattle.wire.specs.Pairs.{arrival-there, departure-listed, departure-one}
 
 -- the lane of the hop carries a wire
 abbrev pub Loaded : (Step → ℕ) → Hop → Type 0
@@ -41,23 +40,38 @@ module _ (J : Job) (f : Step → ℕ) (F : Feasible J f) where
   pub hop-may : (h : Hop) → Loaded f h → T (may J (h .step))
   hop-may h l = loaded-may (h .step) (omega arith)
 
-  -- ---- the pairing round a place
+  -- ---- the lanes round a place
 
-  abbrev partner : Place → ℕ → ℕ
-  partner x = partnerIn (pairsAt f x)
+  -- the hop h comes to x by the link of a slot
+  record Comes (x : Place) (h : Hop) : Type 0 where
+    slot : ℕ
+    there : getElem? (around x) slot ≡ some (turn (h .step))
+    loaded : h .lane < f (turn (turn (h .step)))
 
-  perfect-at : (x : Place) → T (isPlace J x) → T (isEntered J x) → Perfect (arrives (ends f x)) (length (ends f x)) (partner x)
+  comes : (x : Place) (h : Hop) → Loaded f h → head J (h .step) ≡ x → T (isPlace J x) → Comes x h
+  comes x h l e p =
+      let (k, g) = has-entry (turn-listed J (h .step) x e p) in
+      record { slot = k; there = g; loaded = subst (λ (u : Step). h .lane < f u) (sym (turn-turn (h .step))) l }
+
+  -- where its lane stands in the sequence
+  abbrev position : (x : Place) (h : Hop) → Comes x h → ℕ
+  position x h C = arrivalPos (lanesIn f (around x)) (lanesOut f (around x)) (C .slot) (h .lane)
+
+  pub even-at : (x : Place) → T (isPlace J x) → T (isEntered J x) → total (around x) (λ s. f (turn s)) ≡ total (around x) f
   unfolding arrivals departures
-  perfect-at x p t = pairs-perfect (arrives (ends f x)) (length (ends f x)) (ends-even f (around x) (F .balance x p t))
+  even-at = F .balance
 
-  -- where in the sequence round x the hop arrives
-  abbrev position : Place → Hop → ℕ
-  position x h = arrivalAt (h .step .link) (h .lane) (ends f x)
+  -- the lane that is its partner
+  abbrev Joined : (x : Place) (h : Hop) → Comes x h → Type 0
+  Joined x h C = Departs f (around x) (partnerOn f (around x) (position x h C))
 
-  -- the hop h comes to x, and goes on as v
-  record Passes (x : Place) (h v : Hop) : Type 0 where
-    there : getElem? (ends f x) (position x h) ≡ some (arrival (turn (h .step)) (h .lane))
-    on : getElem? (ends f x) (partner x (position x h)) ≡ some (departure (v .step) (v .lane))
+  joined : (x : Place) (h : Hop) → T (isPlace J x) → T (isEntered J x) → (C : Comes x h) → Joined x h C
+  joined x h p t C = arrival-partner f (around x) (even-at x p t) (C .slot) (h .lane) (turn (h .step)) (C .there) (C .loaded)
+
+  joined-leaves : (x : Place) (h : Hop) (C : Comes x h) (A : Joined x h C)
+      → leaving f x (h .step .link) (h .lane) ≡ some (record { step = A .step; lane = A .lane })
+  joined-leaves x h C A =
+      leaving-lane f x (C .slot) (h .lane) (turn (h .step)) (C .there) (C .loaded) (A .slot) (A .lane) (A .step) (A .there) (A .loaded) (A .place)
 
   -- the hop after h
   pub record After (h : Hop) : Type 0 where
@@ -65,54 +79,18 @@ module _ (J : Job) (f : Step → ℕ) (F : Feasible J f) where
     pub follows : onward J f (some h) ≡ some hop
     pub loaded : Loaded f hop
     pub leaves : tail J (hop .step) ≡ head J (h .step)
-    passes : Passes (head J (h .step)) h hop
-
-  departs : (e : End) → e .arriving ≡ false → e ≡ departure (e .step) (e .lane)
-  departs e a = ap (λ (b : Bool). record { step = e .step; arriving = b; lane = e .lane }) a
-
-  arrives-at : (l : List End) (i : ℕ) (e : End) → getElem? l i ≡ some e → arrives l i ≡ e .arriving
-  arrives-at l i e a = ap (λ (o : Option End). elim o as (λ x. Bool) [ none ↦ false | some e ↦ e .arriving ]) a
-
-  goes-by : (h : Hop) (x : Place) → T (isPlace J x) → T (isEntered J x) → head J (h .step) ≡ x
-      → getElem? (ends f x) (position x h) ≡ some (arrival (turn (h .step)) (h .lane)) → After h
-  unfolding leaving
-  goes-by h x p t come here = by (entry-there (ends f x) (partner x i) (P .within i i<))
-    where
-      i : ℕ
-      i = position x h
-
-      P : Perfect (arrives (ends f x)) (length (ends f x)) (partner x)
-      P = perfect-at x p t
-
-      i< : i < length (ends f x)
-      i< = entry-below (ends f x) i (arrival (turn (h .step)) (h .lane)) here
-
-      by : (d : End) × (getElem? (ends f x) (partner x i) ≡ some d) → After h
-      by (d, at-d) =
-          let out : d .arriving ≡ false =
-          sym (arrives-at (ends f x) (partner x i) d at-d)
-          ∙ (P .swaps i i< ∙ ap not (arrives-at (ends f x) i (arrival (turn (h .step)) (h .lane)) here)) in
-          let on : getElem? (ends f x) (partner x i) ≡ some (departure (d .step) (d .lane)) = at-d ∙ ap some (departs d out) in
-          let (m, k) = departure-listed f (around x) (around-apart x) (partner x i) (d .step) (d .lane) on in
-          record {
-            hop = record { step = d .step; lane = d .lane };
-            follows = ap (λ (y : Place). leaving f y (h .step .link) (h .lane)) come ∙ ap departing on;
-            loaded = k;
-            leaves = around-leaves J x p (d .step) m ∙ sym come;
-            passes = subst (λ (y : Place). Passes y h (record { step = d .step; lane = d .lane })) (sym come) (record { there = here; on = on });
-          }
 
   pub goes-on : (h : Hop) → Loaded f h → T (isPlace J (head J (h .step))) → After h
   goes-on h l p =
-      goes-by h x p (may-enters J s (hop-may h l)) refl
-      (arrival-there f (around x) (around-apart x) (turn s) (h .lane) (turn-listed J s x refl p)
-      (subst (λ (u : Step). h .lane < f u) (sym (turn-turn s)) l))
-    where
-      s : Step
-      s = h .step
-
-      x : Place
-      x = head J s
+      let x : Place = head J (h .step) in
+      let C : Comes x h = comes x h l refl p in
+      let A : Joined x h C = joined x h p (may-enters J (h .step) (hop-may h l)) C in
+      record {
+        hop = record { step = A .step; lane = A .lane };
+        follows = joined-leaves x h C A;
+        loaded = A .loaded;
+        leaves = around-leaves J x p (A .step) (entry-member (around x) (A .slot) (A .step) (A .there));
+      }
 
   -- ---- nothing follows the hop to the outside
 
@@ -135,27 +113,40 @@ module _ (J : Job) (f : Step → ℕ) (F : Feasible J f) where
       let A : After h = goes-on h l (place-of h v l e) in
       ap (λ (u : Hop). tail J (u .step)) (some-one v (A .hop) (sym e ∙ A .follows)) ∙ A .leaves
 
-  follow-passes : (h v : Hop) → Loaded f h → onward J f (some h) ≡ some v → Passes (head J (h .step)) h v
-  follow-passes h v l e =
-      let A : After h = goes-on h l (place-of h v l e) in
-      subst (λ (u : Hop). Passes (head J (h .step)) h u) (some-one (A .hop) v (sym (A .follows) ∙ e)) (A .passes)
+  -- partners that are one lane have one position
+  one-position : (x : Place) (h k : Hop) (C : Comes x h) (D : Comes x k) → T (isPlace J x) → T (isEntered J x) → (A : Joined x h C) (B : Joined x k D)
+      → A .step ≡ B .step → A .lane ≡ B .lane → position x h C ≡ position x k D
+  one-position x h k C D p t A B s i =
+      let P = lanes-perfect f (around x) (even-at x p t) in
+      let j : A .slot ≡ B .slot =
+      around-apart x (A .slot) (B .slot) (A .step) (B .step) (A .there) (B .there)
+      (subst (λ (u : Step). T (sameLink (A .step .link) (u .link))) s (same-link (A .step .link))) in
+      let e = A .place ∙ (ap₂ (departurePos (lanesIn f (around x)) (lanesOut f (around x))) j i ∙ sym (B .place)) in
+      sym (P .twice (position x h C) (arrival-within f (around x) (C .slot) (h .lane) (turn (h .step)) (C .there) (C .loaded)))
+      ∙ (ap (partnerOn f (around x)) e
+      ∙ P .twice (position x k D) (arrival-within f (around x) (D .slot) (k .lane) (turn (k .step)) (D .there) (D .loaded)))
 
-  one-position : (x : Place) (h k v : Hop) → T (isPlace J x) → T (isEntered J x) → Passes x h v → Passes x k v → position x h ≡ position x k
-  one-position x h k v p t a b =
-      let P : Perfect (arrives (ends f x)) (length (ends f x)) (partner x) = perfect-at x p t in
-      let e : partner x (position x h) ≡ partner x (position x k) =
-      departure-one f (around x) (around-apart x) (partner x (position x h)) (partner x (position x k)) (v .step) (v .lane) (a .on) (b .on) in
-      sym (P .twice (position x h) (entry-below (ends f x) (position x h) (arrival (turn (h .step)) (h .lane)) (a .there)))
-      ∙ (ap (partner x) e ∙ P .twice (position x k) (entry-below (ends f x) (position x k) (arrival (turn (k .step)) (k .lane)) (b .there)))
+  one-arrival : (x : Place) (h k : Hop) (C : Comes x h) (D : Comes x k) → position x h C ≡ position x k D → h ≡ k
+  one-arrival x h k C D e =
+      let (j, i) =
+      arrival-one (lanesIn f (around x)) (lanesOut f (around x)) (C .slot) (h .lane) (D .slot) (k .lane)
+      (in-load f (around x) (C .slot) (h .lane) (turn (h .step)) (C .there) (C .loaded))
+      (in-load f (around x) (D .slot) (k .lane) (turn (k .step)) (D .there) (D .loaded)) e in
+      let back : turn (h .step) ≡ turn (k .step) =
+      some-one (turn (h .step)) (turn (k .step)) (sym (C .there) ∙ (ap (getElem? (around x)) j ∙ D .there)) in
+      let s : h .step ≡ k .step = sym (turn-turn (h .step)) ∙ (ap turn back ∙ turn-turn (k .step)) in
+      λ n. record { step = s n; lane = i n }
 
   pub follow-one : (h k v : Hop) → Loaded f h → Loaded f k → onward J f (some h) ≡ some v → onward J f (some k) ≡ some v → h ≡ k
   follow-one h k v a b d e =
-      let come : head J (k .step) ≡ head J (h .step) = sym (follow-leaves k v b e) ∙ follow-leaves h v a d in
       let x : Place = head J (h .step) in
-      let A : Passes x h v = follow-passes h v a d in
-      let B : Passes x k v = subst (λ (y : Place). Passes y k v) come (follow-passes k v b e) in
-      let i : position x h ≡ position x k = one-position x h k v (place-of h v a d) (may-enters J (h .step) (hop-may h a)) A B in
-      let g : arrival (turn (h .step)) (h .lane) ≡ arrival (turn (k .step)) (k .lane) =
-      some-one (arrival (turn (h .step)) (h .lane)) (arrival (turn (k .step)) (k .lane)) (sym (A .there) ∙ (ap (getElem? (ends f x)) i ∙ B .there)) in
-      let s : h .step ≡ k .step = sym (turn-turn (h .step)) ∙ (ap (λ (w : End). turn (w .step)) g ∙ turn-turn (k .step)) in
-      λ j. record { step = s j; lane = ap (λ (w : End). w .lane) g j }
+      let come : head J (k .step) ≡ x = sym (follow-leaves k v b e) ∙ follow-leaves h v a d in
+      let p : T (isPlace J x) = place-of h v a d in
+      let t : T (isEntered J x) = may-enters J (h .step) (hop-may h a) in
+      let C : Comes x h = comes x h a refl p in
+      let D : Comes x k = comes x k b come p in
+      let A : Joined x h C = joined x h p t C in
+      let B : Joined x k D = joined x k p t D in
+      let one = some-one (record { step = A .step; lane = A .lane }) (record { step = B .step; lane = B .lane })
+      (sym (joined-leaves x h C A) ∙ (d ∙ (sym e ∙ (ap (λ (y : Place). leaving f y (k .step .link) (k .lane)) come ∙ joined-leaves x k D B)))) in
+      one-arrival x h k C D (one-position x h k C D p t A B (ap (λ (u : Hop). u .step) one) (ap (λ (u : Hop). u .lane) one))

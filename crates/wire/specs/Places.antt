@@ -6,21 +6,17 @@ use native.Mathlib.Omega.{arith}
 use lib.Dec.{eqb, ltb, ltb→lt, nltb→le}
 use Rattle.sums.specs.Counting.{when, sum, total, count}
 use Rattle.sums.specs.Tests.{so, so-not}
-use Rattle.sums.specs.Sums.{when-other, sum-le, sum-none, sum-when, sum-pick}
+use Rattle.sums.specs.Sums.{when-other, when-and, sum-le, sum-none, sum-when, sum-pick}
 use Rattle.sums.specs.Totals.{total-le, total-each, total-those}
 use Rattle.model.specs.Job.{Job}
 use Rattle.model.specs.Links.{north, east, south, west, PlaceKind, pin, missing, centre, outside, nowhere, side, Place, isPlace, placesAt, places, placeCode, samePlace}
 
-when-drop : (b : Bool) (x : ℕ) → when b x ≤ x
+pub when-drop : (b : Bool) (x : ℕ) → when b x ≤ x
 when-drop true x = omega arith
 when-drop false x = omega arith
 
-when-and : (a b : Bool) → when (a && b) 1 ≡ when a (when b 1)
-when-and true b = refl
-when-and false b = refl
-
 -- at most one number passes the test
-sum-one : (n a x : ℕ) → sum n (λ i. when (eqb a i) x) ≤ x
+pub sum-one : (n a x : ℕ) → sum n (λ i. when (eqb a i) x) ≤ x
 sum-one n a x = by (ltb a n) refl
   where
     by : (b : Bool) → ltb a n ≡ b → sum n (λ i. when (eqb a i) x) ≤ x
@@ -51,7 +47,7 @@ cell-one J x r c =
       arith,
       total-le (placesAt r c) (λ y. when (isPlace J y) (when (samePlace x y) 1)) (λ y. when (samePlace x y) 1) (λ y. when-drop (isPlace J y) _),
       kind-one (x .kind) (eqb (x .row) r && eqb (x .column) c),
-      when-and (eqb (x .row) r) (eqb (x .column) c),
+      when-and (eqb (x .row) r) (eqb (x .column) c) 1,
     )
 
 pub places-total : (J : Job) (g : Place → ℕ)

@@ -51,12 +51,16 @@ pub record Thread (J : Job) (f : Step → ℕ) (r c : ℕ) : Type 0 where
 abbrev pub hops : {J : Job} {f : Step → ℕ} {r c : ℕ} → Thread J f r c → List Hop
 hops t = t .first ∷ t .rest
 
+pub wired-chosen : (J : Job) (f : Step → ℕ) (r c : ℕ) → T (isWired J f r c) → T (isChosen J r c)
+unfolding isWired
+wired-chosen J f r c w = and-left (isChosen J r c) (ltb 0 (departures f (at pin r c))) w
+
 module _ (J : Job) (f : Step → ℕ) (S : Sound J f) where
   pub thread : (r c : ℕ) → T (isWired J f r c) → Thread J f r c
   unfolding isWired hopAt departures
   thread r c w =
       let x : Place = at pin r c in
-      let p : T (isChosen J r c) = and-left (isChosen J r c) (ltb 0 (departures f x)) w in
+      let p : T (isChosen J r c) = wired-chosen J f r c w in
       let B : Begins f (around x) (firstLoaded f (around x)) =
       first-loaded f (around x) (ltb→lt 0 (departures f x) (and-right (isChosen J r c) (ltb 0 (departures f x)) w)) in
       let (hs, g) = comes-out J f S (B .hop) (B .loaded) in

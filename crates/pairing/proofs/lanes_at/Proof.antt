@@ -1,5 +1,5 @@
 -- `pairing::lanes_at` meets its contract: it reads the entry of a slot, and gives 0 past the last. Assumes nothing.
-use mathlib.Core.Path.{_≡_, sym, _∙_}
+use mathlib.Core.Path.{sym, _∙_}
 use native.Mathlib.Omega.{arith}
 use borrow.Author.Needs.{needs}
 use Rattle.pairing.specs.Answer.{lanes-in, lanes-past}
