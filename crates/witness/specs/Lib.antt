@@ -1,0 +1,6 @@
+-- Decisions that bounds make possible, and what darts of a network reach.
+pub mod Decide
+pub mod Closure
+pub mod Rings
+-- Whether a record is damaged.
+pub mod Damage
