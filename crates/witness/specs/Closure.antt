@@ -1,6 +1,6 @@
 -- What darts that pass a test reach from a set of nodes: as long as one leads out of the set, its head is taken in; each time fewer nodes are left, so that
 -- at last none leads out. Assumes nothing.
-use mathlib.Core.Path.{_≡_, refl, sym, subst}
+use mathlib.Core.Path.{_≡_, subst}
 use mathlib.Core.Logic.{_⊎_, inl, inr}
 use mathlib.Core.Bool.{Bool, true, false, not, _||_}
 use Prim.Native.Nat.{ℕ, zero, suc, _+_, _≤_, _<_}

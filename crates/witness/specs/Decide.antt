@@ -1,6 +1,6 @@
 -- Decisions: below a bound, one of two things holds of some number or the other of all; so a statement about some or about all numbers below a bound is
 -- decided where it is decided of each. Assumes nothing.
-use mathlib.Core.Path.{_≡_, sym, subst}
+use mathlib.Core.Path.{sym, subst}
 use mathlib.Core.Logic.{_⊎_, inl, inr}
 use mathlib.Core.Bool.{Bool, true, false}
 use Prim.Native.Nat.{ℕ, zero, suc, _<_}

@@ -4,3 +4,5 @@ pub mod Closure
 pub mod Rings
 -- Whether a record is damaged.
 pub mod Damage
+-- The verdict of a text.
+pub mod Verdicts
