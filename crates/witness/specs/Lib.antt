@@ -6,3 +6,6 @@ pub mod Rings
 pub mod Damage
 -- The verdict of a text.
 pub mod Verdicts
+-- One wire more, or none more fits.
+pub mod Untangled
+pub mod NextWire
