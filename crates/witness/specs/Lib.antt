@@ -9,3 +9,8 @@ pub mod Verdicts
 -- One wire more, or none more fits.
 pub mod Untangled
 pub mod NextWire
+pub mod Added
+pub mod Most
+-- The service, and demand 3 of it.
+pub mod Served
+pub mod Demand

@@ -1,14 +1,13 @@
 -- The search for one wire more, as mathematics: what moves reach from the unwired pins either holds a spot outside, and then a path leads there and is laid,
 -- or it is the smallest near side. Assumes nothing.
-use mathlib.Core.Path.{_≡_, refl, sym, subst, _∙_}
+use mathlib.Core.Path.{refl, subst, _∙_}
 use mathlib.Core.Logic.{_⊎_, inl, inr}
-use mathlib.Core.Bool.{Bool, true, false, not, _&&_}
+use mathlib.Core.Bool.{Bool, true, false, _&&_}
 use mathlib.Core.List.{List}
-use Prim.Native.Nat.{ℕ, _+_, _/_, _≤_, _<_}
+use Prim.Native.Nat.{ℕ, _/_, _<_}
 use native.Mathlib.Omega.{arith}
 use lib.Dec.{T, ltb, ltb→lt, lt→ltb}
 use Rattle.sums.specs.Tests.{and-left, and-right, and-both}
-use Rattle.flow.specs.Network.{Path}
 use Rattle.model.specs.Job.{Job}
 use Rattle.channel.specs.Map.{spots, darts, rev, want, outside, starts, moves}
 use Rattle.channel.specs.Map.Network.{net}
@@ -17,7 +16,6 @@ use Rattle.search.specs.OneMore.{OneMore, moves-path, lays-one}
 use Rattle.search.specs.NoMore.{Reached, from, onto, ClosedUnderMoves, NoneOutside}
 use Rattle.search.specs.Pins.{Held, Unwired}
 use Rattle.search.specs.Loose.{Loosened}
-use Rattle.search.specs.Rings.{loose-none, loose-held, loose-more}
 use Rattle.witness.specs.Decide.{some-or-all}
 use Rattle.witness.specs.Closure.{Closure, closure}
 use Rattle.witness.specs.Rings.{Walk, start, onto as step-on, walk-path}
