@@ -54,14 +54,14 @@ module _ (G : Net) (E : ℕ → Bool) where
   walk-in S c t (onto d k l p e) = subst (λ (x : ℕ). T (S x)) e (c d l (walk-in S c t k) p)
 
   -- what u leads to
-  field-of : (u : ℕ) → Closure G E (λ v. eqb u v) (Walk u)
-  field-of u = closure G E (Walk u) (λ d l k t. onto d k l t refl) (λ v. eqb u v) (λ v t. start (eqb→eq u v t))
+  reach-of : (u : ℕ) → Closure G E (λ v. eqb u v) (Walk u)
+  reach-of u = closure G E (Walk u) (λ d l k t. onto d k l t refl) (λ v. eqb u v) (λ v t. start (eqb→eq u v t))
 
   -- how many nodes u leads to
   pub reachCount : ℕ → ℕ
-  reachCount u = sum (G .nodes) (λ v. when (field-of u .set v) 1)
+  reachCount u = sum (G .nodes) (λ v. when (reach-of u .set v) 1)
 
-  falls : (d : ℕ) → d < G .darts → T (E d) → T (not (field-of (head G d) .set (G .tail d))) → reachCount (head G d) < reachCount (G .tail d)
+  falls : (d : ℕ) → d < G .darts → T (E d) → T (not (reach-of (head G d) .set (G .tail d))) → reachCount (head G d) < reachCount (G .tail d)
   unfolding reachCount
   falls d l t n =
       omega (
@@ -74,10 +74,10 @@ module _ (G : Net) (E : ℕ → Bool) where
       )
     where
       A : Closure G E (λ v. eqb (head G d) v) (Walk (head G d))
-      A = field-of (head G d)
+      A = reach-of (head G d)
 
       B : Closure G E (λ v. eqb (G .tail d) v) (Walk (G .tail d))
-      B = field-of (G .tail d)
+      B = reach-of (G .tail d)
 
       own : T (B .set (G .tail d))
       own = B .holds (G .tail d) (eqb-refl (G .tail d))
@@ -104,7 +104,7 @@ module _ (G : Net) (E : ℕ → Bool) where
     where
       -- whether the head of the dart leads to its tail
       back : ℕ → Bool
-      back d = field-of (head G d) .set (G .tail d)
+      back d = reach-of (head G d) .set (G .tail d)
 
       one : (a b : Bool) → (T a × T b) ⊎ (T a → T (not b))
       one true true = inl (tt, tt)
@@ -115,6 +115,6 @@ module _ (G : Net) (E : ℕ → Bool) where
           → ((d : ℕ) → d < G .darts → T (E d) → reachCount (head G d) < reachCount (G .tail d)) ⊎ Ring
       by (inr f) = inl (λ d l t. falls d l t (f d l t))
       by (inl (d, l, (t, b))) =
-          let (ds, p) = walk-path (field-of (head G d) .only (G .tail d) b) in
+          let (ds, p) = walk-path (reach-of (head G d) .only (G .tail d) b) in
           let (es, r) = path-front d l t p in
           inr (G .tail d, d, es, r)

@@ -1,4 +1,6 @@
--- A service: each call answered by what was decided. Assumes nothing.
+-- Document 01, "Record and operations": a service, by mathematics alone. Each call is answered by decisions: whether the record is legal, what the verdict
+-- of a text is, whether one wire more fits, and what the greatest number and the smallest near side are. Nothing of it is ever run; it shows that the
+-- promises of the eight operations can be kept together, so that a theorem about every service has something to speak of. Assumes nothing.
 use mathlib.Core.Path.{_≡_, refl}
 use mathlib.Core.Logic.{_⊎_, inl, inr}
 use mathlib.Core.List.{List, []}
@@ -18,10 +20,6 @@ use Rattle.witness.specs.Damage.{legal?}
 use Rattle.witness.specs.Verdicts.{reading}
 use Rattle.witness.specs.Added.{Full, add-or-full}
 use Rattle.witness.specs.Most.{wires-chosen, Most, most}
-
--- what a call may leave
-abbrev Leaves : Call → List ℕ → Type 0
-Leaves c rec = (a : After) × Did c rec a
 
 -- a call on a record is refused by 1 where it is damaged
 on : (rec scratch output : List ℕ) (Accepts : After → Type 0) → (Legal rec → (a : After) × Accepts a) → (a : After) × On rec scratch output a (Accepts a)
@@ -92,7 +90,9 @@ module _ (rec : List ℕ) where
       by (no n) r = (after (refused 1) rec [] [], record { brief = λ h. refl; long = λ h. absurd (n h) })
       by (yes l) (v, r) = (readIn v rec, record { brief = λ h. absurd (omega arith); long = λ h. (v, r, refl) })
 
-serve : (c : Call) (rec : List ℕ) → Leaves c rec
+-- ---- the eight operations
+
+serve : (c : Call) (rec : List ℕ) → (a : After) × Did c rec a
 serve (new rows columns O D E) rec = (newly rows columns O D E rec, refl)
 serve (mark r c m) rec = on rec [] [] (λ a. a ≡ markedBy r c m rec) (λ g. (markedBy r c m rec, refl))
 serve (close r c v) rec = on rec [] [] (λ a. a ≡ closedBy r c v rec) (λ g. (closedBy r c v rec, refl))
