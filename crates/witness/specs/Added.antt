@@ -155,7 +155,7 @@ module _ (rec : List ℕ) (g : Legal rec) where
 
   -- ---- none more
 
-  -- the wires are the greatest number, and S is the smallest near side
+  -- the wires are the greatest number, and there is the smallest near side
   pub record Full : Type 0 where
     pub near : ℕ → Bool
     pub smallest : Smallest J near (wiresIn rec)

@@ -48,7 +48,7 @@ module _ (G : Net) (E : ℕ → Bool) where
   abbrev pub Shut : (ℕ → Bool) → Type 0
   Shut S = (d : ℕ) → d < G .darts → T (S (G .tail d)) → T (E d) → T (S (head G d))
 
-  -- R holds S, no dart leads out of it, and whatever it holds has Q
+  -- a set that holds S, out of which no dart leads, and whose nodes all have Q
   pub record Closure (S : ℕ → Bool) (Q : ℕ → Type 0) : Type 0 where
     pub set : ℕ → Bool
     pub holds : (u : ℕ) → T (S u) → T (set u)
