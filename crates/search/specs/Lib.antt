@@ -15,6 +15,7 @@ pub mod Queue
 pub mod Ways
 pub mod Pins
 pub mod Shut
+pub mod Passing
 pub mod Loose
 pub mod Rings
 pub mod Fill
