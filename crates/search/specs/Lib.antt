@@ -20,3 +20,8 @@ pub mod Loose
 pub mod Rings
 pub mod Fill
 pub mod Filling
+-- The record as a whole.
+pub mod Copies
+pub mod Outcome
+pub mod Added
+pub mod Stepping
