@@ -29,11 +29,15 @@ pub record Filling (J : Job) (rec rec′ t : List ℕ) (fresh : Bool) : Type 0 w
   pub reached : fresh ≡ true → AllReached J rec′ t
 
 -- No wire more fits: the marked spots are those that moves reach from the unwired pins, and none of them is outside.
+pub record Saturated (J : Job) (rec t : List ℕ) : Type 0 where
+  pub dead : Dead J rec t
+  pub unwired : (u : ℕ) → u < spots → Unwired J rec u → T (marked t u)
+  pub reached : AllReached J rec t
+
+-- as many wires as fit
 pub record Filled (J : Job) (rec rec′ t : List ℕ) : Type 0 where
   pub more : More J rec rec′
-  pub dead : Dead J rec′ t
-  pub unwired : (u : ℕ) → u < spots → Unwired J rec′ u → T (marked t u)
-  pub reached : AllReached J rec′ t
+  pub full : Saturated J rec′ t
 
 -- how many wires are wanted and not there
 abbrev pub lacking : Job → List ℕ → ℕ

@@ -6,25 +6,28 @@ use mathlib.Core.List.{List}
 use Prim.Native.Nat.{ℕ, _+_, _<_}
 use native.Mathlib.Omega.{arith}
 use lib.Dec.{T}
+use lib.ListN.{length}
 use Rattle.sums.specs.Sums.{sum-cong, sum-le}
 use Rattle.flow.specs.Push.{more, sum-more}
 use Rattle.model.specs.Job.{Job}
+use Rattle.model.specs.Route.{Route, Together, Greatest}
 use Rattle.model.specs.Near.{Smallest}
 use Rattle.model.specs.Record.{load}
 use Rattle.model.specs.Wires.{wireCount}
 use Rattle.channel.specs.Map.{spots, want, starts}
 use Rattle.channel.specs.Map.Flows.{feasible-flow}
 use Rattle.search.specs.OneMore.{OneMore}
-use Rattle.search.specs.NoMore.{reached-smallest}
+use Rattle.search.specs.NoMore.{reached-smallest, reached-greatest}
 use Rattle.search.specs.Marks.{marked, marked-spot, marked-byte}
-use Rattle.search.specs.Pins.{Held, Dead, Unwired, AllReached, Answered, laid, nothing}
-use Rattle.search.specs.Fill.{Cleared, More, Filling, Filled, lacking}
+use Rattle.search.specs.Pins.{Held, Dead, AnySpot, Answered}
+use Rattle.search.specs.Passing.{was-laid, was-nothing}
+use Rattle.search.specs.Fill.{Cleared, More, Filling, Saturated, Filled, lacking}
 use Rattle.search.specs.declared.next.Next.{Next}
 use Rattle.search.specs.declared.next.Next.the-variants.{Laid, Nothing}
 
 -- ---- no marks
 
-cleared-none : {t : List ℕ} → Cleared t → (u : ℕ) → T (marked t u) → ⊥
+pub cleared-none : {t : List ℕ} → Cleared t → (u : ℕ) → T (marked t u) → ⊥
 cleared-none {t} c u m = omega (arith, c .all u (marked-spot t u m), marked-byte t u m)
 
 pub cleared-dead : {J : Job} {rec t : List ℕ} → Cleared t → Dead J rec t
@@ -46,7 +49,7 @@ filling-clear {J} {rec} F e c =
 -- ---- one wire more
 
 module _ {J : Job} {rec rec′ : List ℕ} {u : ℕ} (H : Held J rec) (l : u < spots) (M : OneMore J rec rec′ u) where
-  held-more : Held J rec′
+  pub held-more : Held J rec′
   held-more =
       record { fits = H .fits; caps = H .caps; long = omega (arith, H .long, M .kept .size); bytes = M .bytes; feasible = M .feasible }
 
@@ -59,25 +62,10 @@ module _ {J : Job} {rec rec′ : List ℕ} {u : ℕ} (H : Held J rec) (l : u < s
         sum-le spots (starts J rec′) (want J) (feasible-flow J (H .fits) rec′ (M .feasible) .load .wanted),
       )
 
-module _ {J : Job} {rec t rec′ t′ : List ℕ} {y : Next} (r : Answered J rec t rec′ t′ y) where
-  pub was-laid : {u : ℕ} → y ≡ Laid u → (u < spots) × OneMore J rec rec′ u × Dead J rec′ t′
-  was-laid {u} e = by (subst (λ (x : Next). Answered J rec t rec′ t′ x) e r)
-    where
-      by : Answered J rec t rec′ t′ (Laid u) → (u < spots) × OneMore J rec rec′ u × Dead J rec′ t′
-      by (laid l h M D) = (l, M, D)
-
-  pub was-nothing : y ≡ Nothing → (rec′ ≡ rec) × Dead J rec t′ × ((u : ℕ) → u < spots → Unwired J rec u → T (marked t′ u))
-      × (AllReached J rec t → AllReached J rec t′)
-  was-nothing e = by (subst (λ (x : Next). Answered J rec t rec′ t′ x) e r)
-    where
-      by : Answered J rec t rec′ t′ Nothing → (rec′ ≡ rec) × Dead J rec t′ × ((u : ℕ) → u < spots → Unwired J rec u → T (marked t′ u))
-          × (AllReached J rec t → AllReached J rec t′)
-      by (nothing q D u a) = (q, D, u, a)
-
-module _ {J : Job} {rec rec′ t : List ℕ} {b : Bool} (F : Filling J rec rec′ t b) {rec″ t″ : List ℕ} {y : Next} (r : Answered J rec′ t rec″ t″ y) where
+module _ {J : Job} {rec rec′ t : List ℕ} {b : Bool} (F : Filling J rec rec′ t b) {rec″ t″ : List ℕ} {y : Next} (r : Answered J AnySpot rec′ t rec″ t″ y) where
   pub filling-laid : {u : ℕ} → y ≡ Laid u → Filling J rec rec″ t″ false
   filling-laid e =
-      let (l, M, D) = was-laid r e in
+      let (l, h, M, D) = was-laid r e in
       record {
         more = record {
           held = held-more (F .more .held) l M;
@@ -94,15 +82,20 @@ module _ {J : Job} {rec rec′ t : List ℕ} {b : Bool} (F : Filling J rec rec�
       }
 
   pub filling-less : {u : ℕ} → y ≡ Laid u → lacking J rec″ + 1 ≡ lacking J rec′
-  filling-less e = let (l, M, D) = was-laid r e in lacking-less (F .more .held) l M
+  filling-less e = let (l, h, M, D) = was-laid r e in lacking-less (F .more .held) l M
 
   pub filling-end : b ≡ true → y ≡ Nothing → Filled J rec rec″ t″
   filling-end f e =
-      let (q, D, u, a) = was-nothing r e in
-      subst (λ (x : List ℕ). Filled J rec x t″) (sym q) (record { more = F .more; dead = D; unwired = u; reached = a (F .reached f) })
+      let (q, p) = was-nothing r e in
+      subst (λ (x : List ℕ). Filled J rec x t″) (sym q) (record { more = F .more; full = record { dead = p .dead; unwired = p .shut; reached = p .reached (F .reached f) } })
 
--- What is marked at the end is the smallest near side.
-pub filled-smallest : {J : Job} {rec rec′ t : List ℕ} → Filled J rec rec′ t → Smallest J (marked t) (wireCount J (load rec′))
-filled-smallest {J} {rec} {rec′} {t} F =
-    let H = F .more .held in
-    reached-smallest J (H .fits) rec′ (H .feasible) (marked t) (F .unwired) (F .dead .closed) (F .dead .none) (F .reached)
+-- ---- no wire more fits
+
+module _ {J : Job} {rec t : List ℕ} (H : Held J rec) (S : Saturated J rec t) where
+  -- What is marked is the smallest near side.
+  pub saturated-smallest : Smallest J (marked t) (wireCount J (load rec))
+  saturated-smallest = reached-smallest J (H .fits) rec (H .feasible) (marked t) (S .unwired) (S .dead .closed) (S .dead .none) (S .reached)
+
+  -- The number of wires is the greatest number, if there are as many routes.
+  pub saturated-greatest : (rs : List (Route J)) → Together J rs → length rs ≡ wireCount J (load rec) → Greatest J (wireCount J (load rec))
+  saturated-greatest = reached-greatest J (H .fits) rec (H .feasible) (marked t) (S .unwired) (S .dead .closed) (S .dead .none) (S .reached)

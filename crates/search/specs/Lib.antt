@@ -15,7 +15,13 @@ pub mod Queue
 pub mod Ways
 pub mod Pins
 pub mod Shut
+pub mod Passing
 pub mod Loose
 pub mod Rings
 pub mod Fill
 pub mod Filling
+-- The record as a whole.
+pub mod Copies
+pub mod Outcome
+pub mod Added
+pub mod Stepping

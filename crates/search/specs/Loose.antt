@@ -4,7 +4,7 @@ use mathlib.Core.List.{List}
 use Prim.Native.Nat.{ℕ, _+_, _*_, _/_, _≤_, _<_}
 use lib.ListN.{length, getD}
 use Rattle.model.specs.Job.{Job}
-use Rattle.model.specs.Loads.{Feasible}
+use Rattle.model.specs.Loads.{Feasible, Sound}
 use Rattle.model.specs.Record.{load}
 use Rattle.channel.specs.Map.{spots, darts, rev, view, starts}
 use Rattle.search.specs.Laid.{BytesFit, SameButLoads}
@@ -36,3 +36,13 @@ pub record Tangled (rec fin st sl : List ℕ) : Type 0 where
 pub record Untangled (rec rec′ fin : List ℕ) : Type 0 where
   pub loose : (J : Job) → Held J rec → Loosened J rec rec′
   pub falls : (d : ℕ) → d < darts → 0 < view rec′ d → getD fin (rev d / 8) 0 < getD fin (d / 8) 0
+
+-- the loads are those of some job
+pub record Laden (rec : List ℕ) : Type 0 where
+  pub job : Job
+  pub held : Held job rec
+
+-- for every job of which the loads are feasible they are sound, with the same starts
+pub record Freed (rec rec′ : List ℕ) : Type 0 where
+  pub loose : (J : Job) → Held J rec → Loosened J rec rec′
+  pub sound : (J : Job) → Held J rec → Sound J (load rec′)

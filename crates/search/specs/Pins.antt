@@ -3,10 +3,12 @@ use mathlib.Core.Path.{_≡_}
 use mathlib.Core.Logic.{_≢_}
 use mathlib.Core.Bool.{Bool, true, false}
 use mathlib.Core.List.{List}
-use Prim.Native.Nat.{ℕ, _+_, _*_, _≤_, _<_}
+use Prim.Native.Nat.{ℕ, _≤_, _<_}
 use lib.Dec.{T}
 use lib.ListN.{length, getD}
 use Rattle.model.specs.Job.{Job, arrayFits, capsFit}
+use Rattle.model.specs.Links.{pin, at}
+use Rattle.model.specs.Near.{exit}
 use Rattle.model.specs.Loads.{Feasible}
 use Rattle.model.specs.Record.{recordSize, load}
 use Rattle.channel.specs.Map.{spots, isStart, want, starts}
@@ -42,20 +44,33 @@ pub data Open (J : Job) (rec t : List ℕ) (u : ℕ) : Bool → Type 0 where
   open-pin : T (isStart J u) → Unwired J rec u → getD t u 0 ≢ 1 → Open J rec t u true
   no-pin : (Unwired J rec u → T (marked t u)) → Open J rec t u false
 
--- whether a wire was laid from u; if none was, an unwired u is marked
-pub data Tested (J : Job) (rec t : List ℕ) (u : ℕ) (rec′ t′ : List ℕ) : Bool → Type 0 where
-  wired : Unwired J rec u → OneMore J rec rec′ u → Dead J rec′ t′ → Tested J rec t u rec′ t′ true
-  shut : rec′ ≡ rec → Dead J rec t′ → ((x : ℕ) → T (marked t x) → T (marked t′ x)) → (Unwired J rec u → T (marked t′ u))
-      → (AllReached J rec t → AllReached J rec t′) → Tested J rec t u rec′ t′ false
-
--- the first m pins have no way out
-pub record Passed (J : Job) (rec t t′ : List ℕ) (m : ℕ) : Type 0 where
+-- No unwired spot of P has a way out. The marked spots are dead, they are those that were marked and more, and every unwired spot of P is among them.
+pub record Passed (J : Job) (P : ℕ → Type 0) (rec t t′ : List ℕ) : Type 0 where
   pub dead : Dead J rec t′
-  pub shut : (i : ℕ) → i < m → Unwired J rec (329 + 8 * i) → T (marked t′ (329 + 8 * i))
+  pub grown : (x : ℕ) → T (marked t x) → T (marked t′ x)
+  pub shut : (u : ℕ) → P u → Unwired J rec u → T (marked t′ u)
   pub reached : AllReached J rec t → AllReached J rec t′
 
--- One wire more starts at u; or no wire more fits, and every unwired pin is marked.
-pub data Answered (J : Job) (rec t rec′ t′ : List ℕ) : Next → Type 0 where
-  laid : {u : ℕ} → u < spots → Unwired J rec u → OneMore J rec rec′ u → Dead J rec′ t′ → Answered J rec t rec′ t′ (Laid u)
-  nothing : rec′ ≡ rec → Dead J rec t′ → ((u : ℕ) → u < spots → Unwired J rec u → T (marked t′ u)) → (AllReached J rec t → AllReached J rec t′)
-      → Answered J rec t rec′ t′ Nothing
+-- whether a wire was laid from u
+pub data Tested (J : Job) (rec t : List ℕ) (u : ℕ) (rec′ t′ : List ℕ) : Bool → Type 0 where
+  wired : Unwired J rec u → OneMore J rec rec′ u → Dead J rec′ t′ → Tested J rec t u rec′ t′ true
+  shut : rec′ ≡ rec → Passed J (λ x. x ≡ u) rec t t′ → Tested J rec t u rec′ t′ false
+
+-- u is the spot of a pin of row r before column n; of the rows before m; any spot
+pub record InRow (r n u : ℕ) : Type 0 where
+  pub column : ℕ
+  pub early : column < n
+  pub spot : u ≡ exit (at pin r column)
+
+pub record InRows (m n u : ℕ) : Type 0 where
+  pub row : ℕ
+  pub early : row < m
+  pub there : InRow row n u
+
+abbrev pub AnySpot : ℕ → Type 0
+AnySpot u = u < spots
+
+-- One wire more starts at u; or none can start at a spot of P.
+pub data Answered (J : Job) (P : ℕ → Type 0) (rec t rec′ t′ : List ℕ) : Next → Type 0 where
+  laid : {u : ℕ} → u < spots → Unwired J rec u → OneMore J rec rec′ u → Dead J rec′ t′ → Answered J P rec t rec′ t′ (Laid u)
+  nothing : rec′ ≡ rec → Passed J P rec t t′ → Answered J P rec t rec′ t′ Nothing

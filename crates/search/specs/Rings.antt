@@ -14,11 +14,12 @@ use Rattle.model.specs.Wires.{wireCount}
 use Rattle.channel.specs.Map.{spots, darts, rev, view, starts, laid}
 use Rattle.channel.specs.Map.Network.{net}
 use Rattle.channel.specs.Map.Flows.{starts-count}
+use Rattle.channel.specs.Map.Loops.{ranked-loops}
 use Rattle.search.specs.Laid.{laidAll, laid-last}
 use Rattle.search.specs.Unlooped.{Lighter, takes-out}
 use Rattle.audit.specs.Loops.{ringDarts, Closed, Answer, free, ring}
 use Rattle.search.specs.Pins.{Held}
-use Rattle.search.specs.Loose.{Loosened}
+use Rattle.search.specs.Loose.{Loosened, Untangled, Freed}
 use Rattle.audit.specs.declared.loops.Found.{Found}
 use Rattle.audit.specs.declared.loops.Found.the-variants.{Free, Ring}
 
@@ -107,6 +108,14 @@ loose-wires {J} {rec} {rec′} H L =
       starts-count J (H .fits) rec′ (L .feasible),
       sum-cong spots (starts J rec′) (starts J rec) (L .begun),
     )
+
+-- loads that fall along an order have no loop
+pub untangled-freed : {rec rec′ fin : List ℕ} → Untangled rec rec′ fin → Freed rec rec′
+untangled-freed {rec} {rec′} {fin} U =
+    record {
+      loose = U .loose;
+      sound = λ J H. let f = U .loose J H .feasible in record { feasible = f; loops = ranked-loops J (H .fits) rec′ f (λ u. getD fin u 0) (U .falls) };
+    }
 
 -- ---- what a caller reads off the finder's answer
 

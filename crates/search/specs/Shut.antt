@@ -8,9 +8,8 @@ use Prim.Native.Nat.{ℕ, zero, suc, _+_, _*_, _/_, _%_, _<_}
 use native.Mathlib.Nat.{eq-zero-or-pos}
 use native.Mathlib.Omega.{arith}
 use borrow.Author.Tests.{not-true, not-false}
-use borrow.Author.Count.{below-more}
 use lib.Dec.{T}
-use lib.ListN.{length, getD}
+use lib.ListN.{getD}
 use Rattle.sums.specs.Sums.{when-some, when-so}
 use Rattle.flow.specs.Network.{head<, Path}
 use Rattle.flow.specs.Flow.{Unstarted}
@@ -18,17 +17,16 @@ use Rattle.flow.specs.Residual.{Residual}
 use Rattle.model.specs.Job.{Job}
 use Rattle.channel.specs.Map.{spots, darts, rev, isStart, view, starts, moves}
 use Rattle.channel.specs.Map.Network.{net}
-use Rattle.channel.specs.Map.Starts.{want-start, start-among}
+use Rattle.channel.specs.Map.Starts.{want-start}
 use Rattle.search.specs.Laid.{laidAll}
 use Rattle.search.specs.OneMore.{OneMore, moves-path, lays-one}
 use Rattle.search.specs.NoMore.{Reached, from, onto}
 use Rattle.search.specs.Dead.{dead-laid}
 use Rattle.search.specs.Marks.{marked, is-marked, marked-spot, marked-byte, Unmarked}
 use Rattle.search.specs.Spread.{Spread}
-use Rattle.search.specs.Steps.{Whole, Done, Found, Searched, out, closed}
+use Rattle.search.specs.Steps.{Done, Found, Searched, out, closed}
 use Rattle.search.specs.Ways.{LaidTo, way-path, times-reverse}
-use Rattle.search.specs.Pins.{Held, Dead, Unwired, AllReached, Open, open-pin, no-pin, Tested, wired, shut, Passed, Answered, laid}
-use Rattle.search.specs.declared.next.Next.the-variants.{Laid}
+use Rattle.search.specs.Pins.{Held, Dead, Unwired, AllReached, Open, open-pin, no-pin, Tested, wired, shut}
 use Rattle.search.specs.declared.reach.Way.{Way}
 use Rattle.search.specs.declared.reach.Way.the-variants.{Out, Closed}
 
@@ -132,11 +130,12 @@ module _ {J : Job} {rec : List ℕ} {start : ℕ} {t₀ t q f w : List ℕ} {j k
 -- ---- the answer for one pin
 
 pub pin-passed : {J : Job} {rec t : List ℕ} {u : ℕ} → Dead J rec t → (Unwired J rec u → T (marked t u)) → Tested J rec t u rec t false
-pin-passed D h = shut refl D (λ x m. m) h (λ r. r)
+pin-passed D h = shut refl (record { dead = D; grown = λ x m. m; shut = λ x e. rw e h; reached = λ r. r })
 
 pub pin-shut : {J : Job} {rec : List ℕ} {u : ℕ} {t₀ t q f w : List ℕ} {n : ℕ} → Spread J rec u t₀ t q f w n → Done J rec t q n → Dead J rec t₀ → u < spots
     → Unwired J rec u → Tested J rec t₀ u rec t false
-pin-shut s done D l h = shut refl (dead-more s D done) (grown s) (λ x. start-marked s) (reached-more s l h)
+pin-shut s done D l h =
+    shut refl (record { dead = dead-more s D done; grown = grown s; shut = λ x e i. rw e (start-marked s); reached = reached-more s l h })
 
 -- ---- what a caller reads off the answers
 
@@ -165,57 +164,3 @@ module _ {J : Job} {rec : List ℕ} {start : ℕ} {t₀ t q f w : List ℕ} {y :
     where
       by : Searched J rec start t₀ t q f w (Closed n) → Spread J rec start t₀ t q f w n × Done J rec t q n
       by (closed s l d) = (s, d)
-
-module _ {J : Job} {rec t : List ℕ} {u : ℕ} {rec′ t′ : List ℕ} {b : Bool} (r : Tested J rec t u rec′ t′ b) where
-  was-wired : b ≡ true → Unwired J rec u × OneMore J rec rec′ u × Dead J rec′ t′
-  was-wired e = by (subst (λ (x : Bool). Tested J rec t u rec′ t′ x) e r)
-    where
-      by : Tested J rec t u rec′ t′ true → Unwired J rec u × OneMore J rec rec′ u × Dead J rec′ t′
-      by (wired h m d) = (h, m, d)
-
-  pub still-same : b ≡ false → rec′ ≡ rec
-  still-same e = by (subst (λ (x : Bool). Tested J rec t u rec′ t′ x) e r)
-    where
-      by : Tested J rec t u rec′ t′ false → rec′ ≡ rec
-      by (shut q d g m a) = q
-
--- ---- one pin after the other
-
-pub passed-none : {J : Job} {rec t : List ℕ} → Dead J rec t → Passed J rec t t 0
-passed-none D = record { dead = D; shut = λ i l. absurd (omega arith); reached = λ r. r }
-
-pub passed-more : {J : Job} {rec t t′ rec₁ rec₂ t″ : List ℕ} {m : ℕ} {b : Bool} → Passed J rec t t′ m → rec₁ ≡ rec → Tested J rec₁ t′ (329 + 8 * m) rec₂ t″ b
-    → b ≡ false → Passed J rec t t″ (m + 1)
-passed-more {J} {rec} {t} {t′} {rec₂ = rec₂} {t″ = t″} {m = m} {b = b} p q r e =
-    by (subst (λ (x : Bool). Tested J rec t′ (329 + 8 * m) rec₂ t″ x) e (subst (λ (x : List ℕ). Tested J x t′ (329 + 8 * m) rec₂ t″ b) q r))
-  where
-    by : Tested J rec t′ (329 + 8 * m) rec₂ t″ false → Passed J rec t t″ (m + 1)
-    by (shut q d g h a) =
-        record {
-          dead = d;
-          shut = below-more (λ i. Unwired J rec (329 + 8 * i) → T (marked t″ (329 + 8 * i))) m (λ i l x. g (329 + 8 * i) (p .shut i l x)) h;
-          reached = λ x. a (p .reached x);
-        }
-
--- the loads are still those of the beginning
-module _ {rec rec₁ : List ℕ} (q : rec₁ ≡ rec) where
-  pub whole-still : {job : List ℕ} → Whole job rec → Whole job rec₁
-  whole-still o = record { asked = o .asked; loads = omega (arith, o .loads, ap length q) }
-
-  pub held-still : {J : Job} → Held J rec → Held J rec₁
-  held-still {J} = subst (λ (x : List ℕ). Held J x) (sym q)
-
-  pub dead-still : {J : Job} (t : List ℕ) → Dead J rec t → Dead J rec₁ t
-  dead-still {J} t = subst (λ (x : List ℕ). Dead J x t) (sym q)
-
-  pub answered-laid : {J : Job} {t t′ rec₂ t″ : List ℕ} {u : ℕ} {b : Bool} → Tested J rec₁ t′ u rec₂ t″ b → b ≡ true → u < spots
-      → Answered J rec t rec₂ t″ (Laid u)
-  answered-laid {J} {rec₂ = rec₂} {u = u} r e l =
-      let (h, m, d) = was-wired r e in
-      laid l (subst (λ (x : List ℕ). Unwired J x u) q h) (subst (λ (x : List ℕ). OneMore J x rec₂ u) q m) d
-
--- all pins were passed
-pub passed-all : {J : Job} {rec t t′ : List ℕ} → Passed J rec t t′ 1600 → (u : ℕ) → Unwired J rec u → T (marked t′ u)
-passed-all {J} {rec} {t} {t′} p u h =
-    let (i, l, e) = start-among J u (start-unwired J rec u h .0) in
-    subst (λ (x : ℕ). T (marked t′ x)) (sym e) (p .shut i l (subst (λ (x : ℕ). Unwired J rec x) e h))

@@ -4,3 +4,5 @@ pub mod ways; // the way that a search found: laid, and its marks taken back
 pub mod next; // one more wire
 pub mod untangle; // loops taken out
 pub mod fill; // wires laid until no more fits
+pub mod copy; // the bytes of a record
+pub mod step; // one wire more in a record

@@ -1,16 +1,19 @@
-// The next wire: the pins in order, each that is chosen, starts no wire and is not marked, until one has a way out.
+// The next wire: the pins row by row, each that is chosen, starts no wire and is not marked, until one has a way out.
 ghost use Prim.Native.Nat.{_≤_, _<_};
 ghost use lib.ListN.{length};
 ghost use Rattle.model.specs.Record.{jobOf};
 ghost use Rattle.channel.specs.Map.{spots};
 ghost use Rattle.search.specs.Spread.{Room};
 ghost use Rattle.search.specs.Steps.{Whole};
-ghost use Rattle.search.specs.Pins.{Held, Dead, Open, Tested, Answered};
+ghost use Rattle.search.specs.Pins.{Held, Dead, Open, Tested, InRow, AnySpot, Answered};
 use crate::reach::Way;
 use crate::reach::reach;
 use crate::ways::lay_way;
 use crate::ways::unmark;
+use channel::columns;
 use channel::is_start;
+use channel::places::pin_exit;
+use channel::rows;
 use channel::wire_starts;
 
 // The spot of the pin from which a wire was laid; or no wire more fits.
@@ -63,6 +66,30 @@ fn wire_from(
     }
 }
 
+// Lays a wire from the first pin of the row r that is to have one and has a way out.
+fn row_wire(
+    job: &[u8],
+    loads: &mut [u8],
+    r: usize,
+    marks: &mut [u8],
+    queue: &mut [u16],
+    parent: &mut [u16],
+    slot: &mut [u8],
+) -> Next
+    requires { ⌜ Whole (now job) (now loads) × Room (now marks) (now queue) (now parent) (now slot)
+        × Held (jobOf (now job)) (now loads) × Dead (jobOf (now job)) (now loads) (now marks) × (r < 40) ⌝ }
+    ensures { λ y. ⌜ Answered (jobOf (now (job .entry))) (InRow r (jobOf (now (job .entry)) .columns))
+        (now (loads .entry)) (now (marks .entry)) (now (loads .exit)) (now (marks .exit)) y ⌝ }
+{
+    for c in 0..columns(job) {
+        let u = pin_exit(r, c);
+        if wire_from(job, loads, u, marks, queue, parent, slot) {
+            return Next::Laid(u);
+        }
+    }
+    Next::Nothing
+}
+
 // Lays the next wire.
 pub fn next_wire(
     job: &[u8],
@@ -74,12 +101,15 @@ pub fn next_wire(
 ) -> Next
     requires { ⌜ Whole (now job) (now loads) × Room (now marks) (now queue) (now parent) (now slot)
         × Held (jobOf (now job)) (now loads) × Dead (jobOf (now job)) (now loads) (now marks) ⌝ }
-    ensures { λ y. ⌜ Answered (jobOf (now (job .entry))) (now (loads .entry)) (now (marks .entry)) (now (loads .exit)) (now (marks .exit)) y ⌝ }
+    ensures { λ y. ⌜ Answered (jobOf (now (job .entry))) AnySpot
+        (now (loads .entry)) (now (marks .entry)) (now (loads .exit)) (now (marks .exit)) y ⌝ }
 {
-    for i in 0..1600 {
-        let u = 329 + 8 * i;
-        if wire_from(job, loads, u, marks, queue, parent, slot) {
-            return Next::Laid(u);
+    for r in 0..rows(job) {
+        match row_wire(job, loads, r, marks, queue, parent, slot) {
+            Next::Laid(u) => {
+                return Next::Laid(u);
+            }
+            Next::Nothing => {}
         }
     }
     Next::Nothing

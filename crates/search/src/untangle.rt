@@ -5,7 +5,7 @@ ghost use Prim.Native.Nat.{_-_, _≤_};
 ghost use Rattle.channel.specs.Map.{rev};
 ghost use Rattle.search.specs.Laid.{laidAll};
 ghost use Rattle.audit.specs.Loops.{ringDarts};
-ghost use Rattle.search.specs.Loose.{Ringed, Tangled, Untangled};
+ghost use Rattle.search.specs.Loose.{Ringed, Tangled, Untangled, Laden, Freed};
 use audit::loops::Found;
 use audit::loops::find;
 use channel::lay;
@@ -26,7 +26,7 @@ fn take_out(loads: &mut [u8], st: &[u16], sl: &[u8], j: usize, n: usize)
 }
 
 // Every ring.
-pub fn untangle(loads: &mut [u8], fin: &mut [u16], st: &mut [u16], sl: &mut [u8])
+fn take_rings_out(loads: &mut [u8], fin: &mut [u16], st: &mut [u16], sl: &mut [u8])
     requires { ⌜ Tangled (now loads) (now fin) (now st) (now sl) ⌝ }
     ensures { λ _. ⌜ Untangled (now (loads .entry)) (now (loads .exit)) (now (fin .exit)) ⌝ }
 {
@@ -40,4 +40,15 @@ pub fn untangle(loads: &mut [u8], fin: &mut [u16], st: &mut [u16], sl: &mut [u8]
             }
         }
     }
+}
+
+// No loop stands any more.
+pub fn untangle(loads: &mut [u8])
+    requires { ⌜ Laden (now loads) ⌝ }
+    ensures { λ _. ⌜ Freed (now (loads .entry)) (now (loads .exit)) ⌝ }
+{
+    let mut fin = [0u16; 13128];
+    let mut st = [0u16; 13128];
+    let mut sl = [0u8; 13128];
+    take_rings_out(loads, &mut fin, &mut st, &mut sl);
 }

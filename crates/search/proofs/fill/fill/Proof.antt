@@ -10,7 +10,8 @@ use Rattle.model.specs.Record.{jobOf}
 use Rattle.search.specs.Spread.{Alike, Room}
 use Rattle.search.specs.Queue.{alike-refl, alike-then, alike-room}
 use Rattle.search.specs.Fill.{Filling, lacking, left}
-use Rattle.search.specs.Filling.{filling-start, filling-clear, filling-laid, filling-less, filling-end, was-nothing}
+use Rattle.search.specs.Filling.{filling-start, filling-clear, filling-laid, filling-less, filling-end}
+use Rattle.search.specs.Passing.{was-nothing}
 use Rattle.search.proofs.fill.fill.Statement.{statement}
 use Rattle.search.proofs.fill.fill.Tie as tie
 

@@ -1,99 +1,84 @@
--- `next::next_wire` meets its contract: the pins passed have no way out. Assumes nothing.
+-- `next::next_wire` meets its contract: the rows passed have no pin with a way out. Assumes nothing.
 use borrow.Author.Needs.{needs}
 use mathlib.Core.Path.{_≡_, refl, ap, _∙_}
 use Prim.Native.Nat.{_-_, _≤_}
 use native.Mathlib.Omega.{arith}
+use denote.Ref.{now}
 use lib.ListN.{length}
 use Rattle.model.specs.Record.{jobOf}
 use Rattle.search.specs.Spread.{Alike}
 use Rattle.search.specs.Queue.{alike-refl, alike-then, alike-room}
-use Rattle.search.specs.Pins.{Passed, nothing}
-use Rattle.search.specs.Shut.{still-same, passed-none, passed-more, passed-all, whole-still, held-still, dead-still, answered-laid}
+use Rattle.search.specs.Pins.{InRows, Passed, nothing}
+use Rattle.search.specs.Passing.{passed-none, passed-rows, passed-all, held-size, was-nothing, whole-still, held-still, dead-still, answered-still, laid-in-row}
 use Rattle.search.proofs.next.next_wire.Statement.{statement}
 use Rattle.search.proofs.next.next_wire.Tie as tie
 
 abbrev Inv-loop : tie.InvT-loop
-Inv-loop job loads₀ marks₀ queue₀ parent₀ slot₀ i₀ loads marks queue parent slot i =
-    (i ≤ 1600) × (loads ≡ loads₀) × Alike marks₀ queue₀ parent₀ slot₀ marks queue parent slot × Passed (jobOf job) loads₀ marks₀ marks i
+Inv-loop job loads₀ marks₀ queue₀ parent₀ slot₀ r₀ r-end loads marks queue parent slot r =
+    (r ≤ r-end) × (loads ≡ loads₀) × Alike marks₀ queue₀ parent₀ slot₀ marks queue parent slot
+    × Passed (jobOf job) (InRows r (jobOf job .columns)) loads₀ marks₀ marks
 
 abbrev μ-loop : tie.MeasureT-loop
-μ-loop job loads₀ marks₀ queue₀ parent₀ slot₀ i₀ loads marks queue parent slot i = 1600 - i
+μ-loop job loads₀ marks₀ queue₀ parent₀ slot₀ r₀ r-end loads marks queue parent slot r = r-end - r
+
+rows-requires : tie.Need-rows-requires Inv-loop μ-loop
+rows-requires c κs = search needs
 
 loop-holds : tie.Need-loop-holds Inv-loop μ-loop
-loop-holds c = (omega arith, refl, alike-refl _ _ _ _, passed-none (c .before .before .before .before .before .before .pre .3))
+loop-holds c = (omega arith, refl, alike-refl _ _ _ _, passed-none (c .before .before .before .before .before .before .before .pre .3) (λ u w. omega (arith, w .early)))
 
-mul-u : tie.Need-mul-u Inv-loop μ-loop
-mul-u c = search needs
-
-add-u : tie.Need-add-u Inv-loop μ-loop
-add-u c = search needs
-
-wire-from-requires : tie.Need-wire-from-requires Inv-loop μ-loop
-wire-from-requires c κs =
-    let c5 = c .before .before .before .before .before in
-    let c6 = c5 .before in
-    let c13 = c6 .before .before .before .before .before .before .before in
+row-wire-requires : tie.Need-row-wire-requires Inv-loop μ-loop
+row-wire-requires c κs =
+    let c6 = c .before .before .before .before .before .before in
     let l = c6 .loop .inv in
-    let p = c13 .pre in
-    (whole-still (l .1) (p .0), alike-room (p .1) (l .2), held-still (l .1) (p .2), dead-still (l .1) _ (l .3 .dead), omega (arith, c5 .loop-test .taken))
+    let p = c6 .before .before .before .before .before .before .before .before .pre in (
+      whole-still (l .1) (p .0),
+      alike-room (p .1) (l .2),
+      held-still (l .1) (p .2),
+      dead-still (l .1) _ (l .3 .dead),
+      omega (arith, held-size (p .2) .0, c6 .before .rows .ensures .0, c .before .before .before .before .before .loop-test .taken),
+    )
+
+enum-known-u : tie.Need-enum-known-u Inv-loop μ-loop
+enum-known-u c = search needs
 
 same-length : tie.Need-same-length Inv-loop μ-loop
-same-length c =
-    let c11 = c .before .before .before .before .before .before .before .before .before .before .before in
-    let c18 = c11 .before .before .before .before .before .before .before in
-    c11 .wire-from .kept .1 .0 ∙ ap length (c18 .loop .inv .1)
+same-length c = c .before .before .before .before .before .before .before .before .before .before .before .before .before .row-wire .kept .1 .0 ∙ ap length (c .before .before .before .before .before .before .before .before .before .before .before .before .before .before .before .before .before .before .before .before .loop .inv .1)
 
 same-length-2 : tie.Need-same-length-2 Inv-loop μ-loop
-same-length-2 c =
-    let c11 = c .before .before .before .before .before .before .before .before .before .before .before in
-    let c18 = c11 .before .before .before .before .before .before .before in
-    c11 .wire-from .kept .1 .1 .1 .0 ∙ c18 .loop .inv .2 .marks
+same-length-2 c = c .before .before .before .before .before .before .before .before .before .before .before .before .before .row-wire .kept .1 .1 .1 .0 ∙ c .before .before .before .before .before .before .before .before .before .before .before .before .before .before .before .before .before .before .before .before .loop .inv .2 .marks
 
 same-length-3 : tie.Need-same-length-3 Inv-loop μ-loop
-same-length-3 c =
-    let c11 = c .before .before .before .before .before .before .before .before .before .before .before in
-    let c18 = c11 .before .before .before .before .before .before .before in
-    c11 .wire-from .kept .1 .1 .1 .1 .0 ∙ c18 .loop .inv .2 .queue
+same-length-3 c = c .before .before .before .before .before .before .before .before .before .before .before .before .before .row-wire .kept .1 .1 .1 .1 .0 ∙ c .before .before .before .before .before .before .before .before .before .before .before .before .before .before .before .before .before .before .before .before .loop .inv .2 .queue
 
 same-length-4 : tie.Need-same-length-4 Inv-loop μ-loop
-same-length-4 c =
-    let c11 = c .before .before .before .before .before .before .before .before .before .before .before in
-    let c18 = c11 .before .before .before .before .before .before .before in
-    c11 .wire-from .kept .1 .1 .1 .1 .1 .0 ∙ c18 .loop .inv .2 .parents
+same-length-4 c = c .before .before .before .before .before .before .before .before .before .before .before .before .before .row-wire .kept .1 .1 .1 .1 .1 .0 ∙ c .before .before .before .before .before .before .before .before .before .before .before .before .before .before .before .before .before .before .before .before .loop .inv .2 .parents
 
 same-length-5 : tie.Need-same-length-5 Inv-loop μ-loop
-same-length-5 c =
-    let c11 = c .before .before .before .before .before .before .before .before .before .before .before in
-    let c18 = c11 .before .before .before .before .before .before .before in
-    c11 .wire-from .kept .1 .1 .1 .1 .1 .1 .0 ∙ c18 .loop .inv .2 .slots
+same-length-5 c = c .before .before .before .before .before .before .before .before .before .before .before .before .before .row-wire .kept .1 .1 .1 .1 .1 .1 .0 ∙ c .before .before .before .before .before .before .before .before .before .before .before .before .before .before .before .before .before .before .before .before .loop .inv .2 .slots
 
 returns : tie.Need-returns Inv-loop μ-loop
-returns c =
-    let c11 = c .before .before .before .before .before .before .before .before .before .before .before in
-    let c17 = c11 .before .before .before .before .before .before in
-    let c18 = c17 .before in
-    answered-laid (c18 .loop .inv .1) (c11 .wire-from .ensures) (c .if1 .taken) (omega (arith, c17 .loop-test .taken))
+returns c = laid-in-row (answered-still (c .before .before .before .before .before .before .before .before .before .before .before .before .before .before .before .before .before .before .before .before .loop .inv .1) (c .before .before .before .before .before .before .before .before .before .before .before .before .before .row-wire .ensures)) (c .before .u .given .1)
 
-add-i : tie.Need-add-i Inv-loop μ-loop
-add-i c = search needs
+enum-told : tie.Need-enum-told Inv-loop μ-loop
+enum-told c = search needs
+
+add-r : tie.Need-add-r Inv-loop μ-loop
+add-r c = search needs
 
 loop-less : tie.Need-loop-less Inv-loop μ-loop
-loop-less c =
-    let c17 = c .before .before .before .before .before .before .before .before .before .before .before .before .before .before .before .before .before in
-    omega (arith, c17 .loop-test .taken)
+loop-less c = omega (arith, c .before .before .before .before .before .before .before .before .before .before .before .before .before .before .before .before .before .before .loop-test .taken)
 
 loop-again : tie.Need-loop-again Inv-loop μ-loop
 loop-again c =
-    let c11 = c .before .before .before .before .before .before .before .before .before .before .before in
-    let c17 = c11 .before .before .before .before .before .before in
-    let c18 = c17 .before in
-    let l = c18 .loop .inv in
-    let k = c11 .wire-from .kept .1 .1 .1 in
-    let r = c11 .wire-from .ensures in (
-      omega (arith, c17 .loop-test .taken),
-      still-same r (c .if1 .left) ∙ l .1,
+    let c12 = c .before .before .before .before .before .before .before .before .before .before .before .before in
+    let l = c12 .before .before .before .before .before .before .before .loop .inv in
+    let k = c12 .row-wire .kept .1 .1 .1 in
+    let (q, p) = was-nothing (answered-still (l .1) (c12 .row-wire .ensures)) (c .enum-told .given .1) in (
+      omega (arith, c12 .before .before .before .before .before .before .loop-test .taken),
+      q,
       alike-then (l .2) (k .0) (k .1 .0) (k .1 .1 .0) (k .1 .1 .1 .0),
-      passed-more (l .3) (l .1) r (c .if1 .left),
+      passed-rows (l .3) p,
     )
 
 same-length-6 : tie.Need-same-length-6 Inv-loop μ-loop
@@ -114,9 +99,8 @@ same-length-10 c = c .before .loop .inv .2 .slots
 returns-2 : tie.Need-returns-2 Inv-loop μ-loop
 returns-2 c =
     let l = c .before .loop in
-    let e : l .i ≡ 1600 = omega arith in
-    let p = rw e at (l .inv .3) in
-    nothing (l .inv .1) (p .dead) (λ u m h. passed-all p u h) (p .reached)
+    let e : l .r ≡ jobOf (now (c .before .before .before .before .before .before .before .before .before .args .job)) .rows = omega (arith, c .loop-test .left, c .before .before .rows .ensures .0) in
+    nothing (l .inv .1) (passed-all (rw e at (l .inv .3)))
 
 pub next-wire-spec : {M : Type 1} → statement M
 next-wire-spec =
@@ -124,17 +108,18 @@ next-wire-spec =
     (tie.spec
     Inv-loop
     μ-loop
+    rows-requires
     loop-holds
-    mul-u
-    add-u
-    wire-from-requires
+    row-wire-requires
+    enum-known-u
     same-length
     same-length-2
     same-length-3
     same-length-4
     same-length-5
     returns
-    add-i
+    enum-told
+    add-r
     loop-less
     loop-again
     same-length-6

@@ -1,0 +1,141 @@
+-- Pins passed one after the other, and one row after the other: when all rows are passed, no wire more can start anywhere. And what a caller reads off the
+-- answers of the search for the next wire. Assumes nothing.
+use mathlib.Core.Path.{_≡_, sym, ap, subst, _∙_}
+use mathlib.Core.Logic.{_⊎_, inl, inr, ⊎-elim}
+use mathlib.Core.Bool.{Bool, true, false}
+use mathlib.Core.List.{List}
+use Prim.Native.Nat.{ℕ, _+_, _≤_, _<_}
+use native.Mathlib.Nat.{eq-or-lt-of-le}
+use native.Mathlib.Omega.{arith}
+use lib.Dec.{T, eqb, ltb, ltb→lt}
+use lib.ListN.{length}
+use Rattle.sums.specs.Tests.{and-left, and-right}
+use Rattle.model.specs.Job.{Job, inRange, isPin, isChosen}
+use Rattle.model.specs.Links.{pin, at}
+use Rattle.model.specs.Near.{exit}
+use Rattle.model.proofs.RecordOf.{range-most}
+use Rattle.channel.specs.Map.{spots}
+use Rattle.channel.specs.Map.Starts.{wanted-pin}
+use Rattle.search.specs.OneMore.{OneMore}
+use Rattle.search.specs.Marks.{marked}
+use Rattle.search.specs.Steps.{Whole}
+use Rattle.search.specs.Pins.{Held, Dead, Unwired, Passed, Tested, wired, shut, InRow, InRows, AnySpot, Answered, laid, nothing}
+use Rattle.search.specs.declared.next.Next.{Next}
+use Rattle.search.specs.declared.next.Next.the-variants.{Laid, Nothing}
+
+-- ---- one after the other
+
+pub passed-none : {J : Job} {P : ℕ → Type 0} {rec t : List ℕ} → Dead J rec t → ((u : ℕ) → P u → ⊥) → Passed J P rec t t
+passed-none D n = record { dead = D; grown = λ x m. m; shut = λ u p. absurd (n u p); reached = λ r. r }
+
+passed-then : {J : Job} {P Q R : ℕ → Type 0} {rec t t₁ t₂ : List ℕ} → Passed J P rec t t₁ → Passed J Q rec t₁ t₂ → ((u : ℕ) → R u → P u ⊎ Q u)
+    → Passed J R rec t t₂
+passed-then p q f =
+    record {
+      dead = q .dead;
+      grown = λ x m. q .grown x (p .grown x m);
+      shut = λ u r h. ⊎-elim (λ a. q .grown u (p .shut u a h)) (λ b. q .shut u b h) (f u r);
+      reached = λ r. q .reached (p .reached r);
+    }
+
+last-or : (i m : ℕ) → i < m + 1 → (i ≡ m) ⊎ (i < m)
+last-or i m l = eq-or-lt-of-le (omega arith)
+
+-- one pin more of the row
+pub passed-row : {J : Job} {rec t t₁ t₂ : List ℕ} {r m u : ℕ} → Passed J (InRow r m) rec t t₁ → u ≡ exit (at pin r m) → Passed J (λ x. x ≡ u) rec t₁ t₂
+    → Passed J (InRow r (m + 1)) rec t t₂
+passed-row {r = r} {m = m} p q s =
+    passed-then p s
+    (λ x w. ⊎-elim
+    (λ i. inr (w .spot ∙ ap (λ (c : ℕ). exit (at pin r c)) i ∙ sym q))
+    (λ h. inl (record { column = w .column; early = h; spot = w .spot }))
+    (last-or (w .column) m (w .early)))
+
+-- one row more
+pub passed-rows : {J : Job} {rec t t₁ t₂ : List ℕ} {m n : ℕ} → Passed J (InRows m n) rec t t₁ → Passed J (InRow m n) rec t₁ t₂
+    → Passed J (InRows (m + 1) n) rec t t₂
+passed-rows {m = m} {n = n} p s =
+    passed-then p s
+    (λ x w. ⊎-elim
+    (λ i. inr (subst (λ (r : ℕ). InRow r n x) i (w .there)))
+    (λ h. inl (record { row = w .row; early = h; there = w .there }))
+    (last-or (w .row) m (w .early)))
+
+-- an array has at most 40 rows and 40 columns
+pub held-size : {J : Job} {rec : List ℕ} → Held J rec → (J .rows ≤ 40) × (J .columns ≤ 40)
+held-size {J} H =
+    let a = inRange 2 40 (J .rows) in
+    let b = inRange 2 40 (J .columns) in
+    (range-most 2 40 (J .rows) (and-left a b (H .fits)), range-most 2 40 (J .columns) (and-right a b (H .fits)))
+
+-- a chosen pin lies within the rows and the columns
+pub chosen-within : (J : Job) (r c : ℕ) → T (isChosen J r c) → (r < J .rows) × (c < J .columns)
+unfolding isChosen
+chosen-within J r c t =
+    let p = and-left (isPin J r c) (eqb (J .mark r c) 1) t in
+    (ltb→lt r (J .rows) (and-left (ltb r (J .rows)) (ltb c (J .columns)) p), ltb→lt c (J .columns) (and-right (ltb r (J .rows)) (ltb c (J .columns)) p))
+
+-- every row
+pub passed-all : {J : Job} {rec t t′ : List ℕ} → Passed J (InRows (J .rows) (J .columns)) rec t t′ → Passed J AnySpot rec t t′
+passed-all {J} {rec} {t} {t′} p = record { dead = p .dead; grown = p .grown; shut = λ u l h. everywhere u h; reached = p .reached }
+  where
+    everywhere : (u : ℕ) → Unwired J rec u → T (marked t′ u)
+    everywhere u h =
+        let (r, c, t, e) = wanted-pin J u (omega arith) in
+        let (a, b) = chosen-within J r c t in
+        p .shut u (record { row = r; early = a; there = record { column = c; early = b; spot = e } }) h
+
+-- ---- what a caller reads off the answers
+
+module _ {J : Job} {rec t : List ℕ} {u : ℕ} {rec′ t′ : List ℕ} {b : Bool} (r : Tested J rec t u rec′ t′ b) where
+  pub tested-wired : b ≡ true → Unwired J rec u × OneMore J rec rec′ u × Dead J rec′ t′
+  tested-wired e = by (subst (λ (x : Bool). Tested J rec t u rec′ t′ x) e r)
+    where
+      by : Tested J rec t u rec′ t′ true → Unwired J rec u × OneMore J rec rec′ u × Dead J rec′ t′
+      by (wired h m d) = (h, m, d)
+
+  pub tested-shut : b ≡ false → (rec′ ≡ rec) × Passed J (λ x. x ≡ u) rec t t′
+  tested-shut e = by (subst (λ (x : Bool). Tested J rec t u rec′ t′ x) e r)
+    where
+      by : Tested J rec t u rec′ t′ false → (rec′ ≡ rec) × Passed J (λ x. x ≡ u) rec t t′
+      by (shut q p) = (q, p)
+
+module _ {J : Job} {P : ℕ → Type 0} {rec t rec′ t′ : List ℕ} {y : Next} (r : Answered J P rec t rec′ t′ y) where
+  pub was-laid : {u : ℕ} → y ≡ Laid u → (u < spots) × Unwired J rec u × OneMore J rec rec′ u × Dead J rec′ t′
+  was-laid {u} e = by (subst (λ (x : Next). Answered J P rec t rec′ t′ x) e r)
+    where
+      by : Answered J P rec t rec′ t′ (Laid u) → (u < spots) × Unwired J rec u × OneMore J rec rec′ u × Dead J rec′ t′
+      by (laid l h M D) = (l, h, M, D)
+
+  pub was-nothing : y ≡ Nothing → (rec′ ≡ rec) × Passed J P rec t t′
+  was-nothing e = by (subst (λ (x : Next). Answered J P rec t rec′ t′ x) e r)
+    where
+      by : Answered J P rec t rec′ t′ Nothing → (rec′ ≡ rec) × Passed J P rec t t′
+      by (nothing q p) = (q, p)
+
+-- the loads are still those of the beginning
+module _ {rec rec₁ : List ℕ} (q : rec₁ ≡ rec) where
+  pub whole-still : {job : List ℕ} → Whole job rec → Whole job rec₁
+  whole-still o = record { asked = o .asked; loads = omega (arith, o .loads, ap length q) }
+
+  pub held-still : {J : Job} → Held J rec → Held J rec₁
+  held-still {J} = subst (λ (x : List ℕ). Held J x) (sym q)
+
+  pub dead-still : {J : Job} (t : List ℕ) → Dead J rec t → Dead J rec₁ t
+  dead-still {J} t = subst (λ (x : List ℕ). Dead J x t) (sym q)
+
+  -- a pin was passed, or a wire laid from it
+  pub tested-still : {J : Job} {t : List ℕ} {u : ℕ} {rec₂ t₂ : List ℕ} {b : Bool} → Tested J rec₁ t u rec₂ t₂ b → Tested J rec t u rec₂ t₂ b
+  tested-still {J} {t} {u} {rec₂} {t₂} {b} = subst (λ (x : List ℕ). Tested J x t u rec₂ t₂ b) q
+
+  pub answered-still : {J : Job} {P : ℕ → Type 0} {t rec₂ t₂ : List ℕ} {y : Next} → Answered J P rec₁ t rec₂ t₂ y → Answered J P rec t rec₂ t₂ y
+  answered-still {J} {P} {t} {rec₂} {t₂} {y} = subst (λ (x : List ℕ). Answered J P x t rec₂ t₂ y) q
+
+-- a wire laid is one from any spot, whatever was marked before
+pub laid-from : {J : Job} {P : ℕ → Type 0} {rec t t₁ rec₂ t₂ : List ℕ} {u : ℕ} {b : Bool} → Tested J rec t₁ u rec₂ t₂ b → b ≡ true → u < spots
+    → Answered J P rec t rec₂ t₂ (Laid u)
+laid-from r e l = let (h, m, d) = tested-wired r e in laid l h m d
+
+pub laid-in-row : {J : Job} {P Q : ℕ → Type 0} {rec t t₁ rec₂ t₂ : List ℕ} {u : ℕ} {y : Next} → Answered J P rec t₁ rec₂ t₂ y → y ≡ Laid u
+    → Answered J Q rec t rec₂ t₂ (Laid u)
+laid-in-row r e = let (l, h, m, d) = was-laid r e in laid l h m d

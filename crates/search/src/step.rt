@@ -1,0 +1,44 @@
+// Step: one wire more, if one fits. It works on a copy of the record, so that a record that takes no wire more is not touched.
+ghost use Rattle.model.specs.Record.{jobOf, Legal};
+ghost use Rattle.search.specs.Steps.{Whole};
+ghost use Rattle.search.specs.Pins.{Held};
+ghost use Rattle.search.specs.Outcome.{Extended, StepDid};
+use crate::copy::copy;
+use crate::next::Next;
+use crate::next::next_wire;
+use crate::untangle::untangle;
+
+// One wire more is laid; or no wire more fits.
+pub enum Progress {
+    Added,
+    Full,
+}
+
+// One wire more in the loads, if one fits.
+fn extend(job: &[u8], loads: &mut [u8]) -> Next
+    requires { ⌜ Whole (now job) (now loads) × Held (jobOf (now job)) (now loads) ⌝ }
+    ensures { λ y. ⌜ Extended (jobOf (now (job .entry))) (now (loads .entry)) (now (loads .exit)) y ⌝ }
+{
+    let mut marks = [0u8; 13128];
+    let mut queue = [0u16; 13128];
+    let mut parent = [0u16; 13128];
+    let mut slot = [0u8; 13128];
+    next_wire(job, loads, &mut marks, &mut queue, &mut parent, &mut slot)
+}
+
+// One wire more in the record, if one fits.
+pub fn step(rec: &mut [u8]) -> Progress
+    requires { ⌜ Legal (now rec) ⌝ }
+    ensures { λ r. ⌜ StepDid (now (rec .entry)) (now (rec .exit)) r ⌝ }
+{
+    let mut loads = [0u8; 32768];
+    copy(rec, &mut loads);
+    match extend(rec, &mut loads) {
+        Next::Laid(_) => {
+            untangle(&mut loads);
+            copy(&loads, rec);
+            Progress::Added
+        }
+        Next::Nothing => Progress::Full,
+    }
+}
