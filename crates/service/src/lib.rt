@@ -2,6 +2,7 @@
 // every byte.
 pub mod answer; // the answers
 pub mod edits; // New, Mark, Close
+mod scratch; // the lent scratch
 pub mod wires; // Part
 pub mod texts; // Read text
 
