@@ -25,3 +25,4 @@ pub mod Copies
 pub mod Outcome
 pub mod Added
 pub mod Stepping
+pub mod Routing
