@@ -38,3 +38,7 @@ pub record RoutedAll (rec rec′ near near′ : List ℕ) (k : ℕ) : Type 0 whe
   pub greatest : Greatest (jobOf rec) (wiresIn rec′)
   pub lacks : k ≡ chosenCount (jobOf rec) - wiresIn rec′
   pub shown : Shown (jobOf rec) (wiresIn rec′) near near′
+
+-- what is lacking, shown by some record with every wire that fits
+abbrev pub Lacks : List ℕ → List ℕ → List ℕ → ℕ → Type 0
+Lacks rec near near′ k = (rec′ : List ℕ) × RoutedAll rec rec′ near near′ k

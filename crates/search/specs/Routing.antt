@@ -72,6 +72,17 @@ wires-few {J} {rec} H =
       starts-count J (H .fits) rec (H .feasible),
     )
 
+-- a legal record holds its own loads
+pub legal-held : {rec : List ℕ} → Legal rec → Held (jobOf rec) rec
+legal-held g =
+    record {
+      fits = g .values .array;
+      caps = g .values .caps;
+      long = g .long;
+      bytes = λ k r c. g .values .loads k r c;
+      feasible = g .sound .feasible;
+    }
+
 pub unwired-count : {J : Job} {rec : List ℕ} → Held J rec → unwiredCount J rec ≡ chosenCount J - wireCount J (load rec)
 unwired-count {J} {rec} H =
     omega (
@@ -118,7 +129,7 @@ more-wired {J} {rec} {rec′} H M r c w =
 
 -- ---- all wires
 
-module _ {rec : List ℕ} (legal : Legal rec) {loads loads′ loads″ t : List ℕ} (q : loads ≡ over (front rec) (replicate recordSize 0))
+module _ {rec : List ℕ} (legal : Legal rec) {loads loads′ loads″ t : List ℕ} (q : loads ≡ front rec)
     (F : Filled (jobOf rec) loads loads′ t) (U : Freed loads′ loads″) {k : ℕ} (n : k ≡ unwiredCount (jobOf rec) loads″) {rec′ : List ℕ}
     (back : rec′ ≡ over (front loads″) rec) where
   abbrev J : Job
@@ -128,7 +139,7 @@ module _ {rec : List ℕ} (legal : Legal rec) {loads loads′ loads″ t : List 
   L = U .loose J (F .more .held)
 
   M : More J (front rec) loads″
-  M = more-loose (subst (λ (x : List ℕ). More J x loads′) (copied legal q) (F .more)) L
+  M = more-loose (subst (λ (x : List ℕ). More J x loads′) q (F .more)) L
 
   same-wires : wireCount J (load loads″) ≡ wireCount J (load loads′)
   same-wires = loose-wires (F .more .held) L

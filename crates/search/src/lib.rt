@@ -7,3 +7,9 @@ pub mod fill; // wires laid until no more fits
 pub mod copy; // the bytes of a record
 pub mod step; // one wire more in a record
 pub mod route; // all wires, and what is lacking
+
+pub use route::lacking;
+pub use route::route_all;
+pub use route::shortfall;
+pub use step::Progress;
+pub use step::step;

@@ -1,16 +1,17 @@
 // All wires that fit, and what the rest lacks: the record is filled, and the smallest near side is shown where some chosen pin stays unwired.
 ghost use mathlib.Core.Path.{_≡_};
 ghost use Prim.Native.Nat.{_-_, _≤_, _<_};
-ghost use lib.ListN.{length};
+ghost use lib.ListN.{length, take};
 ghost use Rattle.sums.specs.Counting.{when};
 ghost use Rattle.model.specs.Record.{recordSize, jobOf, Legal, over};
-ghost use Rattle.model.specs.Calls.{nearBytes};
+ghost use Rattle.model.specs.Route.{chosenCount};
+ghost use Rattle.model.specs.Calls.{wiresIn, nearBytes};
 ghost use Rattle.channel.specs.Map.{spots, want, starts};
 ghost use Rattle.search.specs.Marks.{marked};
 ghost use Rattle.search.specs.Steps.{Whole};
 ghost use Rattle.search.specs.Pins.{Held};
 ghost use Rattle.search.specs.Fill.{Filled, unwiredCount};
-ghost use Rattle.search.specs.Outcome.{RoutedAll};
+ghost use Rattle.search.specs.Outcome.{RoutedAll, Lacks};
 use crate::copy::copy;
 use crate::fill::fill;
 use crate::untangle::untangle;
@@ -54,6 +55,14 @@ fn unwired(job: &[u8], loads: &[u8]) -> usize
     n
 }
 
+// How many chosen pins of a record have no wire.
+pub fn lacking(rec: &[u8]) -> usize
+    requires { ⌜ Legal (now rec) ⌝ }
+    ensures { λ n. ⌜ n ≡ chosenCount (jobOf (now (rec .entry))) - wiresIn (now (rec .entry)) ⌝ }
+{
+    unwired(rec, rec)
+}
+
 // The near side's byte of the spot i: 1 where it is marked, else 0.
 fn near_byte(marks: &[u8], i: usize) -> u8
     requires { ⌜ spots ≤ length (now marks) ⌝ }
@@ -78,21 +87,39 @@ fn show(marks: &[u8], near: &mut [u8])
     }
 }
 
-// All wires that fit, in the record; how many chosen pins stay unwired, and the near side if any does.
-pub fn route_all(rec: &mut [u8], near: &mut [u8]) -> usize
-    requires { ⌜ Legal (now rec) × (recordSize ≤ length (now near)) ⌝ }
-    ensures { λ k. ⌜ RoutedAll (now (rec .entry)) (now (rec .exit)) (now (near .entry)) (now (near .exit)) k ⌝ }
+// All wires that fit, in a copy of the record; how many chosen pins stay unwired, and the near side if any does.
+fn fill_copy(rec: &[u8], loads: &mut [u8], near: &mut [u8]) -> usize
+    requires { ⌜ Legal (now rec) × (length (now loads) ≡ recordSize) × (recordSize ≤ length (now near)) ⌝ }
+    ensures { λ k. ⌜ RoutedAll (now (rec .entry)) (over (take recordSize (now (loads .exit))) (now (rec .entry))) (now (near .entry)) (now (near .exit)) k ⌝ }
 {
-    let mut loads = [0u8; 32768];
     let mut marks = [0u8; 13128];
-    copy(rec, &mut loads);
-    lay_all(rec, &mut loads, &mut marks);
-    untangle(&mut loads);
-    let k = unwired(rec, &loads);
-    copy(&loads, rec);
+    copy(rec, loads);
+    lay_all(rec, loads, &mut marks);
+    untangle(loads);
+    let k = unwired(rec, loads);
     if k == 0 {
         return 0;
     }
     show(&marks, near);
     k
+}
+
+// All wires that fit, in the record.
+pub fn route_all(rec: &mut [u8], near: &mut [u8]) -> usize
+    requires { ⌜ Legal (now rec) × (recordSize ≤ length (now near)) ⌝ }
+    ensures { λ k. ⌜ RoutedAll (now (rec .entry)) (now (rec .exit)) (now (near .entry)) (now (near .exit)) k ⌝ }
+{
+    let mut loads = [0u8; 32768];
+    let k = fill_copy(rec, &mut loads, near);
+    copy(&loads, rec);
+    k
+}
+
+// The same, with the record left as it is.
+pub fn shortfall(rec: &[u8], near: &mut [u8]) -> usize
+    requires { ⌜ Legal (now rec) × (recordSize ≤ length (now near)) ⌝ }
+    ensures { λ k. ⌜ Lacks (now (rec .entry)) (now (near .entry)) (now (near .exit)) k ⌝ }
+{
+    let mut loads = [0u8; 32768];
+    fill_copy(rec, &mut loads, near)
 }

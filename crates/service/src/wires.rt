@@ -3,11 +3,11 @@ use crate::answer::Answer;
 use crate::scratch::clear;
 use audit::sound;
 use channel::is_chosen;
+use search::Progress;
 use search::lacking;
-use search::step::Progress;
 use wire::part_at;
 ghost use mathlib.Core.List.{[]};
-ghost use Rattle.model.specs.Calls.{step as Step, part as Part, after, Did};
+ghost use Rattle.model.specs.Calls.{step as Step, shortfall as Shortfall, part as Part, after, Did};
 ghost use Rattle.service.specs.Answers.{asAnswer};
 
 // One wire more, if one fits.
@@ -28,6 +28,25 @@ pub fn step(rec: &mut [u8], scratch: &mut [u8]) -> Answer
         return Answer::AllWired;
     }
     Answer::Short
+}
+
+// The chosen pins less the greatest number, and the near side where that is not 0.
+pub fn shortfall(rec: &[u8], scratch: &mut [u8], output: &mut [u8]) -> Answer
+    ensures { λ a. ⌜ Did (Shortfall (now (scratch .entry)) (now (output .entry))) (now (rec .entry))
+        (after (asAnswer a) (now (rec .entry)) (now (scratch .exit)) (now (output .exit))) ⌝ }
+{
+    if !sound(rec) {
+        return Answer::Refused(1);
+    }
+    if scratch.len() < 65536 {
+        return Answer::Refused(8);
+    }
+    if output.len() < 32768 {
+        return Answer::Refused(7);
+    }
+    clear(scratch);
+    let lack = search::shortfall(rec, output);
+    Answer::Lacks(lack)
 }
 
 // The part of a pin's wire at an index.

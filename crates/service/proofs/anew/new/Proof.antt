@@ -5,8 +5,8 @@ use borrow.Author.Needs.{needs}
 use borrow.Author.Tests.{not-false}
 use Rattle.sums.specs.Tests.{so}
 use Rattle.service.specs.Anew.{new-brief, new-array, new-caps, new-done, array-bytes, caps-bytes}
-use Rattle.service.proofs.edits.new.Statement.{statement}
-use Rattle.service.proofs.edits.new.Tie as tie
+use Rattle.service.proofs.anew.new.Statement.{statement}
+use Rattle.service.proofs.anew.new.Tie as tie
 
 returns : tie.Need-returns
 returns c =
