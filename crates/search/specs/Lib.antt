@@ -26,3 +26,4 @@ pub mod Outcome
 pub mod Added
 pub mod Stepping
 pub mod Routing
+pub mod Ends

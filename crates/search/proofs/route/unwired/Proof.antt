@@ -21,7 +21,9 @@ unfolding sum
 loop-holds c = (omega arith, omega arith, refl)
 
 lacks-requires : tie.Need-lacks-requires Inv-loop μ-loop
-lacks-requires c κs = (c .before .before .before .before .pre, omega arith)
+lacks-requires c κs =
+    let p = c .before .before .before .before .pre in
+    (record { asked = p .asked; loads = omega arith }, omega arith)
 
 add-n : tie.Need-add-n Inv-loop μ-loop
 add-n c = omega (arith, c .lacks .ensures .1)
