@@ -7,7 +7,7 @@ use Prim.Native.Nat.{ℕ, _+_, _-_, _≤_, _<_}
 use native.Mathlib.Numerals.{add-one}
 use native.Mathlib.Omega.{arith}
 use lib.Dec.{T, ltb}
-use lib.ListN.{getD, replicate}
+use lib.ListN.{length, getD}
 use Rattle.sums.specs.Counting.{when, sum, each}
 use Rattle.sums.specs.Tests.{and-left}
 use Rattle.sums.specs.Sums.{when-none, when-so, when-implies, sum-cong, sum-le, sum-add}
@@ -29,8 +29,7 @@ use Rattle.search.specs.Loose.{Loosened, Freed}
 use Rattle.search.specs.Rings.{loose-held, loose-wires}
 use Rattle.search.specs.Fill.{More, Filled, unwiredCount}
 use Rattle.search.specs.Filling.{saturated-smallest, saturated-greatest}
-use Rattle.search.specs.Copies.{front, front-whole, front-load, front-held, new-length, put-job, put-wired, put-wires, put-legal}
-use Rattle.search.specs.Stepping.{copied}
+use Rattle.search.specs.Copies.{front, over-whole, front-whole, front-length, front-load, front-held, new-length, put-job, put-wired, put-wires, put-legal}
 use Rattle.search.specs.Outcome.{RoutedAll}
 
 -- ---- the bytes of a near side
@@ -129,6 +128,13 @@ more-wired {J} {rec} {rec′} H M r c w =
 
 -- ---- all wires
 
+-- a copy of the record has its bytes, and holds its loads
+pub copied-front : {rec loads : List ℕ} → Legal rec → (old : List ℕ) → length old ≡ recordSize → loads ≡ over (front rec) old → loads ≡ front rec
+copied-front {rec} legal old l q = q ∙ over-whole (front rec) old (front-length rec (legal .long)) l
+
+pub copy-held : {rec loads : List ℕ} → Legal rec → loads ≡ front rec → Held (jobOf rec) loads
+copy-held {rec} legal q = subst (λ (x : List ℕ). Held (jobOf rec) x) (sym q) (front-held rec legal)
+
 module _ {rec : List ℕ} (legal : Legal rec) {loads loads′ loads″ t : List ℕ} (q : loads ≡ front rec)
     (F : Filled (jobOf rec) loads loads′ t) (U : Freed loads′ loads″) {k : ℕ} (n : k ≡ unwiredCount (jobOf rec) loads″) {rec′ : List ℕ}
     (back : rec′ ≡ over (front loads″) rec) where
@@ -183,3 +189,7 @@ module _ {rec : List ℕ} (legal : Legal rec) {loads loads′ loads″ t : List 
 
   pub routed-short : {near near′ : List ℕ} → k ≢ 0 → near′ ≡ over (nearBytes (marked t)) near → RoutedAll rec rec′ near near′ k
   routed-short e s = routed (side (omega (arith, lacking)) (marked t) smallest s)
+
+-- the copy, copied back
+pub routed-back : {rec rec′ rec″ near near′ : List ℕ} {k : ℕ} → rec″ ≡ rec′ → RoutedAll rec rec′ near near′ k → RoutedAll rec rec″ near near′ k
+routed-back {rec} {near = near} {near′ = near′} {k = k} e R = subst (λ (x : List ℕ). RoutedAll rec x near near′ k) (sym e) R

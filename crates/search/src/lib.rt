@@ -11,5 +11,3 @@ pub mod route; // all wires, and what is lacking
 pub use route::lacking;
 pub use route::route_all;
 pub use route::shortfall;
-pub use step::Progress;
-pub use step::step;

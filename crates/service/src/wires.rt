@@ -3,8 +3,8 @@ use crate::answer::Answer;
 use crate::scratch::clear;
 use audit::sound;
 use channel::is_chosen;
-use search::Progress;
 use search::lacking;
+use search::step::Progress;
 use wire::part_at;
 ghost use mathlib.Core.List.{[]};
 ghost use Rattle.model.specs.Calls.{step as Step, shortfall as Shortfall, part as Part, after, Did};
@@ -21,7 +21,7 @@ pub fn step(rec: &mut [u8], scratch: &mut [u8]) -> Answer
         return Answer::Refused(8);
     }
     clear(scratch);
-    let Progress::Full = search::step(rec) else {
+    let Progress::Full = search::step::step(rec) else {
         return Answer::Added;
     };
     if lacking(rec) == 0 {
