@@ -23,6 +23,9 @@ const EXCHANGED: [u8; 64] =
 // A byte after its end.
 const LONGER: [u8; 65] = *b"(array (pins 2 2) (caps 1 2 0))\n(chosen 0 0)\n(closed 0 0)\n(end)\n\n";
 
+// An output one byte shorter than it.
+const NARROW: [u8; 63] = [7; 63];
+
 // What is counted.
 const REFUSED: usize = 0;
 
@@ -82,6 +85,15 @@ fn is_refused(text: &[u8], offset: usize) -> bool {
         return false;
     };
     at == offset
+}
+
+// An output without room is refused, and keeps every byte.
+fn keeps(text: &[u8; 64]) -> bool {
+    let mut out = NARROW;
+    let Outcome::Short = again(text, &mut out) else {
+        return false;
+    };
+    same(&out, &NARROW)
 }
 
 // Reads the file of the vector `name` that has this ending, and gives its length.
@@ -165,12 +177,13 @@ fn vectors(counts: &mut [u64; 5]) {
     }
 }
 
-// The examples that document 01 gives.
+// The examples that document 01 gives, and an output that is too short for the first.
 fn examples(counts: &mut [u64; 5]) {
     tally_right(counts, comes_back(&EXAMPLE), READ);
     tally_right(counts, is_refused(&EXCHANGED, 45), REFUSED);
     tally_right(counts, is_refused(b"", 0), REFUSED);
     tally_right(counts, is_refused(&LONGER, 64), REFUSED);
+    tally_right(counts, keeps(&EXAMPLE), REFUSED);
 }
 
 // The oracle says of the text what the reader says.
