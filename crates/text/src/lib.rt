@@ -2,6 +2,7 @@
 pub mod words; // the fixed byte strings
 pub mod scan; // words and numbers at an offset
 pub mod lines; // the forms of a line
+pub mod held; // a reader that holds the text and the offset of its next line
 pub mod reader; // which line may stand where, and the judgement of a whole text
 pub mod into; // the job of a text in a record
 pub mod count; // the length of a job's text

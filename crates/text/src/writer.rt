@@ -13,8 +13,9 @@ use crate::words::END;
 use crate::words::GROUP_END;
 use crate::words::MISSING;
 ghost use mathlib.Core.Path.{_≡_};
-ghost use Prim.Native.Nat.{_<_};
-ghost use Rattle.model.specs.Record.{jobOf, Legal};
+ghost use Prim.Native.Nat.{_≤_, _<_};
+ghost use lib.ListN.{length};
+ghost use Rattle.model.specs.Record.{recordSize, jobOf, Legal};
 ghost use Rattle.model.specs.Text.{arrayLine, groupLine, lineBytes, groupText, textOf};
 ghost use Rattle.model.specs.Calls.{written};
 ghost use Rattle.text.specs.Lines.{opening, Below100};
@@ -53,7 +54,7 @@ fn put_line(out: &mut [u8], at: usize, group: usize, row: usize, column: usize) 
 
 // What a group has at a cell: its line, or nothing.
 fn put_cell(rec: &[u8], out: &mut [u8], at: usize, group: usize, row: usize, column: usize) -> usize
-    requires { ⌜ Sized (now rec) ⌝ }
+    requires { ⌜ recordSize ≤ length (now rec) ⌝ }
     requires { ⌜ (row < 100) × (column < 100) ⌝ }
     requires { ⌜ Room (now out) at (cellText (jobOf (now rec)) (groupOf group) row column) ⌝ }
     ensures { λ r. ⌜ Puts (now (out .entry)) at (cellText (jobOf (now (rec .entry))) (groupOf group) row column) (now (out .exit)) r ⌝ }
