@@ -1,0 +1,4 @@
+-- The bytes of the listing, and laying them on a page.
+pub mod Lines
+pub mod Near
+pub mod Puts
