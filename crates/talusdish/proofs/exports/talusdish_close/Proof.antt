@@ -1,5 +1,4 @@
 -- `talusdish_close` meets its contract: the answer of Close fits a word. Assumes nothing.
-use denote.Ref.{now}
 use borrow.Author.Needs.{needs}
 use Rattle.model.specs.Calls.{close}
 use Rattle.talusdish.specs.Small.{did-small}
@@ -10,7 +9,9 @@ close-requires : tie.Need-close-requires
 close-requires c κs = search needs
 
 word-of-requires : tie.Need-word-of-requires
-word-of-requires c κs = let a = c .before .before .before .before .before .args in did-small (close (a .row) (a .column) (a .state)) (now (a .rec)) _ (c .before .before .close .ensures)
+word-of-requires c κs =
+    let a = c .before .before .before .before .before .args in
+    did-small (close (a .row) (a .column) (a .state)) _ _ (c .before .before .close .ensures)
 
 same-length : tie.Need-same-length
 same-length c = search needs

@@ -1,5 +1,4 @@
 -- `talusdish_mark` meets its contract: the answer of Mark fits a word. Assumes nothing.
-use denote.Ref.{now}
 use borrow.Author.Needs.{needs}
 use Rattle.model.specs.Calls.{mark}
 use Rattle.talusdish.specs.Small.{did-small}
@@ -10,7 +9,9 @@ mark-requires : tie.Need-mark-requires
 mark-requires c κs = search needs
 
 word-of-requires : tie.Need-word-of-requires
-word-of-requires c κs = let a = c .before .before .before .before .before .args in did-small (mark (a .row) (a .column) (a .mark)) (now (a .rec)) _ (c .before .before .mark .ensures)
+word-of-requires c κs =
+    let a = c .before .before .before .before .before .args in
+    did-small (mark (a .row) (a .column) (a .mark)) _ _ (c .before .before .mark .ensures)
 
 same-length : tie.Need-same-length
 same-length c = search needs

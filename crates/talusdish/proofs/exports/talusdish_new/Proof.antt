@@ -10,7 +10,9 @@ new-requires : tie.Need-new-requires
 new-requires c κs = search needs
 
 word-of-requires : tie.Need-word-of-requires
-word-of-requires c κs = let a = c .before .before .before .before .before .args in did-small (new (a .rows) (a .columns) (a .o) (a .d) (a .e)) (now (a .rec)) _ (c .before .before .new .ensures)
+word-of-requires c κs =
+    let a = c .before .before .before .before .before .args in
+    did-small (new (a .rows) (a .columns) (a .o) (a .d) (a .e)) (now (a .rec)) _ (c .before .before .new .ensures)
 
 same-length : tie.Need-same-length
 same-length c = search needs

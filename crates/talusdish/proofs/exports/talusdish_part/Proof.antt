@@ -1,5 +1,4 @@
 -- `talusdish_part` meets its contract: the answer of Part fits a word. Assumes nothing.
-use denote.Ref.{now}
 use borrow.Author.Needs.{needs}
 use Rattle.model.specs.Calls.{part}
 use Rattle.talusdish.specs.Small.{did-small}
@@ -10,7 +9,9 @@ part-requires : tie.Need-part-requires
 part-requires c κs = search needs
 
 word-of-requires : tie.Need-word-of-requires
-word-of-requires c κs = let a = c .before .before .args in did-small (part (a .row) (a .column) (a .index)) (now (a .rec)) _ (c .part .ensures)
+word-of-requires c κs =
+    let a = c .before .before .args in
+    did-small (part (a .row) (a .column) (a .index)) _ _ (c .part .ensures)
 
 returns : tie.Need-returns
 returns c = search needs
