@@ -1,6 +1,6 @@
 -- `place_number` meets its contract: the table has the number of every kind of spot. Assumes nothing.
-use Rattle.talusdish.specs.Numbers.{place-table, place-past}
 use borrow.Author.Needs.{needs}
+use Rattle.talusdish.specs.Numbers.{place-table, place-past}
 use Rattle.talusdish.proofs.word.place_number.Statement.{statement}
 use Rattle.talusdish.proofs.word.place_number.Tie as tie
 
