@@ -1,2 +1,9 @@
--- how far a text is read
+-- the word of an answer
+pub mod Words
+-- the numbers of places
+pub mod Numbers
+-- how far a text is read, and how large the numbers of a part are
 pub mod TextBound
+pub mod PartBound
+-- every answer of an operation fits a word
+pub mod Small

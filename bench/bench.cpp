@@ -1,0 +1,195 @@
+// bench JOB..: the library and the plain router on the same jobs, and each operation on full and idle records, as tables in Markdown. Times are those of the
+// processor, so that other work on the machine counts little. Ends with status 1 where the library's wires are not the plain router's greatest number.
+#include "baseline.h"
+#include "talusdish.h"
+
+#include <cstdint>
+#include <cstdlib>
+#include <ctime>
+#include <fstream>
+#include <functional>
+#include <iterator>
+
+namespace {
+
+using Bytes = std::vector<uint8_t>;
+
+double now() { // microseconds
+    timespec t;
+    clock_gettime(CLOCK_PROCESS_CPUTIME_ID, &t);
+    return 1e6 * static_cast<double>(t.tv_sec) + 1e-3 * static_cast<double>(t.tv_nsec);
+}
+
+double median(std::vector<double> times) {
+    std::sort(times.begin(), times.end());
+    return times[times.size() / 2];
+}
+
+const uint8_t *bytes(const std::string &text) { return reinterpret_cast<const uint8_t *>(text.data()); }
+
+// A record with the scratch and the output that its calls are lent.
+struct Host {
+    Bytes record = Bytes(TALUSDISH_RECORD), scratch = Bytes(TALUSDISH_SCRATCH), output = Bytes(TALUSDISH_RECORD);
+
+    uint64_t read(const std::string &text) { return talusdish_read_text(record.data(), record.size(), bytes(text), text.size()); }
+    uint64_t step() { return talusdish_step(record.data(), record.size(), scratch.data(), scratch.size()); }
+    uint64_t shortfall() {
+        return talusdish_shortfall(record.data(), record.size(), scratch.data(), scratch.size(), output.data(), output.size());
+    }
+
+    // Steps until no wire more fits; how many were added.
+    uint64_t fill() {
+        uint64_t wires = 0;
+        while (step() == 0) wires++;
+        return wires;
+    }
+};
+
+struct Timed {
+    uint64_t wires, lack;
+    double reading, stepping, lacking;
+    double whole() const { return reading + stepping + lacking; }
+};
+
+// From empty buffers to the last answer.
+Timed run(const std::string &text) {
+    Host host;
+    Timed t;
+    const double a = now();
+    const uint64_t read = host.read(text);
+    const double b = now();
+    t.wires = host.fill();
+    const double c = now();
+    const uint64_t lack = host.shortfall();
+    const double d = now();
+    if (read != 0 || TALUSDISH_CODE(lack) != 0) {
+        std::fprintf(stderr, "a job was refused by %d\n", static_cast<int>(read ? TALUSDISH_CODE(read) : TALUSDISH_CODE(lack)));
+        std::exit(1);
+    }
+    t.lack = TALUSDISH_VALUE(lack);
+    t.reading = b - a;
+    t.stepping = c - b;
+    t.lacking = d - c;
+    return t;
+}
+
+// One row of the first table; whether the two agree.
+bool compare(const std::string &name, const std::string &text) {
+    baseline::Job job;
+    baseline::Answer plain{};
+    std::vector<double> times;
+    for (int i = 0; i < 5; i++) {
+        const double start = now();
+        baseline::read(text, job);
+        plain = baseline::route(job);
+        times.push_back(now() - start);
+    }
+    const double other = median(times);
+    std::vector<Timed> runs;
+    for (double spent = 0; runs.size() < 5 && spent < 5e6; spent += runs.back().whole()) runs.push_back(run(text));
+    std::sort(runs.begin(), runs.end(), [](const Timed &x, const Timed &y) { return x.whole() < y.whole(); });
+    const Timed t = runs[runs.size() / 2];
+    std::printf("| %s | %d × %d | %d | %d | %.2f | %.1f | %.0f | %.1f | %.1f | %.1f | %.1f |\n", name.c_str(), job.rows, job.columns, plain.chosen,
+                static_cast<int>(t.wires), t.reading / 1e3, t.stepping / 1e3, t.stepping / static_cast<double>(t.wires + 1), t.lacking / 1e3,
+                t.whole() / 1e3, other / 1e3, t.whole() / other);
+    const bool agree = t.wires == static_cast<uint64_t>(plain.greatest) && t.wires + t.lack == static_cast<uint64_t>(plain.chosen);
+    if (!agree)
+        std::fprintf(stderr, "%s: %d wires, lacking %d; the plain router has %d of %d\n", name.c_str(), static_cast<int>(t.wires),
+                     static_cast<int>(t.lack), plain.greatest, plain.chosen);
+    return agree;
+}
+
+// Microseconds of a call on a host, which `prepare` makes ready outside the time.
+double each(const std::function<void()> &prepare, const std::function<uint64_t()> &call) {
+    std::vector<double> times;
+    for (double spent = 0; times.size() < 5 || (times.size() < 1001 && spent < 3e5); spent += times.back()) {
+        prepare();
+        const double start = now();
+        volatile uint64_t word = call();
+        (void)word;
+        times.push_back(now() - start);
+    }
+    return median(times);
+}
+
+// The columns of the second table: a record that is kept, the text of its job, a chosen pin where it has one.
+struct Column {
+    Host host;
+    Bytes kept;
+    std::string text;
+    uint64_t row = 0, column = 0;
+
+    explicit Column(const std::string &job) : text(job) {
+        host.read(text);
+        host.fill();
+        kept = host.record;
+        baseline::Job read;
+        baseline::read(text, read);
+        // the chosen pin that is nearest to the middle
+        int best = 1000;
+        for (int i = 0; i < 1600; i++) {
+            const int r = i / 40, c = i % 40, far = std::abs(2 * r - 39) + std::abs(2 * c - 39);
+            if (read.mark[i] == 1 && far < best) best = far, row = r, column = c;
+        }
+    }
+
+    double time(const std::function<uint64_t(Host &)> &call) {
+        return each([&] { host.record = kept; }, [&] { return call(host); });
+    }
+};
+
+void table(std::vector<Column> &columns) {
+    const auto line = [&](const char *name, const std::function<uint64_t(Column &, Host &)> &call) {
+        std::printf("| %s |", name);
+        for (Column &c : columns) std::printf(" %.1f |", c.time([&](Host &h) { return call(c, h); }));
+        std::printf("\n");
+    };
+    Bytes text(320200);
+    line("New", [](Column &, Host &h) { return talusdish_new(h.record.data(), h.record.size(), 40, 40, 8, 12, 8); });
+    line("Read text", [](Column &c, Host &h) { return h.read(c.text); });
+    line("Write text", [&](Column &, Host &h) { return talusdish_write_text(h.record.data(), h.record.size(), text.data(), text.size()); });
+    line("Mark, the mark already there (the audit)", [](Column &c, Host &h) {
+        return talusdish_mark(h.record.data(), h.record.size(), c.row, c.column, h.record[768 + 40 * c.row + c.column]);
+    });
+    line("Mark, another", [](Column &c, Host &h) { return talusdish_mark(h.record.data(), h.record.size(), c.row, c.column, 2); });
+    line("Close, the state already there (the audit)", [](Column &, Host &h) {
+        return talusdish_close(h.record.data(), h.record.size(), 0, 0, h.record[2368]);
+    });
+    line("Close, another", [](Column &, Host &h) {
+        return talusdish_close(h.record.data(), h.record.size(), 0, 0, 1 - h.record[2368]);
+    });
+    line("Part at 0", [](Column &c, Host &h) { return talusdish_part(h.record.data(), h.record.size(), c.row, c.column, 0); });
+    line("Part past the end", [](Column &c, Host &h) { return talusdish_part(h.record.data(), h.record.size(), c.row, c.column, 100000); });
+    line("Step, nothing to add", [](Column &, Host &h) { return h.step(); });
+    line("Shortfall", [](Column &, Host &h) { return h.shortfall(); });
+}
+
+std::string contents(const std::string &name) {
+    std::ifstream file(name, std::ios::binary);
+    return {std::istreambuf_iterator<char>(file), {}};
+}
+
+} // namespace
+
+int main(int count, char **names) {
+    bool agree = true;
+    std::printf("Milliseconds, the median of up to five runs; ratio: the whole by the plain router.\n\n");
+    std::printf("| job | array | chosen | wires | Read text | all Steps | µs a Step | Shortfall | whole | plain router | ratio |\n");
+    std::printf("|---|---|---|---|---|---|---|---|---|---|---|\n");
+    std::string folder;
+    for (int i = 1; i < count; i++) {
+        const std::string path = names[i];
+        const std::size_t slash = path.rfind('/') + 1;
+        folder = path.substr(0, slash);
+        agree = compare(path.substr(slash, path.rfind('.') - slash), contents(path)) && agree;
+        std::fflush(stdout);
+    }
+    std::printf("\nMicroseconds for a call on a record of 40 by 40 pins, the median: idle; full_wired stepped to \"all wired\"; full_short stepped to \"short\".\n\n");
+    std::printf("| operation | idle | all wired | short |\n|---|---|---|---|\n");
+    std::vector<Column> columns;
+    columns.emplace_back("(array (pins 40 40) (caps 8 12 8))\n(end)\n");
+    columns.emplace_back(contents(folder + "full_wired.job"));
+    columns.emplace_back(contents(folder + "full_short.job"));
+    table(columns);
+    return agree ? 0 : 1;
+}

@@ -1,0 +1,146 @@
+-- Every answer of an operation fits a word of 64 bits. Whether a record is legal need not be known: a test that can fail in neither case passes.
+-- Assumes nothing.
+use mathlib.Core.Path.{_≡_, refl, sym, ap, subst}
+use mathlib.Core.Bool.{Bool, true, false, not}
+use mathlib.Core.List.{List, []}
+use Prim.Native.Nat.{ℕ, _-_, _^_, _≤_, _<_}
+use native.Mathlib.Omega.{arith}
+use lib.Dec.{T, eqb, leb, leb→le, nleb→lt, ltb→lt, lt→ltb}
+use lib.ListN.{length}
+use Rattle.sums.specs.Counting.{when}
+use Rattle.sums.specs.Totals.{total-le, length-total}
+use Rattle.model.specs.Job.{Job, arrayFits, capsAdmitted, fresh, marked, closed, isPin, isTile, isChosen}
+use Rattle.model.specs.Links.{places, isPinKind}
+use Rattle.model.specs.Route.{chosenCount}
+use Rattle.model.specs.Record.{recordSize, scratchSize, jobOf, load, Legal, unwiredRecord, over}
+use Rattle.model.specs.Wires.{Part, partAt}
+use Rattle.model.specs.Text.{Verdict, reads, wrongAt, Reading, textOf}
+use Rattle.model.specs.Calls.{Call, new, mark, close, step, shortfall, part, readText, writeText, Answer, refused, wrongText, done, lacks, lists, wrote}
+use Rattle.model.specs.Calls.{After, after, edited, newly, listed, readIn, written, Stepped, adds, stays, lacking, On, Steps, Lacks, ReadIn, Did}
+use Rattle.model.proofs.Over.{legal-proper}
+use Rattle.wire.specs.Places.{when-drop}
+use Rattle.wire.specs.Lengths.{places-few}
+use Rattle.talusdish.specs.TextBound.{reading-within, text-short}
+use Rattle.talusdish.specs.PartBound.{part-small}
+use Rattle.talusdish.specs.Words.{word, fits}
+
+abbrev Fits : After → Type 0
+Fits a = T (fits (a .answer))
+
+stable : (b : Bool) → ((T b → ⊥) → ⊥) → T b
+stable true n = tt
+stable false n = n (λ t. t)
+
+as-fits : {a b : After} → a ≡ b → Fits b → Fits a
+as-fits e t = subst Fits (sym e) t
+
+-- ---- a damaged record, a legal one, and buffers that are too short
+
+on-fits : {P : Type 0} (rec scratch output : List ℕ) (a : After) → On rec scratch output a P → (Legal rec → P → Fits a) → Fits a
+on-fits rec scratch output a d h = stable (fits (a .answer)) (λ n. n (as-fits (d .damaged (λ g. n (h g (d .legal g)))) tt))
+
+edited-fits : (there known already : Bool) (K : Job) (rec : List ℕ) → Fits (edited there known already K rec)
+edited-fits false known already K rec = tt
+edited-fits true false already K rec = tt
+edited-fits true true true K rec = tt
+edited-fits true true false K rec = tt
+
+stepped-fits : {rec rec′ : List ℕ} {x : Answer} → Stepped rec x rec′ → T (fits x)
+stepped-fits (adds o) = tt
+stepped-fits (stays w e) = tt
+stepped-fits (lacking G l e) = tt
+
+-- at most m, or less than it
+module _ (m n : ℕ) {P : Type 0} where
+  by-size : (n < m → P) → (m ≤ n → P) → P
+  by-size f h = by (leb m n) (leb→le m n) (nleb→lt m n)
+    where
+      by : (b : Bool) → (T b → m ≤ n) → (T (not b) → n < m) → P
+      by true p q = h (p tt)
+      by false p q = f (q tt)
+
+step-fits : (scratch rec : List ℕ) (a : After) → Steps scratch rec a → Fits a
+step-fits scratch rec a d = by-size scratchSize (length scratch) (λ l. as-fits (d .small l) tt) (λ l. stepped-fits (d .enough l .0))
+
+-- ---- the values
+
+chosen-few : (rec : List ℕ) → Legal rec → chosenCount (jobOf rec) ≤ 11200
+chosen-few rec g =
+    let J : Job = jobOf rec in
+    omega (
+      arith,
+      total-le (places J) (λ x. when (isPinKind x) 1) (λ x. 1) (λ x. when-drop (isPinKind x) 1),
+      length-total (places J),
+      places-few J (g .values .array),
+    )
+
+lacks-fits : (scratch output rec : List ℕ) → Legal rec → (a : After) → Lacks scratch output rec a → Fits a
+lacks-fits scratch output rec g a d =
+    by-size scratchSize (length scratch) (λ l. as-fits (d .small l) tt)
+    (λ l. by-size recordSize (length output) (λ k. as-fits (d .narrow l k) tt) (λ k. subst (λ x. T (fits x)) (sym (d .enough l k .2)) (number (d .enough l k .0))))
+  where
+    number : (n : ℕ) → T (fits (lacks (chosenCount (jobOf rec) - n)))
+    number n = lt→ltb (word (lacks (chosenCount (jobOf rec) - n))) (2 ^ 64) (omega (arith, chosen-few rec g))
+
+listed-fits : (rec : List ℕ) → Legal rec → (r c i : ℕ) → Fits (listed r c i rec)
+listed-fits rec g r c i = by (isChosen (jobOf rec) r c)
+  where
+    p : Part
+    p = partAt (jobOf rec) (load rec) r c i
+
+    by : (b : Bool) → Fits (elim b as (λ x. After) [ false ↦ after (refused 4) rec [] [] | true ↦ after (lists p) rec [] [] ])
+    by false = tt
+    by true = lt→ltb (word (lists p)) (2 ^ 64) (omega (arith, part-small rec g r c i))
+
+read-fits : (text rec : List ℕ) (a : After) → ReadIn text rec a → Fits a
+read-fits text rec a d = by-size recordSize (length rec) (λ l. as-fits (d .brief l) tt) (λ l. let (v, r, e) = d .long l in as-fits e (by v r))
+  where
+    by : (v : Verdict) → Reading text v → Fits (readIn v rec)
+    by (reads K) r = tt
+    by (wrongAt o) r = lt→ltb (word (wrongText o)) (2 ^ 64) (omega (arith, reading-within text (wrongAt o) r))
+
+written-fits : (output rec : List ℕ) → Legal rec → Fits (written output rec)
+written-fits output rec g = by (leb (length (textOf (jobOf rec))) (length output))
+  where
+    n : ℕ
+    n = length (textOf (jobOf rec))
+
+    by : (b : Bool) → Fits (elim b as (λ x. After) [ false ↦ after (refused 7) rec [] output | true ↦ after (wrote n) rec [] (over (textOf (jobOf rec)) output) ])
+    by false = tt
+    by true = lt→ltb (word (wrote n)) (2 ^ 64) (omega (arith, text-short (jobOf rec) (legal-proper rec g)))
+
+newly-fits : (rows columns O D E : ℕ) (rec : List ℕ) → Fits (newly rows columns O D E rec)
+newly-fits rows columns O D E rec = by (leb recordSize (length rec)) (arrayFits rows columns) (capsAdmitted O D E)
+  where
+    by : (x y z : Bool) → Fits
+        (elim x as (λ w. After) [
+          | false ↦ after (refused 1) rec [] []
+          | true ↦ elim y as (λ w. After) [
+            | false ↦ after (refused 2) rec [] []
+            | true ↦ elim z as (λ w. After) [
+              | false ↦ after (refused 3) rec [] []
+              | true ↦ after done (over (unwiredRecord (fresh rows columns O D E)) rec) [] []
+            ]
+          ]
+        ])
+    by true true true = tt
+    by true true false = tt
+    by true false z = tt
+    by false y z = tt
+
+-- ---- every operation
+
+did-fits : (c : Call) (rec : List ℕ) (a : After) → Did c rec a → Fits a
+did-fits (new rows columns O D E) rec a d = as-fits d (newly-fits rows columns O D E rec)
+did-fits (mark r c m) rec a d =
+    on-fits rec [] [] a d (λ g e. as-fits e (edited-fits (isPin (jobOf rec) r c) (leb m 2) (eqb (jobOf rec .mark r c) m) (marked (jobOf rec) r c m) rec))
+did-fits (close r c v) rec a d =
+    on-fits rec [] [] a d (λ g e. as-fits e (edited-fits (isTile (jobOf rec) r c) (leb v 1) (eqb (jobOf rec .state r c) v) (closed (jobOf rec) r c v) rec))
+did-fits (step scratch) rec a d = on-fits rec scratch [] a d (λ g s. step-fits scratch rec a s)
+did-fits (shortfall scratch output) rec a d = on-fits rec scratch output a d (λ g s. lacks-fits scratch output rec g a s)
+did-fits (part r c i) rec a d = on-fits rec [] [] a d (λ g e. as-fits e (listed-fits rec g r c i))
+did-fits (readText text) rec a d = read-fits text rec a d
+did-fits (writeText output) rec a d = on-fits rec [] output a d (λ g e. as-fits e (written-fits output rec g))
+
+pub did-small : (c : Call) (rec : List ℕ) (a : After) → Did c rec a → word (a .answer) < 2 ^ 64
+did-small c rec a d = ltb→lt (word (a .answer)) (2 ^ 64) (did-fits c rec a d)

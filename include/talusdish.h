@@ -1,0 +1,72 @@
+/* Talusdish: escape routing of a pin array with diagonal capacity.
+ *
+ * Link with libtalusdish.a, which `rt staticlib talusdish` writes to target/staticlib/. x86-64 Linux.
+ *
+ * Every function returns 256 * value + code.
+ *
+ * code   0  accepted
+ *        1  record under 32,768 bytes, or damaged
+ *        2  rows or columns not 2 to 40
+ *        3  capacities: O not 1 to 8, D not O to 2*O, or E not 0 to 16
+ *        4  no such pin or tile; in part also a pin that is not chosen
+ *        5  unknown mark or state
+ *        6  wrong text; the value is the offset of the first line that may not stand there
+ *        7  output too short
+ *        8  scratch under 65,536 bytes
+ * value  as said below; 0 where nothing is said, and with every code but 0 and 6
+ *
+ * Where several codes fit, the one that stands first at the function is returned. A refused call changes no byte.
+ *
+ * Buffers are the caller's. Each is a pointer and its length in bytes; a longer one than needed is used from its start and its rest is untouched, and NULL
+ * with length 0 is an empty buffer. The buffers of one call do not overlap, and nobody else writes them during the call. A function keeps nothing between
+ * calls. docs/RECORD.md says what each byte of a record and of shortfall's output holds.
+ */
+#ifndef TALUSDISH_H
+#define TALUSDISH_H
+
+#include <stdint.h>
+
+#define TALUSDISH_RECORD 32768  /* bytes of a record, and of shortfall's output */
+#define TALUSDISH_SCRATCH 65536 /* bytes of scratch */
+
+#define TALUSDISH_CODE(word) ((word) & 255)
+#define TALUSDISH_VALUE(word) ((word) >> 8)
+
+#ifdef __cplusplus
+extern "C" {
+#endif
+
+/* A new job: every pin idle, every tile open, no wires. 1 only for a short record; 2; 3. */
+uint64_t talusdish_new(uint8_t *record, uint64_t record_len, uint64_t rows, uint64_t columns, uint64_t o, uint64_t d, uint64_t e);
+
+/* The mark of a pin: 0 idle, 1 chosen, 2 missing. 1; 4; 5. A mark already there changes nothing, another takes out all wires. */
+uint64_t talusdish_mark(uint8_t *record, uint64_t record_len, uint64_t row, uint64_t column, uint64_t mark);
+
+/* The state of a tile: 0 open, 1 closed. 1; 4; 5. A state already there changes nothing, another takes out all wires. */
+uint64_t talusdish_close(uint8_t *record, uint64_t record_len, uint64_t row, uint64_t column, uint64_t state);
+
+/* One wire more. 1; 8. Value 0 added: one more chosen pin is wired and those wired stay wired; 1 all wired; 2 short: no more wires fit.
+ * 1 and 2 change no byte of the record. The scratch of an accepted call is zero afterwards. */
+uint64_t talusdish_step(uint8_t *record, uint64_t record_len, uint8_t *scratch, uint64_t scratch_len);
+
+/* How many chosen pins cannot be wired. 1; 8; 7 for output under 32,768 bytes. The value is the chosen pins less the greatest number. Where it is not 0,
+ * the output has 1 for each pin, place, entry and exit of the smallest near side and 0 elsewhere; where it is 0, the output is untouched. The scratch of
+ * an accepted call is zero afterwards. */
+uint64_t talusdish_shortfall(const uint8_t *record, uint64_t record_len, uint8_t *scratch, uint64_t scratch_len, uint8_t *output, uint64_t output_len);
+
+/* What a chosen pin's wire lists at an index, from 0. 1; 4. The value is kind + 4 * place + 32 * lane + 1,024 * row + 65,536 * column.
+ * kind   0 unwired, 1 past the end (all else 0), 2 to, 3 out (row and column 0)
+ * place  0 n, 1 e, 2 s, 3 w, 4 c, 5 r; of an out the rim side */
+uint64_t talusdish_part(const uint8_t *record, uint64_t record_len, uint64_t row, uint64_t column, uint64_t index);
+
+/* The job of a text, without wires. 1 only for a short record; 6. */
+uint64_t talusdish_read_text(uint8_t *record, uint64_t record_len, const uint8_t *text, uint64_t text_len);
+
+/* The text of the job, wires left out. 1; 7 for output shorter than the text. The value is the text's length; 320,200 bytes are always enough. */
+uint64_t talusdish_write_text(const uint8_t *record, uint64_t record_len, uint8_t *output, uint64_t output_len);
+
+#ifdef __cplusplus
+}
+#endif
+
+#endif
