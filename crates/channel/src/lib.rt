@@ -36,6 +36,7 @@ pub use limits::limit;
 pub use loads::carried;
 pub use loads::load_against;
 pub use loads::load_along;
+pub use loads::origin;
 pub use loads::passing;
 pub use moves::can_move;
 pub use moves::is_outside;
