@@ -1,5 +1,5 @@
 -- Document 01, demand 3, whole: of every service that keeps its promises and every run. The record of a run is a legal one of its job, the service itself
--- finds that job's greatest number, and what then holds of steps and of Shortfall is proved there. Assumes nothing.
+-- finds that job's greatest number, and what then holds of steps and of Shortfall is proved there. Assumes a service; crates/witness has one.
 use mathlib.Core.List.{List}
 use Prim.Native.Nat.{ℕ}
 use Rattle.model.specs.Job.{Job}

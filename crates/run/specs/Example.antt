@@ -1,6 +1,6 @@
 -- Runs to which demand 3 applies, whatever the service: any list of calls after a start; New on 32,768 zero bytes, an edit and a step. The starred jobs of
 -- document 01, "Settled by hand", are reached by such runs (the 64-byte text by Read text too), so every service gives the answers that stand there.
--- Assumes nothing.
+-- Assumes a service; crates/witness has one.
 use mathlib.Core.Path.{_≡_, refl}
 use mathlib.Core.Bool.{false}
 use mathlib.Core.List.{List, [], _∷_, List·Memᴰ·head, List·Memᴰ·tail}
