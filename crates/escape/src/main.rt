@@ -14,11 +14,18 @@ ghost use Prim.Native.Nat.{_≤_};
 ghost use lib.ListN.{length};
 ghost use Rattle.model.specs.Record.{recordSize, Legal};
 
-// The first n bytes of a page.
-fn print(page: &Page, n: usize)
-    requires { ⌜ n ≤ 1048576 ⌝ }
-{
-    io::write_all(STDOUT_FILENO, &page[..n]);
+// The bytes of a page.
+fn whole(page: &Page) -> &[u8] {
+    page
+}
+
+// The first n bytes of a page; all where it has fewer.
+fn print(page: &[u8], n: usize) {
+    if n < page.len() {
+        io::write_all(STDOUT_FILENO, &page[..n]);
+        return;
+    }
+    io::write_all(STDOUT_FILENO, page);
 }
 
 // The wires of a record.
@@ -26,11 +33,11 @@ fn show_wires(rec: &[u8], page: &mut Page)
     requires { ⌜ Legal (now rec) ⌝ }
 {
     let n = count_page(rec, page);
-    print(page, n);
+    print(whole(page), n);
     let mut from: usize = 0;
     while from < 1600 {
         let filled = wires_page(rec, from, page);
-        print(page, filled.length);
+        print(whole(page), filled.length);
         from = filled.next;
     }
 }
@@ -46,7 +53,7 @@ fn show_routed(rec: &mut [u8], page: &mut Page)
         return;
     }
     let n = short_page(rec, &near, short, page);
-    print(page, n);
+    print(whole(page), n);
 }
 
 // The listing of a text.
@@ -58,7 +65,7 @@ fn show_text(text: &[u8], page: &mut Page) {
         }
         Judged::WrongAt(o) => {
             let n = refused_page(o, page);
-            print(page, n);
+            print(whole(page), n);
         }
     }
 }

@@ -1,0 +1,68 @@
+-- `escape::show_text` is safe: the record of a text that reads is legal. Assumes nothing.
+use mathlib.Core.Path.{subst}
+use mathlib.Core.List.{List}
+use Prim.Native.Nat.{ℕ}
+use denote.Ref.{now}
+use lib.ListN.{replicate}
+use Rattle.text.specs.Into.{ReadsInto}
+use Rattle.text.proofs.RoundTrip.{code-round-trip}
+use borrow.Author.Needs.{needs}
+use Rattle.escape.proofs.show_text.Statement.{statement}
+use Rattle.escape.proofs.show_text.Tie as tie
+
+-- the record that the text is read into
+abbrev zeros : List ℕ
+zeros = replicate 32768 0
+
+slice-aggregate-read-into : tie.Need-slice-aggregate-read-into
+slice-aggregate-read-into c = search needs
+
+read-into-requires : tie.Need-read-into-requires
+read-into-requires c κs = search needs
+
+enum-told : tie.Need-enum-told
+enum-told c = search needs
+
+slice-aggregate-show-routed : tie.Need-slice-aggregate-show-routed
+slice-aggregate-show-routed c = search needs
+
+show-routed-requires : tie.Need-show-routed-requires
+show-routed-requires c κs =
+    let c5 = c .before .before .before .before .before in
+    let t = now (c5 .before .before .before .args .text) in
+    code-round-trip .read-legal t zeros (c5 .read-into .last .1 .0)
+    (subst (ReadsInto t zeros (c5 .read-into .last .1 .0)) (c .before .before .enum-told .given .1) (c5 .read-into .ensures))
+
+enum-known-o : tie.Need-enum-known-o
+enum-known-o c = search needs
+
+refused-page-requires : tie.Need-refused-page-requires
+refused-page-requires c κs = search needs
+
+whole-requires : tie.Need-whole-requires
+whole-requires c κs = search needs
+
+print-requires : tie.Need-print-requires
+print-requires c κs = search needs
+
+returns : tie.Need-returns
+returns c = search needs
+
+returns-2 : tie.Need-returns-2
+returns-2 c = search needs
+
+pub show-text-spec : {M : Type 1} → statement M
+show-text-spec =
+    tie.close
+    (tie.spec
+    slice-aggregate-read-into
+    read-into-requires
+    enum-told
+    slice-aggregate-show-routed
+    show-routed-requires
+    enum-known-o
+    refused-page-requires
+    whole-requires
+    print-requires
+    returns
+    returns-2)
