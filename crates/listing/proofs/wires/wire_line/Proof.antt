@@ -1,9 +1,9 @@
 -- `wire_line` meets its contract. The loop's invariant: the hop d, l is the wire's i-th, and the parts before it stand on the page. A wire has no more
 -- than 11,201 hops, so the walk ends and the page has room. Assumes nothing.
-use mathlib.Core.Path.{_≡_, sym}
-use mathlib.Core.List.{List, [], _∷_, _++_}
+use mathlib.Core.Path.{_≡_, sym, ap, _∙_}
+use mathlib.Core.List.{[], _∷_, _++_}
 use mathlib.Core.Option.{some}
-use Prim.Native.Nat.{ℕ, _+_, _-_, _*_, _≤_}
+use Prim.Native.Nat.{_+_, _-_, _*_, _≤_}
 use native.Mathlib.Omega.{arith}
 use denote.Ref.{now}
 use borrow.Author.Needs.{needs}
@@ -100,9 +100,10 @@ returns-2 c =
     let fits : l .i + 1 + (11200 - l .i) ≡ 11201 = omega (arith, l .inv .0) in
     let parts = parts-more rec (s .pre .0 .0) r k (s .pre .0 .1) _ _ (l .inv .3) (l .i) (l .d) (l .l) _ (l .inv .2) (c .before .before .before .before .before .before .before .part-for .ensures)
     (l .inv .5) (c .before .before .before .before .before .before .put-part .ensures .0) in
+    let ended = hop-after rec r k (l .i) (l .d) (l .l) _ (l .inv .2) (v .hop) in
     let all = puts-as
-    (parts-end rec (s .pre .0 .0) r k (s .pre .0 .1) _ _ (l .inv .3) (l .i) (11200 - l .i)
-    (hop-after rec r k (l .i) (l .d) (l .l) _ (l .inv .2) (v .hop)) fits) parts in (
+    (sym (parts-end (jobOf rec) (load rec) (s .pre .0 .0 .sound) r k (l .i + 1) (11200 - l .i) ended) ∙ ap (partsBytes (jobOf rec) (load rec) r k) fits)
+    parts in (
       puts-if (wired-some rec (s .pre .0 .0) r k (s .pre .0 .1) _ _ (l .inv .3))
           (puts-then (c .before .before .before .before .before .before .before .before .before .before .pair-line .ensures .0) (puts-then all (c .word .ensures))),
       omega (arith, l .inv .0, l .inv .4, c .before .before .before .before .before .before .put-part .ensures .1, c .before .before .before .before .before .before .before .before .before .before .pair-line .ensures .1, c .word .ensures .next),
