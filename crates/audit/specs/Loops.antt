@@ -3,7 +3,6 @@
 pub mod Dfs
 pub mod Marks
 pub mod Stack
-pub mod Idle
 pub mod Rings
 pub mod Turns
 pub mod Stands

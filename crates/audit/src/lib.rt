@@ -1,13 +1,11 @@
-mod header; // the five numbers, and runs of zeros
-mod links; // the bytes of a cell's links
-mod places; // the loads at a cell's places
-mod cells; // all tests of all cells
+mod header; // the five numbers
+mod cells; // the tests of all cells
 pub mod loops; // closed chains of loaded links
 
 ghost use Rattle.model.specs.Record.{Legal};
 ghost use Rattle.audit.specs.Feasible.{FeasibleRecord, Decides};
 use cells::cells;
-use header::is_clear;
+use channel::unused_clear;
 use header::numbers_fit;
 use loops::stands;
 
@@ -21,10 +19,7 @@ pub fn feasible(rec: &[u8]) -> bool
     if !numbers_fit(rec) {
         return false;
     }
-    if !is_clear(rec, 5, 768) {
-        return false;
-    }
-    if !is_clear(rec, 26368, 32768) {
+    if !unused_clear(rec) {
         return false;
     }
     cells(rec)

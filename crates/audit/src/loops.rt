@@ -1,11 +1,10 @@
-// Closed chains of loaded links. A depth-first search with its own stack says that there is none, with an order along which every loaded dart falls,
-// or gives one. It works on what is lent to it.
-ghost use mathlib.Core.Path.{_≡_};
+// Closed chains of loaded links. A depth-first search with its own stack, from the spots that the wires of the load bytes leave, says that there is none,
+// with an order along which every loaded dart falls, or gives one. It works on what is lent to it.
 ghost use Prim.Native.Nat.{_≤_, _<_};
 ghost use lib.ListN.{length, set};
 ghost use Rattle.channel.specs.Map.{spots};
 ghost use Rattle.audit.specs.Loops.{Room, Answer, LoopStands};
-ghost use Rattle.audit.specs.Loops.Dfs.{Cleared, Live, Scanned, Placed, Dfs, Turned, Searched};
+ghost use Rattle.audit.specs.Loops.Dfs.{Cleared, Live, Scanned, Placed, Dfs, Turned, Searched, Traced};
 
 // No closed chain; or the spots of one in st, and its slots in sl, from the first number to before the second.
 pub enum Found {
@@ -76,6 +75,10 @@ fn advance(rec: &[u8], fin: &mut [u16], st: &mut [u16], sl: &mut [u8], n: usize,
     let k = scan(rec, fin, u, k0);
     if k >= 5 {
         fin[u] = (m + 2) as u16;
+        if i == 0 {
+            return Turn::More(i, m + 1);
+        }
+        sl[i - 1] += 1;
         return Turn::More(i, m + 1);
     }
     sl[i] = k as u8;
@@ -144,6 +147,18 @@ fn explore(rec: &[u8], fin: &mut [u16], st: &mut [u16], sl: &mut [u8], r: usize,
     descend(rec, fin, st, sl, m)
 }
 
+// All that the wires of the i-th load byte lead to, with m done.
+fn trace(rec: &[u8], fin: &mut [u16], st: &mut [u16], sl: &mut [u8], i: usize, m: usize) -> Search
+    requires { ⌜ Dfs (now rec) (now fin) (now st) (now sl) 0 m × (i < 22400) ⌝ }
+    ensures { λ s. ⌜ Traced (now (rec .entry)) i (now (fin .entry)) (now (fin .exit)) (now (st .exit)) (now (sl .exit)) s ⌝ }
+{
+    let r = channel::origin(rec, i);
+    if r >= 13128 {
+        return Search::Over(m);
+    }
+    explore(rec, fin, st, sl, r, m)
+}
+
 // Says that no chain of loaded darts is closed, with fin as the order along which they fall; or gives one.
 pub fn find(rec: &[u8], fin: &mut [u16], st: &mut [u16], sl: &mut [u8]) -> Found
     requires { ⌜ Room (now rec) (now fin) (now st) (now sl) ⌝ }
@@ -151,8 +166,8 @@ pub fn find(rec: &[u8], fin: &mut [u16], st: &mut [u16], sl: &mut [u8]) -> Found
 {
     clear(fin);
     let mut m = 0;
-    for r in 0..13128 {
-        match explore(rec, fin, st, sl, r, m) {
+    for i in 0..22400 {
+        match trace(rec, fin, st, sl, i, m) {
             Search::Over(a) => {
                 m = a;
             }

@@ -38,6 +38,7 @@ pub mod Ways
 pub mod Caps
 pub mod Moving
 pub mod Laying
+pub mod Origins
 use mathlib.Core.Bool.{Bool, true, false, not, _&&_, _||_}
 use mathlib.Core.List.{List, [], _∷_}
 use mathlib.Core.Option.{Option, none, some}

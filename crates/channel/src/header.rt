@@ -71,10 +71,10 @@ pub fn pin_at(rec: &[u8], r: usize, c: usize) -> bool
     (r < rows(rec)) & (c < columns(rec))
 }
 
-// The mark of the pin (r, c).
-pub fn mark_of(rec: &[u8], r: usize, c: usize) -> usize
-    requires { ⌜ 32768 ≤ length (now rec) ⌝ }
-    ensures { λ m. ⌜ m ≡ jobOf (now (rec .entry)) .mark r c ⌝ }
+// The byte of a plane at (r, c), and 0 beyond the grid.
+fn value_of(rec: &[u8], p: usize, r: usize, c: usize) -> usize
+    requires { ⌜ (32768 ≤ length (now rec)) × (p < 20) ⌝ }
+    ensures { λ b. ⌜ b ≡ cell (now (rec .entry)) p r c ⌝ }
 {
     if r >= 40 {
         return 0;
@@ -82,7 +82,15 @@ pub fn mark_of(rec: &[u8], r: usize, c: usize) -> usize
     if c >= 40 {
         return 0;
     }
-    wide(rec[768 + 40 * r + c])
+    byte(rec, p, r, c)
+}
+
+// The mark of the pin (r, c).
+pub fn mark_of(rec: &[u8], r: usize, c: usize) -> usize
+    requires { ⌜ 32768 ≤ length (now rec) ⌝ }
+    ensures { λ m. ⌜ m ≡ jobOf (now (rec .entry)) .mark r c ⌝ }
+{
+    value_of(rec, 0, r, c)
 }
 
 // The state of the tile (r, c).
@@ -90,13 +98,7 @@ pub fn state_of(rec: &[u8], r: usize, c: usize) -> usize
     requires { ⌜ 32768 ≤ length (now rec) ⌝ }
     ensures { λ s. ⌜ s ≡ jobOf (now (rec .entry)) .state r c ⌝ }
 {
-    if r >= 40 {
-        return 0;
-    }
-    if c >= 40 {
-        return 0;
-    }
-    wide(rec[2368 + 40 * r + c])
+    value_of(rec, 1, r, c)
 }
 
 // Whether (r, c) is a tile, r and c small enough for a sum.

@@ -24,7 +24,7 @@ use crate::table::owner_of;
 use crate::table::sign_of;
 
 // Whether a wire may go north over the north side of (r, c).
-fn may_north(job: &[u8], r: usize, c: usize) -> bool
+pub fn may_north(job: &[u8], r: usize, c: usize) -> bool
     requires { ⌜ (32768 ≤ length (now job)) × (r < 40) × (c < 40) ⌝ }
     ensures { λ b. ⌜ b ≡ may (jobOf (now (job .entry))) (go northSide r c) ⌝ }
 {
@@ -35,7 +35,7 @@ fn may_north(job: &[u8], r: usize, c: usize) -> bool
 }
 
 // Whether one may go south over it.
-fn may_south(job: &[u8], r: usize, c: usize) -> bool
+pub fn may_south(job: &[u8], r: usize, c: usize) -> bool
     requires { ⌜ (32768 ≤ length (now job)) × (r < 40) × (c < 40) ⌝ }
     ensures { λ b. ⌜ b ≡ may (jobOf (now (job .entry))) (come northSide r c) ⌝ }
 {
@@ -46,7 +46,7 @@ fn may_south(job: &[u8], r: usize, c: usize) -> bool
 }
 
 // Whether one may go east over the west side of (r, c).
-fn may_east(job: &[u8], r: usize, c: usize) -> bool
+pub fn may_east(job: &[u8], r: usize, c: usize) -> bool
     requires { ⌜ (32768 ≤ length (now job)) × (r < 40) × (c < 40) ⌝ }
     ensures { λ b. ⌜ b ≡ may (jobOf (now (job .entry))) (go westSide r c) ⌝ }
 {
@@ -57,7 +57,7 @@ fn may_east(job: &[u8], r: usize, c: usize) -> bool
 }
 
 // Whether one may go west over it.
-fn may_west(job: &[u8], r: usize, c: usize) -> bool
+pub fn may_west(job: &[u8], r: usize, c: usize) -> bool
     requires { ⌜ (32768 ≤ length (now job)) × (r < 40) × (c < 40) ⌝ }
     ensures { λ b. ⌜ b ≡ may (jobOf (now (job .entry))) (come westSide r c) ⌝ }
 {
@@ -101,7 +101,7 @@ fn side_way(job: &[u8], d: usize) -> bool
 }
 
 // Whether the leg of kind k leads from the pin (r, c) into an open tile.
-fn leg_open(job: &[u8], k: usize, r: usize, c: usize) -> bool
+pub fn leg_open(job: &[u8], k: usize, r: usize, c: usize) -> bool
     requires { ⌜ (32768 ≤ length (now job)) × (10 ≤ k) × (k < 14) × (r < 40) × (c < 40) ⌝ }
     ensures { λ b. ⌜ b ≡ isPlace (jobOf (now (job .entry))) (aheadOf (jobOf (now (job .entry))) (getD kinds k northSide) r c) ⌝ }
 {

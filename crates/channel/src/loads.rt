@@ -7,12 +7,14 @@ ghost use Rattle.sums.specs.Counting.{when};
 ghost use Rattle.model.specs.Links.{pin, missing, centre, at};
 ghost use Rattle.model.specs.Loads.{arrivals, departures};
 ghost use Rattle.model.specs.Record.{forthPart, backPart, load};
+ghost use Rattle.channel.specs.Map.Origins.{originOf};
 ghost use Rattle.channel.specs.Map.{inGrid, rowOf, columnOf, ownerCell, stepOf, carries, isPassDart, passedOf, view, opposed, address};
 use crate::header::in_grid;
 use crate::header::wide;
 use crate::table::code_of;
 use crate::table::kind_of;
 use crate::table::owner_of;
+use crate::table::seat_of;
 use crate::table::sign_of;
 
 // What a byte has along the link's positive way.
@@ -103,6 +105,14 @@ pub fn through_centre(rec: &[u8], x: usize) -> usize
     back_sum(rec, 13527, x)
 }
 
+// How many leave it.
+pub fn out_of_centre(rec: &[u8], x: usize) -> usize
+    requires { ⌜ (32768 ≤ length (now rec)) × (41 ≤ x) × (x < 1641) ⌝ }
+    ensures { λ r. ⌜ (r ≡ departures (load (now (rec .entry))) (at centre (rowOf x) (columnOf x))) × (r < 1024) ⌝ }
+{
+    forth_sum(rec, 13527, x)
+}
+
 // How many come to the cell's missing pin.
 pub fn through_missing(rec: &[u8], x: usize) -> usize
     requires { ⌜ (32768 ≤ length (now rec)) × (41 ≤ x) × (x < 1641) ⌝ }
@@ -160,4 +170,17 @@ pub fn carried(rec: &[u8], d: usize) -> usize
         return passing(rec, d);
     }
     0
+}
+
+// The spot that the wires of the i-th load byte leave; 13,128 where it is 0.
+pub fn origin(rec: &[u8], i: usize) -> usize
+    requires { ⌜ (32768 ≤ length (now rec)) × (i < 22400) ⌝ }
+    ensures { λ r. ⌜ r ≡ originOf (now (rec .entry)) i ⌝ }
+{
+    let b = wide(rec[3968 + i]);
+    if b == 0 {
+        return 13128;
+    }
+    let j = seat_of(i / 1600, b < 32);
+    8 * (41 + i % 1600 - owner_of(j)) + j / 8
 }

@@ -1,11 +1,12 @@
-// The constant table of the map, a row for each d % 64: specs/Table.antt's lists, packed into words, so that a read builds few of them. The way back of a
-// dart stands on it.
+// The constant table of the map, a row for each d % 64: specs/Table.antt's lists, packed into words. A word is read by cases: an array that is read at a
+// number known only later is built anew for each read. The way back of a dart stands on it.
 ghost use mathlib.Core.Path.{_≡_};
 ghost use Prim.Native.Nat.{_+_, _*_, _/_, _<_};
 ghost use lib.ListN.{getD};
 ghost use Rattle.channel.specs.Table.{turnOf, kindOf, ownerOf, signOf, codeOf};
 ghost use Rattle.channel.specs.Map.{rev};
-ghost use Rattle.channel.specs.Map.Packed.{rowWords, turnWords};
+ghost use Rattle.channel.specs.Map.Darts.{seatOf};
+ghost use Rattle.channel.specs.Map.Packed.{rowWords, turnWords, seatWords};
 
 // The neighbours of a spot by its kind, in document 01's clockwise order, a byte for each slot: what the dart is, and 16 times the kind of its link.
 const NEIGHBOURS: [usize; 8] = [
@@ -17,6 +18,14 @@ const NEIGHBOURS: [usize; 8] = [
     0xad00_9aa6_4293_5211,
     0x0000_0005_9989_7969,
     0x0000_000b_9484_7464,
+];
+
+// The rows of the darts along the 14 kinds of links and against them, a byte for each.
+const SEATS: [usize; 4] = [
+    0x3938_2921_1911_1810,
+    0x0000_0b0a_0908_3b3a,
+    0x1a12_132b_231b_2820,
+    0x0000_241c_142c_2a22,
 ];
 
 // How far ahead the way back lies, 16 bits for each of four rows.
@@ -44,7 +53,16 @@ fn row_word(k: usize) -> usize
     requires { ⌜ k < 8 ⌝ }
     ensures { λ r. ⌜ r ≡ getD rowWords k 0 ⌝ }
 {
-    NEIGHBOURS[k]
+    match k {
+        0 => NEIGHBOURS[0],
+        1 => NEIGHBOURS[1],
+        2 => NEIGHBOURS[2],
+        3 => NEIGHBOURS[3],
+        4 => NEIGHBOURS[4],
+        5 => NEIGHBOURS[5],
+        6 => NEIGHBOURS[6],
+        _ => NEIGHBOURS[7],
+    }
 }
 
 // The ways back of the rows 4 k to 4 k + 3.
@@ -52,7 +70,48 @@ fn turn_word(k: usize) -> usize
     requires { ⌜ k < 16 ⌝ }
     ensures { λ r. ⌜ r ≡ getD turnWords k 0 ⌝ }
 {
-    TURNS[k]
+    match k {
+        0 => TURNS[0],
+        1 => TURNS[1],
+        2 => TURNS[2],
+        3 => TURNS[3],
+        4 => TURNS[4],
+        5 => TURNS[5],
+        6 => TURNS[6],
+        7 => TURNS[7],
+        8 => TURNS[8],
+        9 => TURNS[9],
+        10 => TURNS[10],
+        11 => TURNS[11],
+        12 => TURNS[12],
+        13 => TURNS[13],
+        14 => TURNS[14],
+        _ => TURNS[15],
+    }
+}
+
+// The rows of eight kinds of links one way.
+fn seat_word(k: usize) -> usize
+    requires { ⌜ k < 4 ⌝ }
+    ensures { λ r. ⌜ r ≡ getD seatWords k 0 ⌝ }
+{
+    match k {
+        0 => SEATS[0],
+        1 => SEATS[1],
+        2 => SEATS[2],
+        _ => SEATS[3],
+    }
+}
+
+// The row of the dart along the link of kind k, its positive way or the other.
+pub fn seat_of(k: usize, forth: bool) -> usize
+    requires { ⌜ k < 14 ⌝ }
+    ensures { λ r. ⌜ (r ≡ seatOf k forth) × (r < 64) ⌝ }
+{
+    if forth {
+        return (seat_word(k / 8) >> (k % 8 * 8)) % 256;
+    }
+    (seat_word(2 + k / 8) >> (k % 8 * 8)) % 256
 }
 
 // What a dart is, 0 to 14.

@@ -1,6 +1,6 @@
 // The two types of a job's numbers, with their ranges. Every other definition of document 01 stands in specs/.
 ghost use mathlib.Core.Path.{_≡_};
-ghost use Rattle.model.specs.Job.{inRange, arrayFits, capsAdmitted, centreLimit};
+ghost use Rattle.model.specs.Job.{inRange, arrayFits, capsFit, capsAdmitted, centreLimit};
 
 // Whether n lies from least to most.
 pub fn in_range(least: usize, most: usize, n: usize) -> bool
@@ -53,9 +53,9 @@ impl Capacities {
 
     pub const E_MOST: usize = 16;
 
-    // Whether a new job may have them.
-    pub fn admitted(self) -> bool
-        ensures { λ r. ⌜ r ≡ capsAdmitted (self .orthogonal) (self .diagonal) (self .extra) ⌝ }
+    // Whether O, D and E are all in range.
+    pub fn fit(self) -> bool
+        ensures { λ r. ⌜ r ≡ capsFit (self .orthogonal) (self .diagonal) (self .extra) ⌝ }
     {
         let o = self.orthogonal;
         if !in_range(Capacities::O_LEAST, Capacities::O_MOST, o) {
@@ -65,6 +65,13 @@ impl Capacities {
             return false;
         }
         in_range(Capacities::E_LEAST, Capacities::E_MOST, self.extra)
+    }
+
+    // Whether a new job may have them.
+    pub fn admitted(self) -> bool
+        ensures { λ r. ⌜ r ≡ capsAdmitted (self .orthogonal) (self .diagonal) (self .extra) ⌝ }
+    {
+        self.fit()
     }
 
     // How many wires a centre passes at most.

@@ -43,6 +43,10 @@ pub record Filled (J : Job) (rec rec′ t : List ℕ) : Type 0 where
 abbrev pub lacking : Job → List ℕ → ℕ
 lacking J rec = sum spots (want J) - sum spots (starts J rec)
 
+-- how many chosen pins have no wire
+abbrev pub unwiredCount : Job → List ℕ → ℕ
+unwiredCount J rec = sum spots (λ u. want J u - starts J rec u)
+
 -- what is left to do: two turns for each wire, and one turn to look again
 abbrev pub left : Job → List ℕ → Bool → ℕ
 left J rec fresh = 2 * lacking J rec + when (not fresh) 1

@@ -25,3 +25,5 @@ pub mod Copies
 pub mod Outcome
 pub mod Added
 pub mod Stepping
+pub mod Routing
+pub mod Ends

@@ -1,12 +1,14 @@
 -- What laying one wire more, and laying all, leave of a record: the contracts of the functions that operations call. Assumes nothing.
 use mathlib.Core.Path.{_≡_}
 use mathlib.Core.List.{List}
-use Prim.Native.Nat.{ℕ, _<_}
+use Prim.Native.Nat.{ℕ, _-_, _<_}
+use lib.Dec.{T}
+use lib.ListN.{length}
 use Rattle.model.specs.Job.{Job}
-use Rattle.model.specs.Route.{Greatest}
-use Rattle.model.specs.Record.{jobOf}
+use Rattle.model.specs.Route.{chosenCount, Greatest}
+use Rattle.model.specs.Record.{recordSize, jobOf, Legal, over}
 use Rattle.model.specs.Calls as calls
-use Rattle.model.specs.Calls.{wiresIn}
+use Rattle.model.specs.Calls.{wiredIn, wiresIn, Shown}
 use Rattle.channel.specs.Map.{spots}
 use Rattle.search.specs.OneMore.{OneMore}
 use Rattle.search.specs.Pins.{Unwired}
@@ -25,3 +27,18 @@ pub data Extended (J : Job) (rec rec′ : List ℕ) : Next → Type 0 where
 pub data StepDid (rec rec′ : List ℕ) : Progress → Type 0 where
   more : calls.OneMore rec rec′ → StepDid rec rec′ Added
   full : rec′ ≡ rec → Greatest (jobOf rec) (wiresIn rec) → StepDid rec rec′ Full
+
+-- Every wire that fits is laid: a legal record of the same job, in which the pins that were wired still are, with the greatest number of wires; k is how
+-- many chosen pins stay unwired, and the near bytes are those of the smallest near side, or untouched where k is 0.
+pub record RoutedAll (rec rec′ near near′ : List ℕ) (k : ℕ) : Type 0 where
+  pub legal : Legal rec′
+  pub job : jobOf rec′ ≡ jobOf rec
+  pub rest : (new : List ℕ) × (length new ≡ recordSize) × (rec′ ≡ over new rec)
+  pub kept : (r c : ℕ) → T (wiredIn rec r c) → T (wiredIn rec′ r c)
+  pub greatest : Greatest (jobOf rec) (wiresIn rec′)
+  pub lacks : k ≡ chosenCount (jobOf rec) - wiresIn rec′
+  pub shown : Shown (jobOf rec) (wiresIn rec′) near near′
+
+-- what is lacking, shown by some record with every wire that fits
+abbrev pub Lacks : List ℕ → List ℕ → List ℕ → ℕ → Type 0
+Lacks rec near near′ k = (rec′ : List ℕ) × RoutedAll rec rec′ near near′ k

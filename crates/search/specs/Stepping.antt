@@ -34,7 +34,7 @@ module _ {J : Job} {rec rec′ : List ℕ} {y : Next} (x : Extended J rec rec′
 
 -- the loads are a copy of the first bytes, over zeros
 module _ {rec : List ℕ} (legal : Legal rec) {loads : List ℕ} (q : loads ≡ over (front rec) (replicate recordSize 0)) where
-  copied : loads ≡ front rec
+  pub copied : loads ≡ front rec
   copied = q ∙ over-whole (front rec) (replicate recordSize 0) (front-length rec (legal .long)) (length-replicate {A = ℕ} recordSize 0)
 
   pub copied-held : Held (jobOf rec) loads

@@ -6,3 +6,8 @@ pub mod untangle; // loops taken out
 pub mod fill; // wires laid until no more fits
 pub mod copy; // the bytes of a record
 pub mod step; // one wire more in a record
+pub mod route; // all wires, and what is lacking
+
+pub use route::lacking;
+pub use route::route_all;
+pub use route::shortfall;

@@ -1,4 +1,4 @@
-// New, Mark and Close.
+// Mark and Close.
 use crate::answer::Answer;
 use audit::sound;
 use channel::is_tile;
@@ -8,35 +8,9 @@ use channel::set_mark;
 use channel::set_state;
 use channel::state_of;
 use channel::unwire;
-use channel::write_fresh;
-use model::Array;
-use model::Capacities;
 ghost use mathlib.Core.List.{[]};
-ghost use Rattle.model.specs.Calls.{new as New, mark as Mark, close as Close, after, Did};
+ghost use Rattle.model.specs.Calls.{mark as Mark, close as Close, after, Did};
 ghost use Rattle.service.specs.Answers.{asAnswer};
-
-// An idle, open, unwired job.
-pub fn new(rec: &mut [u8], rows: usize, columns: usize, o: usize, d: usize, e: usize) -> Answer
-    ensures { λ a. ⌜ Did (New rows columns o d e) (now (rec .entry)) (after (asAnswer a) (now (rec .exit)) [] []) ⌝ }
-{
-    if rec.len() < 32768 {
-        return Answer::Refused(1);
-    }
-    let array = Array { rows, columns };
-    if !array.fits() {
-        return Answer::Refused(2);
-    }
-    let capacities = Capacities {
-        orthogonal: o,
-        diagonal: d,
-        extra: e,
-    };
-    if !capacities.admitted() {
-        return Answer::Refused(3);
-    }
-    write_fresh(rec, rows, columns, o, d, e);
-    Answer::Done
-}
 
 // The mark of a pin.
 pub fn mark(rec: &mut [u8], row: usize, column: usize, mark: usize) -> Answer

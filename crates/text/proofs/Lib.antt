@@ -8,3 +8,8 @@ pub mod Standing
 pub mod Midway
 -- the job's bytes, line by line
 pub mod Writing
+-- the parts of a job's text, counted and put one after the other
+pub mod Counted
+pub mod Placed
+-- that reading and writing undo each other
+pub mod RoundTrip

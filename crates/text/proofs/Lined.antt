@@ -6,7 +6,7 @@ use mathlib.Core.List.{List, [], _∷_, _++_, append-assoc}
 use Prim.Native.Nat.{ℕ}
 use native.Mathlib.Omega.{arith}
 use lib.ListN.{getD, drop}
-use Rattle.model.specs.Text.{decimal, Group as TextGroup, chosenPins, missingPins, closedTiles, groupWord, arrayLine, groupLine, endLine, lineBytes}
+use Rattle.model.specs.Text.{decimal, Group as TextGroup, chosenPins, missingPins, closedTiles, arrayLine, groupLine, endLine, lineBytes}
 use Rattle.model.specs.Text.{rank, within}
 use Rattle.text.specs.declared.scan.Word.the-variants.{Differs}
 use Rattle.text.specs.declared.scan.Number.the-variants.{Not}
@@ -15,16 +15,12 @@ use Rattle.text.specs.declared.lines.Line.{Line}
 use Rattle.text.specs.declared.lines.Line.the-variants.{Group, End, Wrong}
 use Rattle.text.specs.declared.lines.Opening.the-variants.{Wrong as WrongOpening}
 use Rattle.text.specs.Scan.{WordAt, NumberAt, two, TwoAt}
-use Rattle.text.specs.Lines.{PairAt, LineAt, ArrayAt}
+use Rattle.text.specs.Lines.{opening, PairAt, LineAt, ArrayAt}
 use Rattle.text.proofs.Scanned.{after-word, after-number, after-two}
 
 -- ---- the bytes of a line
 
--- ( word, and a space
-abbrev pub opening : TextGroup → List ℕ
-opening g = 40 ∷ groupWord g ++ (32 ∷ [])
-
-group-bytes : (g : TextGroup) (r c : ℕ) (X : List ℕ) → lineBytes (groupLine g r c) ++ X ≡ opening g ++ two r c (10 ∷ X)
+pub group-bytes : (g : TextGroup) (r c : ℕ) (X : List ℕ) → lineBytes (groupLine g r c) ++ X ≡ opening g ++ two r c (10 ∷ X)
 unfolding lineBytes
 group-bytes chosenPins r c X = simp append-assoc
 group-bytes missingPins r c X = simp append-assoc

@@ -55,14 +55,14 @@ after-number n m x X Y l e =
     flat : (k : ℕ) (Z : List ℕ) → decimal k ++ Z ≡ digits k Z
     flat k Z = append-assoc (only (leb 10 k) ((48 + k / 10) ∷ [])) ((48 + k % 10) ∷ []) Z
 
-decimal-one : (n : ℕ) (X : List ℕ) → n < 10 → decimal n ++ X ≡ (48 + n) ∷ X
+pub decimal-one : (n : ℕ) (X : List ℕ) → n < 10 → decimal n ++ X ≡ (48 + n) ∷ X
 decimal-one n X l = by (leb 10 n) (leb→le 10 n)
   where
     by : (b : Bool) → (T b → 10 ≤ n) → (only b ((48 + n / 10) ∷ []) ++ ((48 + n % 10) ∷ [])) ++ X ≡ (48 + n) ∷ X
     by true h = absurd (omega (arith, h tt))
     by false h = ap (λ (k : ℕ). k ∷ X) (omega arith)
 
-decimal-two : (n : ℕ) (X : List ℕ) → 10 ≤ n → decimal n ++ X ≡ (48 + n / 10) ∷ (48 + n % 10) ∷ X
+pub decimal-two : (n : ℕ) (X : List ℕ) → 10 ≤ n → decimal n ++ X ≡ (48 + n / 10) ∷ (48 + n % 10) ∷ X
 decimal-two n X l = by (leb 10 n) (nleb→lt 10 n)
   where
     by : (b : Bool) → (T (not b) → n < 10) → (only b ((48 + n / 10) ∷ []) ++ ((48 + n % 10) ∷ [])) ++ X ≡ (48 + n / 10) ∷ (48 + n % 10) ∷ X

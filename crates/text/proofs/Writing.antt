@@ -51,7 +51,7 @@ finished-job z t (ended g e) = refl
 finished-job {R} z t (line m S more b p r) = absurd (finished-none R m S z b)
 finished-job z t (wrong f n) = absurd t
 
-same-job : (K L : Job) → reads K ≡ reads L → K ≡ L
+pub same-job : (K L : Job) → reads K ≡ reads L → K ≡ L
 same-job K L e = cc
 
 -- one that is not finished stands before a line

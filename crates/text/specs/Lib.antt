@@ -6,3 +6,7 @@ pub mod Lines
 pub mod Reader
 -- the record after it
 pub mod Into
+-- the text of a job in an output
+pub mod Writer
+-- that reading and writing undo each other
+pub mod RoundTrip

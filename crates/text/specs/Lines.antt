@@ -1,15 +1,19 @@
 -- The line that begins at an offset of a text: its numbers, all below 100, and what follows it, or that no such line begins there. Assumes nothing.
 use mathlib.Core.Path.{_≡_}
 use mathlib.Core.Logic.{_≢_}
-use mathlib.Core.List.{List, _∷_, _++_}
+use mathlib.Core.List.{List, [], _∷_, _++_}
 use Prim.Native.Nat.{ℕ, _≤_, _<_}
 use lib.ListN.{length, drop}
-use Rattle.model.specs.Text.{Group as TextGroup, arrayLine, groupLine, endLine, lineBytes, rank, within}
+use Rattle.model.specs.Text.{Group as TextGroup, groupWord, arrayLine, groupLine, endLine, lineBytes, rank, within}
 use Rattle.text.specs.declared.lines.Line.{Line}
 use Rattle.text.specs.declared.lines.Line.the-variants.{Group, End, Wrong}
 use Rattle.text.specs.declared.lines.Opening.{Opening}
 use Rattle.text.specs.declared.lines.Opening.the-variants.{Array, Wrong as WrongOpening}
 use Rattle.text.specs.Scan.{two}
+
+-- what a line of a group begins with: ( word, and a space
+abbrev pub opening : TextGroup → List ℕ
+opening g = 40 ∷ groupWord g ++ (32 ∷ [])
 
 -- two numbers and the end of the line
 abbrev pub PairAt : List ℕ → ℕ → ℕ → Line → Type 0

@@ -1,8 +1,8 @@
 // The job of a text in a record. The text is judged as a whole first, so a text that is wrong leaves every byte.
+use crate::held::next_line;
 use crate::lines::Line;
 use crate::lines::Opening;
 use crate::lines::array_at;
-use crate::lines::line_at;
 use crate::reader::Judged;
 use crate::reader::judge;
 ghost use Prim.Native.Nat.{_≤_};
@@ -35,7 +35,7 @@ fn write_job(text: &[u8], rec: &mut [u8])
             row,
             column,
             next,
-        } = line_at(text, at)
+        } = next_line(text, at)
         else {
             return;
         };

@@ -5,6 +5,14 @@ use crate::scan::Word;
 use crate::scan::number_at;
 use crate::scan::two_at;
 use crate::scan::word_at;
+use crate::words::ARRAY;
+use crate::words::ARRAY_END;
+use crate::words::CAPS;
+use crate::words::CHOSEN;
+use crate::words::CLOSED;
+use crate::words::END;
+use crate::words::GROUP_END;
+use crate::words::MISSING;
 ghost use Prim.Native.Nat.{_≤_};
 ghost use lib.ListN.{length};
 ghost use Rattle.text.specs.Lines.{PairAt, LineAt, ArrayAt};
@@ -31,7 +39,7 @@ fn pair_at(text: &[u8], at: usize, group: usize) -> Line
     let Two::Are(row, column, end) = two_at(text, at) else {
         return Line::Wrong;
     };
-    let Word::Ends(next) = word_at(text, end, b"\n") else {
+    let Word::Ends(next) = word_at(text, end, &GROUP_END) else {
         return Line::Wrong;
     };
     Line::Group {
@@ -47,16 +55,16 @@ pub fn line_at(text: &[u8], at: usize) -> Line
     requires { ⌜ at ≤ length (now text) ⌝ }
     ensures { λ r. ⌜ LineAt (now (text .entry)) at r ⌝ }
 {
-    if let Word::Ends(n) = word_at(text, at, b"(chosen ") {
+    if let Word::Ends(n) = word_at(text, at, &CHOSEN) {
         return pair_at(text, n, 2);
     }
-    if let Word::Ends(n) = word_at(text, at, b"(missing ") {
+    if let Word::Ends(n) = word_at(text, at, &MISSING) {
         return pair_at(text, n, 3);
     }
-    if let Word::Ends(n) = word_at(text, at, b"(closed ") {
+    if let Word::Ends(n) = word_at(text, at, &CLOSED) {
         return pair_at(text, n, 4);
     }
-    let Word::Ends(next) = word_at(text, at, b"(end)\n") else {
+    let Word::Ends(next) = word_at(text, at, &END) else {
         return Line::Wrong;
     };
     Line::End { next }
@@ -79,13 +87,13 @@ pub enum Opening {
 pub fn array_at(text: &[u8]) -> Opening
     ensures { λ r. ⌜ ArrayAt (now (text .entry)) r ⌝ }
 {
-    let Word::Ends(pins) = word_at(text, 0, b"(array (pins ") else {
+    let Word::Ends(pins) = word_at(text, 0, &ARRAY) else {
         return Opening::Wrong;
     };
     let Two::Are(rows, columns, after) = two_at(text, pins) else {
         return Opening::Wrong;
     };
-    let Word::Ends(caps) = word_at(text, after, b" (caps ") else {
+    let Word::Ends(caps) = word_at(text, after, &CAPS) else {
         return Opening::Wrong;
     };
     let Number::Is(o, second) = number_at(text, caps, b' ') else {
@@ -94,7 +102,7 @@ pub fn array_at(text: &[u8]) -> Opening
     let Two::Are(d, e, end) = two_at(text, second) else {
         return Opening::Wrong;
     };
-    let Word::Ends(next) = word_at(text, end, b")\n") else {
+    let Word::Ends(next) = word_at(text, end, &ARRAY_END) else {
         return Opening::Wrong;
     };
     Opening::Array {

@@ -1,8 +1,8 @@
 // The reader of a job text: a cursor by value, which takes each line that may stand where it stands, and the judgement of a whole text.
+use crate::held::next_line;
 use crate::lines::Line;
 use crate::lines::Opening;
 use crate::lines::array_at;
-use crate::lines::line_at;
 use model::Array;
 use model::Capacities;
 ghost use mathlib.Core.Path.{_≡_};
@@ -117,7 +117,7 @@ impl Cursor {
         ensures { λ r. ⌜ Leads (now (text .entry)) self rows columns (now (chosen .entry)) r ⌝ }
     {
         let at = self.at;
-        match line_at(text, at) {
+        match next_line(text, at) {
             Line::Group {
                 group,
                 row,

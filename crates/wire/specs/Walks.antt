@@ -1,6 +1,6 @@
 -- The hops that the code takes, of a legal record: the first loaded slot of a pin's exit; and where a wire comes along a dart, the slot and the lane that
 -- `partner` answers for the numbers of lanes of the five slots of the exit there. Assumes nothing.
-use mathlib.Core.Path.{_≡_, refl, sym, ap, subst, _∙_}
+use mathlib.Core.Path.{_≡_, refl, sym, ap, ap₂, subst, _∙_}
 use mathlib.Core.Bool.{Bool, true, false, _&&_}
 use mathlib.Core.List.{List, [], _∷_}
 use mathlib.Core.Option.{Option, none, some}
@@ -11,7 +11,7 @@ use lib.Dec.{T, ltb}
 use lib.ListN.{getD, getElem?, drop}
 use borrow.Author.Tests.{lt-ltb, le-ltb, ltb-true, ltb-false}
 use Rattle.sums.specs.Counting.{when, sum, total}
-use Rattle.sums.specs.Tests.{so}
+use Rattle.sums.specs.Tests.{so, and-comm, both-ways}
 use Rattle.sums.specs.Sums.{when-so}
 use Rattle.sums.specs.Entries.{none-some, entry-below, entry-there}
 use Rattle.model.specs.Job.{Job, arrayFits, isChosen}
@@ -85,17 +85,6 @@ first-empty f (s ∷ l) e = by (ltb 0 (f s)) refl e (first-empty f l)
         → (firstLoaded f l ≡ none → total l f ≡ 0) → f s + total l f ≡ 0
     by true q e k = absurd (none-some _ (sym e))
     by false q e k = omega (arith, ltb-false 0 (f s) q, k e)
-
--- the two arms of a test of two
-both-arm : {A : Type 0} (a b : Bool) (x y : A) → T a → b ≡ true → x ≡ elim (a && b) as (λ z. A) [ true ↦ x | false ↦ y ]
-both-arm true true x y t e = refl
-both-arm true false x y t e = absurd (subst T (sym e) tt)
-both-arm false b x y t e = absurd t
-
-other-arm : {A : Type 0} (a b : Bool) (x y : A) → b ≡ false → y ≡ elim (a && b) as (λ z. A) [ true ↦ x | false ↦ y ]
-other-arm true true x y e = absurd (subst T e tt)
-other-arm true false x y e = refl
-other-arm false b x y e = refl
 
 -- ---- along the list of a pin's hops
 
@@ -281,17 +270,31 @@ module _ (rec : List ℕ) (g : Legal rec) where
 
     -- ---- the parts
 
-    pub part-unwired : (i : ℕ) → Takes rec End (firstLoaded f (around (at pin r c))) → asPart Unwired ≡ partAt J f r c i
-    unfolding partAt isWired departures
-    part-unwired i v =
-        other-arm (isChosen J r c) (ltb 0 (total (around (at pin r c)) f)) _ unwired
+    -- a pin with no first hop is not wired, and one with a first hop is
+    pub wired-none : Takes rec End (firstLoaded f (around (at pin r c))) → isWired J f r c ≡ false
+    unfolding isWired departures
+    wired-none v =
+        ap (λ (b : Bool). isChosen J r c && b)
         (le-ltb 0 (total (around (at pin r c)) f) (omega (arith, first-empty f (around (at pin r c)) (sym (v .hop)))))
+        ∙ and-comm (isChosen J r c) false
+
+    pub wired-some : (d j : ℕ) → Takes rec (On d j) (firstLoaded f (around (at pin r c))) → isWired J f r c ≡ true
+    unfolding isWired departures
+    wired-some d j v =
+        ap₂ _&&_ (both-ways (isChosen J r c) true (λ u. tt) (λ u. t))
+        (lt-ltb 0 (total (around (at pin r c)) f) (first-some f (around (at pin r c)) (hop d j) (sym (v .hop))))
+
+    -- what Part gives of it
+    abbrev partIf : ℕ → Bool → Part
+    partIf i b = elim b as (λ z. Part) [ true ↦ partOf J f (hopAt J f r c i) | false ↦ unwired ]
+
+    pub part-unwired : (i : ℕ) → Takes rec End (firstLoaded f (around (at pin r c))) → asPart Unwired ≡ partAt J f r c i
+    unfolding partAt
+    part-unwired i v = ap (partIf i) (sym (wired-none v))
 
     pub part-wired : (i d j : ℕ) → Takes rec (On d j) (firstLoaded f (around (at pin r c))) → partOf J f (hopAt J f r c i) ≡ partAt J f r c i
-    unfolding partAt isWired departures
-    part-wired i d j v =
-        both-arm (isChosen J r c) (ltb 0 (total (around (at pin r c)) f)) _ unwired t
-        (lt-ltb 0 (total (around (at pin r c)) f) (first-some f (around (at pin r c)) (hop d j) (sym (v .hop))))
+    unfolding partAt
+    part-wired i d j v = ap (partIf i) (sym (wired-some d j v))
 
     -- a wire that has ended lists nothing more
     pub part-past : (i n : ℕ) → hopAt J f r c (i + 1) ≡ none → i < n → asPart PastTheEnd ≡ partOf J f (hopAt J f r c n)

@@ -1,27 +1,27 @@
 -- Every record is legal or it is not: the tests of its bytes are decided one by one, and then either an order of the spots excludes loops or a closed path
 -- of loaded darts is one. Assumes nothing.
-use mathlib.Core.Path.{_≡_}
-use mathlib.Core.Logic.{_⊎_, inl, inr, Dec·and}
-use mathlib.Core.Bool.{Bool}
+use mathlib.Core.Path.{refl}
+use mathlib.Core.Logic.{_⊎_, inl, inr}
+use mathlib.Core.Bool.{Bool, true, false}
 use mathlib.Core.List.{List, _∷_}
 use Prim.Native.Nat.{ℕ, _/_, _≤_, _<_}
-use native.Mathlib.Decide.{map-dec, decLe, ℕ-discrete}
+use native.Mathlib.Decide.{map-dec, decLe}
 use lib.Dec.{T, ltb, ltb→lt, lt→ltb}
-use lib.ListN.{length, getD}
+use lib.ListN.{length}
 use Rattle.flow.specs.Network.{Path, path-map}
 use Rattle.flow.specs.Cancel.{Loaded}
-use Rattle.model.specs.Job.{Job, arrayFits, capsFit}
+use Rattle.model.specs.Job.{Job, arrayFits}
 use Rattle.model.specs.Links.{Place, Step}
 use Rattle.model.specs.Loads.{Feasible, Trail}
-use Rattle.model.specs.Record.{recordSize, reservePlane, offset, jobOf, load, Legal}
+use Rattle.model.specs.Record.{recordSize, jobOf, load, Legal}
 use Rattle.channel.specs.Map.{darts, rev, view}
 use Rattle.channel.specs.Map.Network.{net}
 use Rattle.channel.specs.Map.Loops.{ranked-loops, path-loop}
-use Rattle.audit.specs.Feasible.{FeasibleRecord}
-use Rattle.audit.specs.Cells.{cellOk}
-use Rattle.audit.specs.Laws.{Tested, tested-feasible, feasible-tested}
+use Rattle.channel.specs.Unused.{unusedClear}
+use Rattle.audit.specs.Feasible.{FeasibleRecord, decides-yes, decides-no}
+use Rattle.audit.specs.Laws.{numbersFit, cellFits, numbers-fit, unused-clear, cells-decide}
 use Rattle.audit.specs.Legal.{legal-feasible}
-use Rattle.witness.specs.Decide.{all?, test?, given?}
+use Rattle.witness.specs.Decide.{all?, test?}
 use Rattle.witness.specs.Rings.{reachCount, Ring, order-or-ring}
 
 -- ---- loops
@@ -49,27 +49,26 @@ module _ (J : Job) (rec : List ℕ) where
 -- ---- the tests
 
 module _ (rec : List ℕ) where
-  -- a byte that is 0 from a bound on
-  zero? : (a i : ℕ) → Dec (a ≤ i → getD rec i 0 ≡ 0)
-  zero? a i = given? (decLe a i) (ℕ-discrete (getD rec i 0) 0)
+  feasible? : Dec (FeasibleRecord rec)
+  feasible? = by (decLe recordSize (length rec)) (test? (numbersFit rec)) (test? (unusedClear rec)) cells?
+    where
+      Cells : Type 0
+      Cells = (r c : ℕ) → r < 40 → c < 40 → T (cellFits rec r c)
 
-  tested? : Dec (Tested rec)
-  tested? =
-      map-dec
-      (λ (((((a, b), c), d), e), f).
-      record { long = a; array = b; caps = c; header = λ i l m. d i m l; reserve = λ i l m. e i m l; cells = λ r c l m. f r l c m })
-      (λ t. (((((t .long, t .array), t .caps), λ i m l. t .header i l m), λ i m l. t .reserve i l m), λ r l c m. t .cells r c l m))
-      (Dec·and
-      (Dec·and
-      (Dec·and
-      (Dec·and (Dec·and (decLe recordSize (length rec)) (test? (arrayFits (jobOf rec .rows) (jobOf rec .columns))))
-      (test? (capsFit (jobOf rec .O) (jobOf rec .D) (jobOf rec .E))))
-      (all? (λ i. 5 ≤ i → getD rec i 0 ≡ 0) (zero? 5) 768))
-      (all? (λ i. offset reservePlane 0 0 ≤ i → getD rec i 0 ≡ 0) (zero? (offset reservePlane 0 0)) recordSize))
-      (all? (λ r. (c : ℕ) → c < 40 → T (cellOk rec r c)) (λ r. all? (λ c. T (cellOk rec r c)) (λ c. test? (cellOk rec r c)) 40) 40))
+      cells? : Dec Cells
+      cells? =
+          map-dec (λ f r c l m. f r l c m) (λ f r l c m. f r c l m)
+          (all? (λ r. (c : ℕ) → c < 40 → T (cellFits rec r c)) (λ r. all? (λ c. T (cellFits rec r c)) (λ c. test? (cellFits rec r c)) 40) 40)
+
+      by : Dec (recordSize ≤ length rec) → Dec (T (numbersFit rec)) → Dec (T (unusedClear rec)) → Dec Cells → Dec (FeasibleRecord rec)
+      by (no h) n u f = no (λ g. h (g .long))
+      by (yes l) (no h) u f = no (λ g. h (numbers-fit rec g))
+      by (yes l) (yes n) (no h) f = no (λ g. h (unused-clear rec g))
+      by (yes l) (yes n) (yes u) (no h) = no (cells-decide rec false l n u (decides-no h) .no refl)
+      by (yes l) (yes n) (yes u) (yes f) = yes (cells-decide rec true l n u (decides-yes f) .yes refl)
 
   pub legal? : Dec (Legal rec)
-  legal? = by tested?
+  legal? = by feasible?
     where
       looped : (g : FeasibleRecord rec) → LoopFree (jobOf rec) rec ⊎ LoadedRing (jobOf rec) rec → Dec (Legal rec)
       looped g (inl f) =
@@ -77,8 +76,6 @@ module _ (rec : List ℕ) where
       looped g (inr (u, d, ds, p)) =
           no (λ h. let (x, s, ss, t) = path-loop (jobOf rec) (g .values .array) rec (g .feasible) u d ds p in h .sound .loops x s ss t)
 
-      by : Dec (Tested rec) → Dec (Legal rec)
-      by (no h) = no (λ g. h (feasible-tested rec (legal-feasible rec g)))
-      by (yes t) =
-          let g : FeasibleRecord rec = tested-feasible rec t in
-          looped g (loops? (jobOf rec) rec (g .values .array) (g .feasible))
+      by : Dec (FeasibleRecord rec) → Dec (Legal rec)
+      by (no h) = no (λ g. h (legal-feasible rec g))
+      by (yes g) = looped g (loops? (jobOf rec) rec (g .values .array) (g .feasible))

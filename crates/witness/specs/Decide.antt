@@ -52,9 +52,3 @@ module _ (P : ℕ → Type 0) (d : (i : ℕ) → Dec (P i)) (n : ℕ) where
 pub test? : (b : Bool) → Dec (T b)
 test? true = yes tt
 test? false = no (λ t. t)
-
--- under a condition
-pub given? : {A B : Type 0} → Dec A → Dec B → Dec (A → B)
-given? (no h) d = yes (λ a. absurd (h a))
-given? (yes a) (yes b) = yes (λ x. b)
-given? (yes a) (no h) = no (λ f. h (f a))

@@ -9,6 +9,7 @@ use lib.Dec.{eqb}
 use lib.ListN.{getD}
 use Rattle.sums.specs.Counting.{when, sum}
 use Rattle.channel.specs.Map.{spots, rev, view}
+use Rattle.channel.specs.Map.Origins.{originOf}
 use Rattle.audit.specs.Loops.{Room, Closed}
 use Rattle.audit.specs.declared.loops.Turn.{Turn}
 use Rattle.audit.specs.declared.loops.Turn.the-variants.{More, Hit}
@@ -75,3 +76,8 @@ pub data Turned (rec fin : List ℕ) (n : ℕ) (fin' st' sl' : List ℕ) : Turn 
 pub data Searched (rec fin fin' st' sl' : List ℕ) : Search → Type 0 where
   over : {m' : ℕ} → Dfs rec fin' st' sl' 0 m' → Kept fin fin' → Searched rec fin fin' st' sl' (Over m')
   ring : {j n : ℕ} → Closed rec st' sl' j n → Searched rec fin fin' st' sl' (Ring j n)
+
+-- the search from the spot of the i-th load byte: where there is one, it is seen
+pub record Traced (rec : List ℕ) (i : ℕ) (fin fin' st' sl' : List ℕ) (s : Search) : Type 0 where
+  pub search : Searched rec fin fin' st' sl' s
+  pub seen : {m' : ℕ} → s ≡ Over m' → originOf rec i < spots → getD fin' (originOf rec i) 0 ≢ 0

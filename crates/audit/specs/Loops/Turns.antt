@@ -1,5 +1,5 @@
 -- What one turn of the loop finder does, and what a caller reads off its answers. Assumes nothing.
-use mathlib.Core.Path.{_≡_, subst, _∙_}
+use mathlib.Core.Path.{_≡_, sym, ap, subst, _∙_}
 use mathlib.Core.Logic.{_≢_, ⊎-elim}
 use mathlib.Core.Bool.{Bool, true, false}
 use mathlib.Core.List.{List}
@@ -10,8 +10,9 @@ use borrow.Author.Count.{below-more}
 use lib.ListN.{length, getD, set}
 use lib.Seq.{getD-set-same}
 use Rattle.channel.specs.Map.{spots, rev}
+use Rattle.channel.specs.Map.Origins.{originOf}
 use Rattle.audit.specs.Loops.{Closed}
-use Rattle.audit.specs.Loops.Dfs.{Edge, Live, live, dead, Scanned, unseen, Dfs, Kept, Turned, more, hit, Searched, over, ring}
+use Rattle.audit.specs.Loops.Dfs.{Edge, Live, live, dead, Scanned, unseen, Dfs, Kept, Turned, more, hit, Searched, over, ring, Traced}
 use Rattle.audit.specs.Loops.Marks.{below-or, after, unseen-less, unseen-same, kept-set}
 use Rattle.audit.specs.Loops.Stack.{edge-node, Below, dfs-slot, dfs-push, dfs-pop, dfs-leaf}
 use Rattle.audit.specs.declared.loops.Turn.{Turn}
@@ -48,6 +49,26 @@ module _ {rec fin st sl : List ℕ} {n m k : ℕ} (d : Dfs rec fin st sl n m) (l
       let z : unseen (set fin u (m + 2)) ≡ unseen fin = rw add-two (unseen-same fin u lu lf (suc m) eu) in
       let kept : Kept fin (set fin u (m + 2)) = rw add-two (kept-set fin u (suc m) lf) in
       more (dfs-pop d (n - 1) (omega arith) (λ j v e. past j v (omega (arith, e .slot)) e)) kept (omega arith)
+
+  -- the spot below has this one behind it
+  pub turn-next : 5 ≤ k → (i : ℕ) → n ≡ i + 2
+      → Turned rec fin n (set fin (getD st (n - 1) 0) (m + 2)) st (set sl i (getD sl i 0 + 1)) (More (n - 1) (m + 1))
+  turn-next l i e = by (turn-pop l)
+    where
+      by : Turned rec fin n (set fin (getD st (n - 1) 0) (m + 2)) st sl (More (n - 1) (m + 1))
+          → Turned rec fin n (set fin (getD st (n - 1) 0) (m + 2)) st (set sl i (getD sl i 0 + 1)) (More (n - 1) (m + 1))
+      by (more d' kept less) = more (dfs-slot d' i (getD sl i 0 + 1) (omega arith) below) kept less
+        where
+          done : (v : ℕ) → Edge rec (getD st i 0) (getD sl i 0) v → 2 ≤ getD (set fin (getD st (n - 1) 0) (m + 2)) v 0
+          done v g =
+              let p : n - 1 ≡ i + 1 = omega arith in
+              let lf : getD st (n - 1) 0 < length fin = omega (arith, d .on (n - 1) (omega arith) .0, d .room .marks) in
+              let q : getD st (n - 1) 0 ≡ v = ap (λ (x : ℕ). getD st x 0) p ∙ (sym (d .link i (omega arith) .leads) ∙ g .leads) in
+              subst (λ (x : ℕ). 2 ≤ getD (set fin (getD st (n - 1) 0) (m + 2)) x 0) q (omega (arith, getD-set-same fin (getD st (n - 1) 0) (m + 2) 0 lf))
+
+          below : (j v : ℕ) → j < getD sl i 0 + 1 → Edge rec (getD st i 0) j v → 2 ≤ getD (set fin (getD st (n - 1) 0) (m + 2)) v 0
+          below j v lj = below-more (λ j. Edge rec (getD st i 0) j v → 2 ≤ getD (set fin (getD st (n - 1) 0) (m + 2)) v 0) (getD sl i 0)
+              (λ j h g. d' .past i (omega arith) j v h g) (done v) j lj
 
   module _ {v : ℕ} (l5 : k < 5) (ev : v ≡ rev (8 * getD st (n - 1) 0 + k) / 8) where
     -- the slot is stored, and the edge of the top stands on the stack
@@ -113,11 +134,6 @@ module _ (fin fin' : List ℕ) (r : ℕ) (l : r < length fin) where
   pub kept-with : getD fin' r 0 ≢ 0 → Kept fin fin' → Kept (set fin r 1) fin'
   kept-with s k u n = ⊎-elim (λ w. rw (w .0) s) (λ w. k u (λ e. n (w .1 ∙ e))) (after fin r 1 u l)
 
-  -- one more
-  pub seen-more : ((x : ℕ) → x < r → getD fin x 0 ≢ 0) → Kept (set fin r 1) fin' → (x : ℕ) → x < r + 1 → getD fin' x 0 ≢ 0
-  seen-more all k = below-more (λ x. getD fin' x 0 ≢ 0) r
-      (λ x h. k x (kept-set fin r 0 l x (all x h))) (k r (λ e. omega (arith, getD-set-same fin r 1 0 l)))
-
 -- ---- the search from one spot
 
 module _ {rec fin st sl : List ℕ} {m : ℕ} (d : Dfs rec fin st sl 0 m) (r : ℕ) (l : r < spots) where
@@ -136,3 +152,26 @@ module _ {rec fin st sl : List ℕ} {m : ℕ} (d : Dfs rec fin st sl 0 m) (r : �
 
     pub dfs-root : Dfs rec (set fin r 1) (set st 0 r) (set sl 0 k) 1 m
     dfs-root = dfs-push d r k l e (λ i q. absurd (omega arith)) (λ j v h g. s .past j v (omega arith) h g)
+
+-- ---- the search from the spot of a load byte
+
+module _ {rec fin st sl : List ℕ} {m : ℕ} (d : Dfs rec fin st sl 0 m) (i : ℕ) where
+  pub trace-none : spots ≤ originOf rec i → Traced rec i fin fin st sl (Over m)
+  trace-none l = record { search = over d (λ u h. h); seen = λ e h. absurd (omega arith) }
+
+  pub trace-from : {r : ℕ} {fin' st' sl' : List ℕ} {a : Search} → r ≡ originOf rec i → r < spots → Searched rec (set fin r 1) fin' st' sl' a
+      → Traced rec i fin fin' st' sl' a
+  trace-from {r} e l (over s k) =
+      let lf : r < length fin = omega (arith, d .room .marks) in
+      record {
+        search = over s (λ u n. k u (kept-set fin r 0 lf u n));
+        seen = λ q h. rw (← e) (k r (λ z. omega (arith, getD-set-same fin r 1 0 lf)));
+      }
+  trace-from e l (ring c) = record { search = ring c; seen = λ q h. absurd (let z : _≡_ {A = ℕ} 0 1 = cc in omega arith) }
+
+-- one more byte
+pub bytes-more : {rec fin fin' st' sl' : List ℕ} {a : Search} {i m' : ℕ} → Traced rec i fin fin' st' sl' a → a ≡ Over m'
+    → ((j : ℕ) → j < i → originOf rec j < spots → getD fin (originOf rec j) 0 ≢ 0)
+    → (j : ℕ) → j < i + 1 → originOf rec j < spots → getD fin' (originOf rec j) 0 ≢ 0
+bytes-more {rec} {fin} {fin'} {i = i} t e all =
+    below-more (λ j. originOf rec j < spots → getD fin' (originOf rec j) 0 ≢ 0) i (λ j l h. was-over (t .search) e .1 _ (all j l h)) (t .seen e)

@@ -120,6 +120,12 @@ module _ (rec : List ℕ) (x : ℕ) (l : 41 ≤ x) (m : x < 1641) where
   pin-departures =
       simp (cell-byte rec 12 x l m, cell-byte rec 13 x l m, cell-byte rec 14 x l m, cell-byte rec 15 x l m) (omega arith)
 
+  pub centre-departures : forthPart (getD rec (13527 + x) 0) + forthPart (getD rec (15127 + x) 0) + forthPart (getD rec (16727 + x) 0)
+      + forthPart (getD rec (18327 + x) 0) ≡ departures (load rec) (at centre (rowOf x) (columnOf x))
+  unfolding departures total load
+  centre-departures =
+      simp (cell-byte rec 8 x l m, cell-byte rec 9 x l m, cell-byte rec 10 x l m, cell-byte rec 11 x l m) (omega arith)
+
 -- ---- what a dart carries
 
 pub mask-carries : (c : ℕ) → c < 15 → eqb (222 / 2 ^ c % 2) 1 ≡ carries c

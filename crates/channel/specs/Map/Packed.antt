@@ -1,14 +1,16 @@
 -- The rows of the table packed into words, as the code reads them: one computed test over the 64 rows says that each part of a word is the entry of the
 -- list. Assumes nothing.
-use mathlib.Core.Path.{_≡_}
+use mathlib.Core.Path.{_≡_, sym, ap}
 use mathlib.Core.Logic.{_≢_}
+use mathlib.Core.Bool.{Bool, true, false}
 use mathlib.Core.List.{List, [], _∷_}
 use Prim.Native.Nat.{ℕ, suc, zero-le, _+_, _*_, _/_, _%_, _^_, _≤_, _<_}
 use native.Mathlib.Omega.{arith}
-use lib.Dec.{eqb, eqb→eq}
+use lib.Dec.{eqb, eqb→eq, ltb, ltb→lt}
 use lib.ListN.{getD}
 use Rattle.channel.specs.Table.{turns, links, owners, signs, codes, turnOf, kindOf, ownerOf, signOf, codeOf}
 use Rattle.channel.specs.Map.Bounds.{all, all-at}
+use Rattle.channel.specs.Map.Darts.{seatOf}
 
 -- eight rows to a word, a byte for each: the code, and 16 times the kind of link
 unfoldable pub rowWords : List ℕ
@@ -22,6 +24,27 @@ turnWords =
     0x0061_0a5a_0a93_00ac ∷ 0x0a80_0a80_0a80_0a88 ∷ 0x005c_0a55_0a8e_00a7 ∷ 0x0a80_0a80_0a80_0a78 ∷ 0x0a96_0a9e_0a8a_0090 ∷ 0x0a72_0a80_0aa3_0a6d
     ∷ 0x0a76_0a97_0a8a_0ad0 ∷ 0x0aab_0a80_0a9c_0aa6 ∷ 0x0a76_0a90_0a8a_1470 ∷ 0x14a4_0a80_0a95_149f ∷ 0x0a76_0a89_0a6a_0a30 ∷ 0x1459_0a80_0a8e_1454
     ∷ 0x0a77_0a70_0a69_0a62 ∷ 0x0a80_0a80_0a80_0a88 ∷ 0x0a72_0a6b_0a64_0a5d ∷ 0x0a80_0a80_0a80_0a78 ∷ []
+
+-- the rows of the darts along links: two words for the positive way and two for the other, a byte for each kind
+unfoldable pub seatWords : List ℕ
+seatWords = 0x3938_2921_1911_1810 ∷ 0x0000_0b0a_0908_3b3a ∷ 0x1a12_132b_231b_2820 ∷ 0x0000_241c_142c_2a22 ∷ []
+
+module _ (k : ℕ) (l : k < 14) where
+  seat-row : (f : Bool) → getD seatWords (elim f [ true ↦ k / 8 | false ↦ 2 + k / 8 ]) 0 / 2 ^ (k % 8 * 8) % 256 ≡ seatOf k f
+  unfolding all seatWords seatOf
+  seat-row true = eqb→eq _ _ (all-at 14 (λ k. eqb (getD seatWords (k / 8) 0 / 2 ^ (k % 8 * 8) % 256) (seatOf k true)) tt k l)
+  seat-row false = eqb→eq _ _ (all-at 14 (λ k. eqb (getD seatWords (2 + k / 8) 0 / 2 ^ (k % 8 * 8) % 256) (seatOf k false)) tt k l)
+
+  pub seat-small : (f : Bool) → seatOf k f < 64
+  unfolding all seatOf
+  seat-small true = ltb→lt _ _ (all-at 14 (λ k. ltb (seatOf k true) 64) tt k l)
+  seat-small false = ltb→lt _ _ (all-at 14 (λ k. ltb (seatOf k false) 64) tt k l)
+
+  pub packed-forth : (f : Bool) → f ≡ true → getD seatWords (k / 8) 0 / 2 ^ (k % 8 * 8) % 256 ≡ seatOf k f
+  packed-forth f e = rw e (seat-row true)
+
+  pub packed-back : (f : Bool) → f ≡ false → getD seatWords (2 + k / 8) 0 / 2 ^ (k % 8 * 8) % 256 ≡ seatOf k f
+  packed-back f e = rw e (seat-row false)
 
 pub packed-code : (i : ℕ) → i < 64 → getD rowWords (i / 8) 0 / 2 ^ (i % 8 * 8) % 16 ≡ codeOf i
 unfolding all rowWords codes codeOf
@@ -43,9 +66,16 @@ pub packed-owner : (i : ℕ) → i < 64 → 0x0000_0090_9100_0000 / 2 ^ i % 2 + 
 unfolding all owners ownerOf
 packed-owner i l = eqb→eq _ _ (all-at 64 (λ i. eqb (0x0000_0090_9100_0000 / 2 ^ i % 2 + 0x0000_9091_0000_0000 / 2 ^ i % 2 * 40) (ownerOf i)) tt i l)
 
+-- the word at a number that is known
+pub word-at : (words : List ℕ) {k n : ℕ} → k ≡ n → getD words n 0 ≡ getD words k 0
+word-at words e = sym (ap (λ (i : ℕ). getD words i 0) e)
+
 -- the last word is the one that is none of the others
 pub not-least : (k a : ℕ) → a ≤ k → k ≢ a → suc a ≤ k
 not-least k a l n = omega arith
+
+pub from-three : (k : ℕ) → k < 4 → ((Unit {0} × (k ≢ 0)) × (k ≢ 1)) × (k ≢ 2) → k ≡ 3
+from-three k l r = let m : 3 ≤ k = not-least k 2 (not-least k 1 (not-least k 0 zero-le (r .0 .0 .1)) (r .0 .1)) (r .1) in omega arith
 
 pub from-seven : (k : ℕ) → k < 8 → ((((((Unit {0} × (k ≢ 0)) × (k ≢ 1)) × (k ≢ 2)) × (k ≢ 3)) × (k ≢ 4)) × (k ≢ 5)) × (k ≢ 6) → k ≡ 7
 from-seven k l r = let m : 7 ≤ k = not-least k 6 (not-least k 5

@@ -1,6 +1,6 @@
 -- `cells::cells` meets its contract. The loop's invariant: every row passed is in order. The measure is the rows that are left. Assumes nothing.
 use native.Mathlib.Omega.{arith}
-use Rattle.audit.specs.Cells.{cellOk}
+use Rattle.audit.specs.Laws.{cellFits}
 use Rattle.audit.specs.Feasible.{decides-yes, decides-no, one-more}
 use Prim.Native.Nat.{ℕ, _-_, _≤_, _<_}
 use lib.Dec.{T}
@@ -9,7 +9,7 @@ use Rattle.audit.proofs.cells.cells.Statement.{statement}
 use Rattle.audit.proofs.cells.cells.Tie as tie
 
 abbrev Inv-loop : tie.InvT-loop
-Inv-loop rec r₀ r = (r ≤ 40) × ((i : ℕ) → i < r → (j : ℕ) → j < 40 → T (cellOk rec i j))
+Inv-loop rec r₀ r = (r ≤ 40) × ((i : ℕ) → i < r → (j : ℕ) → j < 40 → T (cellFits rec i j))
 
 abbrev μ-loop : tie.MeasureT-loop
 μ-loop rec r₀ r = 40 - r

@@ -1,6 +1,6 @@
 -- `cells::row` meets its contract. The loop's invariant: every cell passed is in order. The measure is what is left of the row. Assumes nothing.
 use native.Mathlib.Omega.{arith}
-use Rattle.audit.specs.Cells.{cellOk}
+use Rattle.audit.specs.Laws.{cellFits}
 use Rattle.audit.specs.Feasible.{decides-yes, decides-no, test-fails, test-holds, one-more}
 use Prim.Native.Nat.{ℕ, _-_, _≤_, _<_}
 use lib.Dec.{T}
@@ -8,7 +8,7 @@ use Rattle.audit.proofs.cells.row.Statement.{statement}
 use Rattle.audit.proofs.cells.row.Tie as tie
 
 abbrev Inv-loop : tie.InvT-loop
-Inv-loop rec r c₀ c = (c ≤ 40) × ((i : ℕ) → i < c → T (cellOk rec r i))
+Inv-loop rec r c₀ c = (c ≤ 40) × ((i : ℕ) → i < c → T (cellFits rec r i))
 
 abbrev μ-loop : tie.MeasureT-loop
 μ-loop rec r c₀ c = 40 - c

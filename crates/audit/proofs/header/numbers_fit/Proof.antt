@@ -7,14 +7,8 @@ use Rattle.audit.proofs.header.numbers_fit.Tie as tie
 rows-requires : tie.Need-rows-requires
 rows-requires c κs = search needs
 
-in-range-requires : tie.Need-in-range-requires
-in-range-requires c κs = search needs
-
 columns-requires : tie.Need-columns-requires
 columns-requires c κs = search needs
-
-in-range-requires-2 : tie.Need-in-range-requires-2
-in-range-requires-2 c κs = search needs
 
 orthogonal-requires : tie.Need-orthogonal-requires
 orthogonal-requires c κs = search needs
@@ -25,8 +19,11 @@ diagonal-requires c κs = search needs
 extra-requires : tie.Need-extra-requires
 extra-requires c κs = search needs
 
-caps-fit-requires : tie.Need-caps-fit-requires
-caps-fit-requires c κs = search needs
+fits-requires : tie.Need-fits-requires
+fits-requires c κs = search needs
+
+fit-requires : tie.Need-fit-requires
+fit-requires c κs = search needs
 
 returns : tie.Need-returns
 unfolding numbersFit
@@ -37,11 +34,10 @@ numbers-fit-spec =
     tie.close
     (tie.spec
     rows-requires
-    in-range-requires
     columns-requires
-    in-range-requires-2
     orthogonal-requires
     diagonal-requires
     extra-requires
-    caps-fit-requires
+    fits-requires
+    fit-requires
     returns)

@@ -6,7 +6,7 @@ use denote.Ref.{now}
 use lib.ListN.{getD, length-set}
 use Rattle.channel.specs.Map.{spots}
 use Rattle.audit.specs.Loops.Marks.{unseen-less}
-use Rattle.audit.specs.Loops.Turns.{turn-pop, turn-hit, new-spot, turn-push}
+use Rattle.audit.specs.Loops.Turns.{turn-pop, turn-next, turn-hit, new-spot, turn-push}
 use Rattle.audit.proofs.loops.advance.Statement.{statement}
 use Rattle.audit.proofs.loops.advance.Tie as tie
 
@@ -51,22 +51,50 @@ slice-write-fin c =
     let p = c .before .before .before .before .before .before .before .before .before .pre in
     omega (arith, top (c .before .before .before .before .before .before .before .before .before), p .0 .room .marks)
 
-add-t20 : tie.Need-add-t20
-add-t20 c = search needs
+add-t25 : tie.Need-add-t25
+add-t25 c = search needs
 
 same-length : tie.Need-same-length
 same-length c = search needs
 
 returns : tie.Need-returns
 returns c =
-    let p = c .before .before .before .before .before .before .before .before .before .pre in
-    turn-pop (p .0) (p .1) (c .before .scan .ensures) (c .if1 .taken)
+    let p = c .before .before .before .before .before .before .before .before .before .before .pre in
+    turn-pop (p .0) (p .1) (c .before .before .scan .ensures) (c .before .if1 .taken)
+
+sub-sl : tie.Need-sub-sl
+sub-sl c = search needs
+
+slice-read-sl : tie.Need-slice-read-sl
+slice-read-sl c = search needs
+
+add-sl : tie.Need-add-sl
+add-sl c =
+    let s = c .before .before .before .before .before .before .before .before .before .before .before in
+    omega (arith, s .pre .0 .link (s .args .n - 1 - 1) (omega arith) .slot)
+
+slice-write-sl : tie.Need-slice-write-sl
+slice-write-sl c = search needs
+
+add-t22 : tie.Need-add-t22
+add-t22 c = search needs
+
+same-length-2 : tie.Need-same-length-2
+same-length-2 c = search needs
+
+same-length-3 : tie.Need-same-length-3
+same-length-3 c = search needs
+
+returns-2 : tie.Need-returns-2
+returns-2 c =
+    let s = c .before .before .before .before .before .before .before .before .before .before .before in
+    turn-next (s .pre .0) (s .pre .1) (c .before .before .before .scan .ensures) (c .before .before .if1 .taken) (s .args .n - 1 - 1) (omega arith)
 
 cast-sl : tie.Need-cast-sl
 cast-sl c = search needs
 
-slice-write-sl : tie.Need-slice-write-sl
-slice-write-sl c = search needs
+slice-write-sl-2 : tie.Need-slice-write-sl-2
+slice-write-sl-2 c = search needs
 
 mul-head-of : tie.Need-mul-head-of
 mul-head-of c = omega (arith, top (c .before .before .before .before .before .before .before .before .before))
@@ -77,25 +105,25 @@ add-head-of c = omega (arith, top (c .before .before .before .before .before .be
 head-of-requires : tie.Need-head-of-requires
 head-of-requires c κs = omega (arith, top (c .before .before .before .before .before .before .before .before .before), c .if1 .left)
 
-mul-if2 : tie.Need-mul-if2
-mul-if2 c = search needs
+mul-if3 : tie.Need-mul-if3
+mul-if3 c = search needs
 
-slice-read-if2 : tie.Need-slice-read-if2
-slice-read-if2 c = search needs
+slice-read-if3 : tie.Need-slice-read-if3
+slice-read-if3 c = search needs
 
-same-length-2 : tie.Need-same-length-2
-same-length-2 c = search needs
+same-length-4 : tie.Need-same-length-4
+same-length-4 c = search needs
 
-same-length-3 : tie.Need-same-length-3
-same-length-3 c = search needs
+same-length-5 : tie.Need-same-length-5
+same-length-5 c = search needs
 
-returns-2 : tie.Need-returns-2
-returns-2 c =
+returns-3 : tie.Need-returns-3
+returns-3 c =
     let s = c .before .before .before .before .before .before .before .before .before .before .before .before in
     let k = c .before .before .before .before .scan in
     let i = c .before .before .before .if1 in
     let h = c .before .before .head-of in
-    turn-hit (s .pre .0) (s .pre .1) (k .ensures) (i .left) (h .ensures .0) (c .if2 .taken)
+    turn-hit (s .pre .0) (s .pre .1) (k .ensures) (i .left) (h .ensures .0) (c .if3 .taken)
 
 mul-fin-2 : tie.Need-mul-fin-2
 mul-fin-2 c = search needs
@@ -110,13 +138,13 @@ mul-st : tie.Need-mul-st
 mul-st c = search needs
 
 -- a spot that was not seen leaves room on the stack
-space : (c : tie.Else2) → c .before .before .before .before .before .before .before .before .before .before .before .before .args .n < spots
+space : (c : tie.Else3) → c .before .before .before .before .before .before .before .before .before .before .before .before .args .n < spots
 space c =
     let s = c .before .before .before .before .before .before .before .before .before .before .before .before in
     let k = c .before .before .before .before .scan in
     let i = c .before .before .before .if1 in
     let h = c .before .before .head-of in
-    let (lv, z) = new-spot (s .pre .0) (s .pre .1) (k .ensures) (i .left) (h .ensures .0) (c .if2 .left) in
+    let (lv, z) = new-spot (s .pre .0) (s .pre .1) (k .ensures) (i .left) (h .ensures .0) (c .if3 .left) in
     omega (arith, s .pre .0 .count, unseen-less (now (s .args .fin)) (h .result) lv (omega (arith, lv, s .pre .0 .room .marks)) 0 z)
 
 slice-write-st : tie.Need-slice-write-st
@@ -124,30 +152,30 @@ slice-write-st c =
     let p = c .before .before .before .before .before .before .before .before .before .before .before .before .pre in
     omega (arith, space c, p .0 .room .stack)
 
-slice-write-sl-2 : tie.Need-slice-write-sl-2
-slice-write-sl-2 c =
+slice-write-sl-3 : tie.Need-slice-write-sl-3
+slice-write-sl-3 c =
     let p = c .before .before .before .before .before .before .before .before .before .before .before .before .pre in
     simp length-set (omega (arith, space c, p .0 .room .slots))
 
-add-t25 : tie.Need-add-t25
-add-t25 c = search needs
-
-same-length-4 : tie.Need-same-length-4
-same-length-4 c = search needs
-
-same-length-5 : tie.Need-same-length-5
-same-length-5 c = search needs
+add-t30 : tie.Need-add-t30
+add-t30 c = search needs
 
 same-length-6 : tie.Need-same-length-6
 same-length-6 c = search needs
 
-returns-3 : tie.Need-returns-3
-returns-3 c =
+same-length-7 : tie.Need-same-length-7
+same-length-7 c = search needs
+
+same-length-8 : tie.Need-same-length-8
+same-length-8 c = search needs
+
+returns-4 : tie.Need-returns-4
+returns-4 c =
     let s = c .before .before .before .before .before .before .before .before .before .before .before .before in
     let k = c .before .before .before .before .scan in
     let i = c .before .before .before .if1 in
     let h = c .before .before .head-of in
-    turn-push (s .pre .0) (s .pre .1) (k .ensures) (i .left) (h .ensures .0) (c .if2 .left)
+    turn-push (s .pre .0) (s .pre .1) (k .ensures) (i .left) (h .ensures .0) (c .if3 .left)
 
 pub advance-spec : {M : Type 1} → statement M
 advance-spec =
@@ -164,27 +192,35 @@ advance-spec =
     cast-fin
     mul-fin
     slice-write-fin
-    add-t20
+    add-t25
     same-length
     returns
-    cast-sl
+    sub-sl
+    slice-read-sl
+    add-sl
     slice-write-sl
-    mul-head-of
-    add-head-of
-    head-of-requires
-    mul-if2
-    slice-read-if2
+    add-t22
     same-length-2
     same-length-3
     returns-2
+    cast-sl
+    slice-write-sl-2
+    mul-head-of
+    add-head-of
+    head-of-requires
+    mul-if3
+    slice-read-if3
+    same-length-4
+    same-length-5
+    returns-3
     mul-fin-2
     slice-write-fin-2
     cast-st
     mul-st
     slice-write-st
-    slice-write-sl-2
-    add-t25
-    same-length-4
-    same-length-5
+    slice-write-sl-3
+    add-t30
     same-length-6
-    returns-3)
+    same-length-7
+    same-length-8
+    returns-4)

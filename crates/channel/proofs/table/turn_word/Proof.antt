@@ -1,19 +1,154 @@
--- `table::turn_word` meets its contract: the constant array is the list. Assumes nothing.
+-- `table::turn_word` meets its contract: the constant array is the list, word by word. Assumes nothing.
 use borrow.Author.Needs.{needs}
-use mathlib.Core.Path.{refl}
-use Rattle.channel.specs.Map.Packed.{turnWords}
+use Rattle.channel.specs.Map.Packed.{turnWords, word-at, from-fifteen}
 use Rattle.channel.proofs.table.turn_word.Statement.{statement}
 use Rattle.channel.proofs.table.turn_word.Tie as tie
-
-mul-result : tie.Need-mul-result
-mul-result c = search needs
 
 array-read-result : tie.Need-array-read-result
 array-read-result c = search needs
 
+array-read-result-2 : tie.Need-array-read-result-2
+array-read-result-2 c = search needs
+
+array-read-result-3 : tie.Need-array-read-result-3
+array-read-result-3 c = search needs
+
+array-read-result-4 : tie.Need-array-read-result-4
+array-read-result-4 c = search needs
+
+array-read-result-5 : tie.Need-array-read-result-5
+array-read-result-5 c = search needs
+
+array-read-result-6 : tie.Need-array-read-result-6
+array-read-result-6 c = search needs
+
+array-read-result-7 : tie.Need-array-read-result-7
+array-read-result-7 c = search needs
+
+array-read-result-8 : tie.Need-array-read-result-8
+array-read-result-8 c = search needs
+
+array-read-result-9 : tie.Need-array-read-result-9
+array-read-result-9 c = search needs
+
+array-read-result-10 : tie.Need-array-read-result-10
+array-read-result-10 c = search needs
+
+array-read-result-11 : tie.Need-array-read-result-11
+array-read-result-11 c = search needs
+
+array-read-result-12 : tie.Need-array-read-result-12
+array-read-result-12 c = search needs
+
+array-read-result-13 : tie.Need-array-read-result-13
+array-read-result-13 c = search needs
+
+array-read-result-14 : tie.Need-array-read-result-14
+array-read-result-14 c = search needs
+
+array-read-result-15 : tie.Need-array-read-result-15
+array-read-result-15 c = search needs
+
+array-read-result-16 : tie.Need-array-read-result-16
+array-read-result-16 c = search needs
+
 returns : tie.Need-returns
 unfolding turnWords
-returns c = refl
+returns c = word-at turnWords (c .match .keys1)
+
+returns-2 : tie.Need-returns-2
+unfolding turnWords
+returns-2 c = word-at turnWords (c .match .keys2)
+
+returns-3 : tie.Need-returns-3
+unfolding turnWords
+returns-3 c = word-at turnWords (c .match .keys3)
+
+returns-4 : tie.Need-returns-4
+unfolding turnWords
+returns-4 c = word-at turnWords (c .match .keys4)
+
+returns-5 : tie.Need-returns-5
+unfolding turnWords
+returns-5 c = word-at turnWords (c .match .keys5)
+
+returns-6 : tie.Need-returns-6
+unfolding turnWords
+returns-6 c = word-at turnWords (c .match .keys6)
+
+returns-7 : tie.Need-returns-7
+unfolding turnWords
+returns-7 c = word-at turnWords (c .match .keys7)
+
+returns-8 : tie.Need-returns-8
+unfolding turnWords
+returns-8 c = word-at turnWords (c .match .keys8)
+
+returns-9 : tie.Need-returns-9
+unfolding turnWords
+returns-9 c = word-at turnWords (c .match .keys9)
+
+returns-10 : tie.Need-returns-10
+unfolding turnWords
+returns-10 c = word-at turnWords (c .match .keys10)
+
+returns-11 : tie.Need-returns-11
+unfolding turnWords
+returns-11 c = word-at turnWords (c .match .keys11)
+
+returns-12 : tie.Need-returns-12
+unfolding turnWords
+returns-12 c = word-at turnWords (c .match .keys12)
+
+returns-13 : tie.Need-returns-13
+unfolding turnWords
+returns-13 c = word-at turnWords (c .match .keys13)
+
+returns-14 : tie.Need-returns-14
+unfolding turnWords
+returns-14 c = word-at turnWords (c .match .keys14)
+
+returns-15 : tie.Need-returns-15
+unfolding turnWords
+returns-15 c = word-at turnWords (c .match .keys15)
+
+returns-16 : tie.Need-returns-16
+unfolding turnWords
+returns-16 c = word-at turnWords (from-fifteen _ (c .before .pre) (c .match .rest))
 
 pub turn-word-spec : {M : Type 1} → statement M
-turn-word-spec = tie.close (tie.spec mul-result array-read-result returns)
+turn-word-spec =
+    tie.close
+    (tie.spec
+    array-read-result
+    array-read-result-2
+    array-read-result-3
+    array-read-result-4
+    array-read-result-5
+    array-read-result-6
+    array-read-result-7
+    array-read-result-8
+    array-read-result-9
+    array-read-result-10
+    array-read-result-11
+    array-read-result-12
+    array-read-result-13
+    array-read-result-14
+    array-read-result-15
+    array-read-result-16
+    returns
+    returns-2
+    returns-3
+    returns-4
+    returns-5
+    returns-6
+    returns-7
+    returns-8
+    returns-9
+    returns-10
+    returns-11
+    returns-12
+    returns-13
+    returns-14
+    returns-15
+    returns-16)

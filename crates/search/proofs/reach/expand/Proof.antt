@@ -30,7 +30,7 @@ attempt-requires c κs =
     let p = c12 .pre in
     let g = c5 .loop .inv .2 in (
       record { whole = p .whole; room = g .room; count = g .count; early = omega (arith, p .early, g .up); spot = p .spot },
-      c .before .before .before .before .loop-test .taken,
+      omega (arith, c .before .before .before .before .loop-test .taken),
     )
 
 enum-known-a : tie.Need-enum-known-a Inv-loop μ-loop
@@ -66,7 +66,7 @@ returns c =
     let c16 = c11 .before .before .before .before .before in
     let c17 = c16 .before in
     let c24 = c17 .before .before .before .before .before .before .before in
-    grown-exit (c17 .loop .inv .2) (c24 .pre .early) (c16 .loop-test .taken) (c11 .attempt .ensures) (c .before .a .given .1)
+    grown-exit (c17 .loop .inv .2) (c24 .pre .early) (omega (arith, c16 .loop-test .taken)) (c11 .attempt .ensures) (c .before .a .given .1)
 
 enum-known-a-2 : tie.Need-enum-known-a-2 Inv-loop μ-loop
 enum-known-a-2 c = search needs
@@ -88,7 +88,7 @@ loop-again c =
     let k = c11 .attempt .kept .1 .1 .1 .1 .1 in (
       omega (arith, c16 .loop-test .taken),
       alike-then (c17 .loop .inv .1) (k .0) (k .1 .0) (k .1 .1 .0) (k .1 .1 .1 .0),
-      grown-more (c17 .loop .inv .2) (c24 .pre .early) (c16 .loop-test .taken) (c11 .attempt .ensures) (c .before .a2 .given .1),
+      grown-more (c17 .loop .inv .2) (c24 .pre .early) (omega (arith, c16 .loop-test .taken)) (c11 .attempt .ensures) (c .before .a2 .given .1),
     )
 
 same-length-5 : tie.Need-same-length-5 Inv-loop μ-loop

@@ -80,8 +80,8 @@ loop-holds c =
           (c2 .write-fresh .ensures),
     )
 
-line-at-requires : tie.Need-line-at-requires Inv-loop μ-loop
-line-at-requires c κs = c .loop .inv .2
+next-line-requires : tie.Need-next-line-requires Inv-loop μ-loop
+next-line-requires c κs = c .loop .inv .2
 
 enum-known-group : tie.Need-enum-known-group Inv-loop μ-loop
 enum-known-group c = search needs
@@ -102,7 +102,7 @@ returns-2 c =
     let p = c8 .rows .given in
     let q = p .0 .1 .1 in
     λ K h.
-    ends (l .inv .3 K h) (c .before .line-at .result) (c .match2 .keys2) (c .before .line-at .ensures)
+    ends (l .inv .3 K h) (c .before .next-line .result) (c .match2 .keys2) (c .before .next-line .ensures)
     ∙ (ap (over (unwiredRecord K)) (c5 .write-fresh .ensures)
     ∙ over-over K (fresh (p .0 .0) (p .0 .1 .0) (q .0) (q .1 .0) (q .1 .1 .0)) noLoads noLoads (now (c13 .args .rec)))
 
@@ -117,7 +117,7 @@ set-state-requires c κs =
     let p = c3 .group .given in
     let q = p .0 .1 in
     let (K, h) = c17 .pre .1 in
-    let f = subst (LineAt t (l .at)) (p .1) (c5 .line-at .ensures) in
+    let f = subst (LineAt t (l .at)) (p .1) (c5 .next-line .ensures) in
     let b = group-cell (l .inv .3 K h) (l .inv .2) (p .0 .0) (q .0) (q .1 .0) (q .1 .1 .0) f in
     (omega (arith, l .inv .0, l .inv .1), (b .0, b .1, omega arith))
 
@@ -130,7 +130,7 @@ loop-less c =
     let t = now (c20 .args .text) in
     let l = c9 .loop in
     let p = c6 .group .given in
-    let f = subst (LineAt t (l .at)) (p .1) (c8 .line-at .ensures) in
+    let f = subst (LineAt t (l .at)) (p .1) (c8 .next-line .ensures) in
     let b = line-length t (l .at) (p .0 .1 .1 .1 .0) (groupLine (f .0) (p .0 .1 .0) (p .0 .1 .1 .0)) (l .inv .2) (f .4) (f .5) in
     omega (arith, b .1, f .4)
 
@@ -146,7 +146,7 @@ loop-again c =
     let l = c9 .loop in
     let p = c6 .group .given in
     let q = p .0 .1 in
-    let f = subst (LineAt t (l .at)) (p .1) (c8 .line-at .ensures) in (
+    let f = subst (LineAt t (l .at)) (p .1) (c8 .next-line .ensures) in (
       l .inv .0,
       c2 .set-state .kept .0 ∙ l .inv .1,
       f .4,
@@ -165,7 +165,7 @@ sub-set-mark c =
     let p = c3 .group .given in
     let q = p .0 .1 in
     let (K, h) = c17 .pre .1 in
-    let f = subst (LineAt t (l .at)) (p .1) (c5 .line-at .ensures) in
+    let f = subst (LineAt t (l .at)) (p .1) (c5 .next-line .ensures) in
     let b = group-rank (l .inv .3 K h) (l .inv .2) (p .0 .0) (q .0) (q .1 .0) (q .1 .1 .0) f in
     omega (arith, b .0)
 
@@ -180,7 +180,7 @@ set-mark-requires c κs =
     let p = c3 .group .given in
     let q = p .0 .1 in
     let (K, h) = c17 .pre .1 in
-    let f = subst (LineAt t (l .at)) (p .1) (c5 .line-at .ensures) in
+    let f = subst (LineAt t (l .at)) (p .1) (c5 .next-line .ensures) in
     let b = group-cell (l .inv .3 K h) (l .inv .2) (p .0 .0) (q .0) (q .1 .0) (q .1 .1 .0) f in
     let r = group-rank (l .inv .3 K h) (l .inv .2) (p .0 .0) (q .0) (q .1 .0) (q .1 .1 .0) f in
     (omega (arith, l .inv .0, l .inv .1), (b .0, b .1, omega (arith, r .1)))
@@ -194,7 +194,7 @@ loop-less-2 c =
     let t = now (c20 .args .text) in
     let l = c9 .loop in
     let p = c6 .group .given in
-    let f = subst (LineAt t (l .at)) (p .1) (c8 .line-at .ensures) in
+    let f = subst (LineAt t (l .at)) (p .1) (c8 .next-line .ensures) in
     let b = line-length t (l .at) (p .0 .1 .1 .1 .0) (groupLine (f .0) (p .0 .1 .0) (p .0 .1 .1 .0)) (l .inv .2) (f .4) (f .5) in
     omega (arith, b .1, f .4)
 
@@ -210,7 +210,7 @@ loop-again-2 c =
     let l = c9 .loop in
     let p = c6 .group .given in
     let q = p .0 .1 in
-    let f = subst (LineAt t (l .at)) (p .1) (c8 .line-at .ensures) in (
+    let f = subst (LineAt t (l .at)) (p .1) (c8 .next-line .ensures) in (
       l .inv .0,
       c2 .set-mark .kept .0 ∙ l .inv .1,
       f .4,
@@ -230,7 +230,7 @@ write-job-spec =
     returns
     write-fresh-requires
     loop-holds
-    line-at-requires
+    next-line-requires
     enum-known-group
     same-length
     returns-2

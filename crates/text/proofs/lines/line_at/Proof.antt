@@ -5,7 +5,8 @@ use denote.Ref.{now}
 use borrow.Author.Needs.{needs}
 use Rattle.model.specs.Text.{chosenPins, missingPins, closedTiles}
 use Rattle.text.specs.Scan.{WordAt}
-use Rattle.text.proofs.Lined.{opening, line-group, line-end, line-none, each-opening}
+use Rattle.text.specs.Lines.{opening}
+use Rattle.text.proofs.Lined.{line-group, line-end, line-none, each-opening}
 use Rattle.text.proofs.lines.line_at.Statement.{statement}
 use Rattle.text.proofs.lines.line_at.Tie as tie
 

@@ -9,8 +9,8 @@ use Rattle.text.proofs.Standing.{step-group, step-out-of-turn, step-unn
 use Rattle.text.proofs.reader.Cursor.next.Statement.{statement}
 use Rattle.text.proofs.reader.Cursor.next.Tie as tie
 
-line-at-requires : tie.Need-line-at-requires
-line-at-requires c κs = search needs
+next-line-requires : tie.Need-next-line-requires
+next-line-requires c κs = search needs
 
 enum-known-group : tie.Need-enum-known-group
 enum-known-group c = search needs
@@ -20,7 +20,7 @@ mul-cell c =
     let c3 = c .before .before .before in
     let c5 = c3 .before .before in
     let a = c5 .args in
-    let f = subst (LineAt (now (a .text)) (a .self .at)) (c .before .group .given .1) (c3 .line-at .ensures) in
+    let f = subst (LineAt (now (a .text)) (a .self .at)) (c .before .group .given .1) (c3 .next-line .ensures) in
     omega (arith, f .2)
 
 add-cell : tie.Need-add-cell
@@ -28,7 +28,7 @@ add-cell c =
     let c3 = c .before .before .before in
     let c5 = c3 .before .before in
     let a = c5 .args in
-    let f = subst (LineAt (now (a .text)) (a .self .at)) (c .before .group .given .1) (c3 .line-at .ensures) in
+    let f = subst (LineAt (now (a .text)) (a .self .at)) (c .before .group .given .1) (c3 .next-line .ensures) in
     omega (arith, f .2, f .3)
 
 in-turn-requires : tie.Need-in-turn-requires
@@ -42,7 +42,7 @@ returns c =
     let s = c7 in
     let a = s .args in
     let p = c3 .group .given in
-    let f = subst (LineAt (now (a .text)) (a .self .at)) (p .1) (c5 .line-at .ensures) in
+    let f = subst (LineAt (now (a .text)) (a .self .at)) (p .1) (c5 .next-line .ensures) in
     λ R w.
     step-out-of-turn w (s .pre .1) (s .pre .3) (s .pre .4) (now (a .text)) (a .self .at)
     (p .0 .0) (p .0 .1 .0) (p .0 .1 .1 .0) (p .0 .1 .1 .1 .0) (f .0) (f .1) (f .5) (sym (c .before .in-turn .ensures) ∙ not-true _ (c .if1 .taken))
@@ -54,7 +54,7 @@ names-requires c κs =
     let c7 = c5 .before .before in
     let s = c7 in
     let a = s .args in
-    let f = subst (LineAt (now (a .text)) (a .self .at)) (c3 .group .given .1) (c5 .line-at .ensures) in
+    let f = subst (LineAt (now (a .text)) (a .self .at)) (c3 .group .given .1) (c5 .next-line .ensures) in
     (s .pre .3, s .pre .4, f .2, f .3)
 
 returns-2 : tie.Need-returns-2
@@ -65,7 +65,7 @@ returns-2 c =
     let s = c9 in
     let a = s .args in
     let p = c5 .group .given in
-    let f = subst (LineAt (now (a .text)) (a .self .at)) (p .1) (c7 .line-at .ensures) in
+    let f = subst (LineAt (now (a .text)) (a .self .at)) (p .1) (c7 .next-line .ensures) in
     λ R w.
     step-unnamed w (s .pre .1) (s .pre .3) (s .pre .4) (now (a .text)) (a .self .at)
     (p .0 .0) (p .0 .1 .0) (p .0 .1 .1 .0) (p .0 .1 .1 .1 .0) (f .0) (f .1) (f .5) (sym (c .before .names .ensures) ∙ not-true _ (c .if2 .taken))
@@ -76,7 +76,7 @@ add-t15 c =
     let c7 = c5 .before .before in
     let c9 = c7 .before .before in
     let a = c9 .args in
-    let f = subst (LineAt (now (a .text)) (a .self .at)) (c5 .group .given .1) (c7 .line-at .ensures) in
+    let f = subst (LineAt (now (a .text)) (a .self .at)) (c5 .group .given .1) (c7 .next-line .ensures) in
     omega (arith, f .2, f .3)
 
 enum-known-next : tie.Need-enum-known-next
@@ -95,7 +95,7 @@ returns-3 c =
     let s = c9 in
     let a = s .args in
     let p = c5 .group .given in
-    let f = subst (LineAt (now (a .text)) (a .self .at)) (p .1) (c7 .line-at .ensures) in
+    let f = subst (LineAt (now (a .text)) (a .self .at)) (p .1) (c7 .next-line .ensures) in
     λ R w.
     step-group w (s .pre .1) (s .pre .3) (s .pre .4) (now (a .text)) (a .self .at)
     (p .0 .0) (p .0 .1 .0) (p .0 .1 .1 .0) (p .0 .1 .1 .1 .0) (f .0) (f .1) (f .5) _ (f .4) refl refl refl
@@ -108,7 +108,7 @@ returns-4 c =
     let s = c5 in
     let a = s .args in
     let p = c .before .next .given in
-    let f = subst (LineAt (now (a .text)) (a .self .at)) (p .1) (c3 .line-at .ensures) in
+    let f = subst (LineAt (now (a .text)) (a .self .at)) (p .1) (c3 .next-line .ensures) in
     λ R w.
     step-end w (s .pre .1) (s .pre .3) (s .pre .4) (now (a .text)) (a .self .at) (p .0 .0)
     _ (s .pre .2) (f .0) refl refl refl (f .1)
@@ -121,13 +121,13 @@ returns-5 c =
     let a = s .args in
     λ R w.
     step-wrong w (s .pre .1) (s .pre .3) (s .pre .4) (now (a .text)) (a .self .at)
-    (subst (LineAt (now (a .text)) (a .self .at)) (c .enum-told .given .1) (c2 .line-at .ensures))
+    (subst (LineAt (now (a .text)) (a .self .at)) (c .enum-told .given .1) (c2 .next-line .ensures))
 
 pub next-spec : {M : Type 1} → statement M
 next-spec =
     tie.close
     (tie.spec
-    line-at-requires
+    next-line-requires
     enum-known-group
     mul-cell
     add-cell

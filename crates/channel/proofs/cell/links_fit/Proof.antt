@@ -1,0 +1,24 @@
+-- `cell::links_fit` meets its contract, part by part. Assumes nothing.
+use borrow.Author.Needs.{needs}
+use Rattle.channel.specs.Cell.Rooms.{links-are}
+use Rattle.channel.proofs.cell.links_fit.Statement.{statement}
+use Rattle.channel.proofs.cell.links_fit.Tie as tie
+
+sides-requires : tie.Need-sides-requires
+sides-requires c κs = search needs
+
+corners-requires : tie.Need-corners-requires
+corners-requires c κs = search needs
+
+spokes-requires : tie.Need-spokes-requires
+spokes-requires c κs = search needs
+
+legs-requires : tie.Need-legs-requires
+legs-requires c κs = search needs
+
+returns : tie.Need-returns
+returns c = let s = c .before .before .before .before .before .args in cc (links-are (s .rec .now) (s .r) (s .c))
+
+pub links-fit-spec : {M : Type 1} → statement M
+links-fit-spec =
+    tie.close (tie.spec sides-requires corners-requires spokes-requires legs-requires returns)

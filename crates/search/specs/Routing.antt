@@ -1,0 +1,195 @@
+-- What laying all wires did to a record, from what was done to the copy of its first bytes; and the counts and bytes that its loops store. Assumes nothing.
+use mathlib.Core.Path.{_≡_, refl, sym, ap, subst, _∙_}
+use mathlib.Core.Logic.{_≢_}
+use mathlib.Core.Bool.{Bool, true, false}
+use mathlib.Core.List.{List, [], _∷_, _++_}
+use Prim.Native.Nat.{ℕ, _+_, _-_, _≤_, _<_}
+use native.Mathlib.Numerals.{add-one}
+use native.Mathlib.Omega.{arith}
+use lib.Dec.{T, ltb}
+use lib.ListN.{length, getD}
+use Rattle.sums.specs.Counting.{when, sum, each}
+use Rattle.sums.specs.Tests.{and-left}
+use Rattle.sums.specs.Sums.{when-none, when-so, when-implies, sum-cong, sum-le, sum-add}
+use Rattle.model.specs.Job.{Job, isChosen}
+use Rattle.model.specs.Links.{pin, at}
+use Rattle.model.specs.Route.{chosenCount, Greatest}
+use Rattle.model.specs.Near.{Smallest}
+use Rattle.model.specs.Loads.{departures}
+use Rattle.model.specs.Record.{recordSize, jobOf, load, Legal, bytes, over}
+use Rattle.model.specs.Wires.{isWired, wireCount}
+use Rattle.model.specs.Calls.{wiredIn, wiresIn, nearBytes, Shown, none-short, side}
+use Rattle.wire.specs.Held.{sound-holds}
+use Rattle.channel.specs.Map.{spots, isStart, want, starts}
+use Rattle.channel.specs.Map.Starts.{pin-spot, want-start}
+use Rattle.channel.specs.Map.Flows.{feasible-flow, pin-starts, starts-count, want-count}
+use Rattle.search.specs.Marks.{marked, is-marked}
+use Rattle.search.specs.Pins.{Held}
+use Rattle.search.specs.Loose.{Loosened, Freed}
+use Rattle.search.specs.Rings.{loose-held, loose-wires}
+use Rattle.search.specs.Fill.{More, Filled, unwiredCount}
+use Rattle.search.specs.Filling.{saturated-smallest, saturated-greatest}
+use Rattle.search.specs.Copies.{front, over-whole, front-whole, front-length, front-load, front-held, new-length, put-job, put-wired, put-wires, put-legal}
+use Rattle.search.specs.Outcome.{RoutedAll}
+
+-- ---- the bytes of a near side
+
+pub byte-near : (t : List ℕ) (i : ℕ) → i < spots → getD t i 0 ≡ 1 → 1 ≡ when (marked t i) 1
+byte-near t i l e = sym (when-so (marked t i) 1 (is-marked t i l e))
+
+pub byte-far : (t : List ℕ) (i : ℕ) → (T (marked t i) → ⊥) → 0 ≡ when (marked t i) 1
+byte-far t i n = sym (when-none (marked t i) 1 (λ m. absurd (n m)))
+
+-- ---- one turn more
+
+pub sum-next : (n : ℕ) (f : ℕ → ℕ) → sum (n + 1) f ≡ sum n f + f n
+unfolding sum
+sum-next n f = rw add-one refl
+
+pub bytes-next : (n : ℕ) (f : ℕ → ℕ) → bytes (n + 1) f ≡ bytes n f ++ (f n ∷ [])
+unfolding each
+bytes-next n f = rw add-one refl
+
+-- ---- counting the unwired pins
+
+module _ (J : Job) (rec : List ℕ) (u : ℕ) where
+  pub lacks-no-pin : (T (isStart J u) → ⊥) → 0 ≡ want J u - starts J rec u
+  lacks-no-pin n = omega (arith, want-start J u, when-none (isStart J u) 1 (λ t. absurd (n t)))
+
+  pub lacks-no-wire : starts J rec u ≢ 0 → 0 ≡ want J u - starts J rec u
+  lacks-no-wire n = omega (arith, want-start J u, when-implies (isStart J u) true 1 (λ t. tt))
+
+  pub lacks-one : T (isStart J u) → starts J rec u ≡ 0 → 1 ≡ want J u - starts J rec u
+  lacks-one t e = omega (arith, want-start J u, when-so (isStart J u) 1 t)
+
+wires-few : {J : Job} {rec : List ℕ} → Held J rec → wireCount J (load rec) ≤ chosenCount J
+wires-few {J} {rec} H =
+    omega (
+      arith,
+      sum-le spots (starts J rec) (want J) (feasible-flow J (H .fits) rec (H .feasible) .load .wanted),
+      want-count J (H .fits),
+      starts-count J (H .fits) rec (H .feasible),
+    )
+
+-- a legal record holds its own loads
+pub legal-held : {rec : List ℕ} → Legal rec → Held (jobOf rec) rec
+legal-held g =
+    record {
+      fits = g .values .array;
+      caps = g .values .caps;
+      long = g .long;
+      bytes = λ k r c. g .values .loads k r c;
+      feasible = g .sound .feasible;
+    }
+
+pub unwired-count : {J : Job} {rec : List ℕ} → Held J rec → unwiredCount J rec ≡ chosenCount J - wireCount J (load rec)
+unwired-count {J} {rec} H =
+    omega (
+      arith,
+      sum-add spots (λ u. want J u - starts J rec u) (starts J rec),
+      sum-cong spots (λ u. want J u - starts J rec u + starts J rec u) (want J)
+          (λ u l. omega (arith, feasible-flow J (H .fits) rec (H .feasible) .load .wanted u l)),
+      want-count J (H .fits),
+      starts-count J (H .fits) rec (H .feasible),
+    )
+
+-- ---- the pins that were wired still are
+
+more-loose : {J : Job} {rec rec′ rec″ : List ℕ} → More J rec rec′ → Loosened J rec′ rec″ → More J rec rec″
+more-loose M L =
+    record {
+      held = loose-held (M .held) L;
+      begun = λ x l. omega (arith, M .begun x l, L .begun x l);
+      kept = record {
+        size = L .kept .size ∙ M .kept .size;
+        job = L .kept .job ∙ M .kept .job;
+        front = λ i l. L .kept .front i l ∙ M .kept .front i l;
+        rest = λ i l. L .kept .rest i l ∙ M .kept .rest i l;
+      };
+    }
+
+more-wired : {J : Job} {rec rec′ : List ℕ} → Held J rec → More J rec rec′ → (r c : ℕ) → T (isWired J (load rec) r c) → T (isWired J (load rec′) r c)
+unfolding isWired
+more-wired {J} {rec} {rec′} H M r c w =
+    let t = and-left (isChosen J r c) (ltb 0 (departures (load rec) (at pin r c))) w in
+    by (isWired J (load rec) r c) (isWired J (load rec′) r c)
+    (omega (
+      arith,
+      pin-starts J (H .fits) rec (H .feasible) r c t,
+      pin-starts J (H .fits) rec′ (M .held .feasible) r c t,
+      M .begun _ (pin-spot J (H .fits) r c t),
+    ))
+    w
+  where
+    by : (a b : Bool) → when a 1 ≤ when b 1 → T a → T b
+    by true true l t = tt
+    by true false l t = absurd (omega arith)
+    by false b l t = absurd t
+
+-- ---- all wires
+
+-- a copy of the record has its bytes, and holds its loads
+pub copied-front : {rec loads : List ℕ} → Legal rec → (old : List ℕ) → length old ≡ recordSize → loads ≡ over (front rec) old → loads ≡ front rec
+copied-front {rec} legal old l q = q ∙ over-whole (front rec) old (front-length rec (legal .long)) l
+
+pub copy-held : {rec loads : List ℕ} → Legal rec → loads ≡ front rec → Held (jobOf rec) loads
+copy-held {rec} legal q = subst (λ (x : List ℕ). Held (jobOf rec) x) (sym q) (front-held rec legal)
+
+module _ {rec : List ℕ} (legal : Legal rec) {loads loads′ loads″ t : List ℕ} (q : loads ≡ front rec)
+    (F : Filled (jobOf rec) loads loads′ t) (U : Freed loads′ loads″) {k : ℕ} (n : k ≡ unwiredCount (jobOf rec) loads″) {rec′ : List ℕ}
+    (back : rec′ ≡ over (front loads″) rec) where
+  abbrev J : Job
+  J = jobOf rec
+
+  L : Loosened J loads′ loads″
+  L = U .loose J (F .more .held)
+
+  M : More J (front rec) loads″
+  M = more-loose (subst (λ (x : List ℕ). More J x loads′) q (F .more)) L
+
+  same-wires : wireCount J (load loads″) ≡ wireCount J (load loads′)
+  same-wires = loose-wires (F .more .held) L
+
+  put : rec′ ≡ over loads″ rec
+  put = back ∙ ap (λ (x : List ℕ). over x rec) (front-whole loads″ (new-length rec legal loads″ (M .kept)))
+
+  wires : wiresIn rec′ ≡ wireCount J (load loads″)
+  wires = ap wiresIn put ∙ put-wires rec legal loads″ (M .kept)
+
+  greatest : Greatest J (wiresIn rec′)
+  greatest =
+      let (rs, holds, together) = sound-holds J (load loads″) (U .sound J (F .more .held)) in
+      subst (λ (g : ℕ). Greatest J g) (sym (wires ∙ same-wires)) (saturated-greatest (F .more .held) (F .full) rs together (holds .number ∙ same-wires))
+
+  smallest : Smallest J (marked t) (wiresIn rec′)
+  smallest = subst (λ (g : ℕ). Smallest J (marked t) g) (sym (wires ∙ same-wires)) (saturated-smallest (F .more .held) (F .full))
+
+  lacking : k ≡ chosenCount J - wiresIn rec′
+  lacking = n ∙ unwired-count (M .held) ∙ ap (λ (g : ℕ). chosenCount J - g) (sym wires)
+
+  few : wiresIn rec′ ≤ chosenCount J
+  few = omega (arith, wires-few (M .held), wires)
+
+  routed : {near near′ : List ℕ} → Shown J (wiresIn rec′) near near′ → RoutedAll rec rec′ near near′ k
+  routed s =
+      record {
+        legal = subst Legal (sym put) (put-legal rec legal loads″ (M .kept) (M .held .bytes) (U .sound J (F .more .held)));
+        job = ap jobOf put ∙ put-job rec legal loads″ (M .kept);
+        rest = (loads″, new-length rec legal loads″ (M .kept), put);
+        kept = λ r c w.
+            subst T (sym (ap (λ (x : List ℕ). wiredIn x r c) put ∙ put-wired rec legal loads″ (M .kept) r c))
+            (more-wired (front-held rec legal) M r c (subst (λ f. T (isWired J f r c)) (sym (front-load rec (legal .long))) w));
+        greatest = greatest;
+        lacks = lacking;
+        shown = s;
+      }
+
+  pub routed-whole : {near : List ℕ} → k ≡ 0 → RoutedAll rec rec′ near near 0
+  routed-whole {near} e = subst (λ (m : ℕ). RoutedAll rec rec′ near near m) e (routed (none-short (omega (arith, lacking, few)) refl))
+
+  pub routed-short : {near near′ : List ℕ} → k ≢ 0 → near′ ≡ over (nearBytes (marked t)) near → RoutedAll rec rec′ near near′ k
+  routed-short e s = routed (side (omega (arith, lacking)) (marked t) smallest s)
+
+-- the copy, copied back
+pub routed-back : {rec rec′ rec″ near near′ : List ℕ} {k : ℕ} → rec″ ≡ rec′ → RoutedAll rec rec′ near near′ k → RoutedAll rec rec″ near near′ k
+routed-back {rec} {near = near} {near′ = near′} {k = k} e R = subst (λ (x : List ℕ). RoutedAll rec x near near′ k) (sym e) R

@@ -1,0 +1,67 @@
+-- Document 01, "Step" and "Shortfall": refused by 8 and 7 where a buffer is too short; else the answer that the search gives, and the scratch cleared.
+-- Assumes nothing.
+use mathlib.Core.Path.{_≡_, refl, sym, ap, subst, _∙_}
+use mathlib.Core.Logic.{_≢_}
+use mathlib.Core.List.{List, []}
+use Prim.Native.Nat.{ℕ, _-_, _≤_, _<_}
+use native.Mathlib.Omega.{arith}
+use lib.ListN.{length}
+use Rattle.model.specs.Job.{Job}
+use Rattle.model.specs.Route.{chosenCount, Greatest}
+use Rattle.model.specs.Record.{recordSize, scratchSize, jobOf, Legal}
+use Rattle.model.specs.Calls.{Answer, refused, added, allWired, short, lacks, after, cleared, wiresIn, OneMore, Stepped, adds, stays, lacking, Steps}
+use Rattle.model.specs.Calls.{Lacks as LacksCall}
+use Rattle.model.proofs.Empty.{greatest-le-chosen}
+use Rattle.search.specs.Outcome.{StepDid, more, full, Lacks}
+use Rattle.search.specs.declared.step.Progress.{Progress}
+use Rattle.search.specs.declared.step.Progress.the-variants.{Added, Full}
+
+-- ---- Step
+
+pub step-small : (scratch rec : List ℕ) → length scratch < scratchSize → Steps scratch rec (after (refused 8) rec scratch [])
+step-small scratch rec l = record { small = λ k. refl; enough = λ k. absurd (omega arith) }
+
+pub step-enough : {scratch rec rec′ scratch′ : List ℕ} {x : Answer} → scratchSize ≤ length scratch → scratch′ ≡ cleared scratch → Stepped rec x rec′
+    → Steps scratch rec (after x rec′ scratch′ [])
+step-enough l e s = record { small = λ k. absurd (omega arith); enough = λ k. (s, e, refl) }
+
+pub step-added : {rec rec′ : List ℕ} {y : Progress} → StepDid rec rec′ y → y ≡ Added → Stepped rec added rec′
+step-added {rec} {rec′} d e = by (subst (StepDid rec rec′) e d)
+  where
+    by : StepDid rec rec′ Added → Stepped rec added rec′
+    by (more o) = adds o
+
+pub step-full : {rec rec′ : List ℕ} {y : Progress} → StepDid rec rec′ y → y ≡ Full → (rec′ ≡ rec) × Greatest (jobOf rec) (wiresIn rec)
+step-full {rec} {rec′} d e = by (subst (StepDid rec rec′) e d)
+  where
+    by : StepDid rec rec′ Full → (rec′ ≡ rec) × Greatest (jobOf rec) (wiresIn rec)
+    by (full q G) = (q, G)
+
+-- k pins lack a wire in the record as it is left
+module _ {rec rec′ : List ℕ} (q : rec′ ≡ rec) (G : Greatest (jobOf rec) (wiresIn rec)) {k : ℕ} (e : k ≡ chosenCount (jobOf rec′) - wiresIn rec′) where
+  lacks-here : k ≡ chosenCount (jobOf rec) - wiresIn rec
+  lacks-here = e ∙ ap (λ x. chosenCount (jobOf x) - wiresIn x) q
+
+  pub step-all : k ≡ 0 → Stepped rec allWired rec′
+  step-all z = stays (omega (arith, lacks-here, greatest-le-chosen (jobOf rec) (wiresIn rec) G)) q
+
+  pub step-short : k ≢ 0 → Stepped rec short rec′
+  step-short n = lacking G (omega (arith, lacks-here)) q
+
+-- ---- Shortfall
+
+module _ (scratch output rec : List ℕ) where
+  pub lacks-small : length scratch < scratchSize → LacksCall scratch output rec (after (refused 8) rec scratch output)
+  lacks-small l = record { small = λ k. refl; narrow = λ k. absurd (omega arith); enough = λ k. absurd (omega arith) }
+
+  pub lacks-narrow : scratchSize ≤ length scratch → length output < recordSize → LacksCall scratch output rec (after (refused 7) rec scratch output)
+  lacks-narrow l m = record { small = λ k. absurd (omega arith); narrow = λ k j. refl; enough = λ k j. absurd (omega arith) }
+
+  pub lacks-enough : scratchSize ≤ length scratch → recordSize ≤ length output → (scratch′ output′ : List ℕ) (k : ℕ) → scratch′ ≡ cleared scratch
+      → Lacks rec output output′ k → LacksCall scratch output rec (after (lacks k) rec scratch′ output′)
+  lacks-enough l m scratch′ output′ k e (rec′, R) =
+      record {
+        small = λ j. absurd (omega arith);
+        narrow = λ i j. absurd (omega arith);
+        enough = λ i j. (wiresIn rec′, R .greatest, ap lacks (R .lacks), R .shown, refl, e);
+      }
