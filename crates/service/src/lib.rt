@@ -7,8 +7,8 @@ mod scratch; // the lent scratch
 pub mod wires; // Step, Shortfall, Part
 pub mod texts; // Read text, Write text
 
-pub use answer::Answer;
 pub use anew::new;
+pub use answer::Answer;
 pub use edits::close;
 pub use edits::mark;
 pub use texts::read_text;
