@@ -1,9 +1,9 @@
 -- The part of a wire of a legal record is a small number: it lies in the array, on a lane below a load. Assumes nothing.
 use mathlib.Core.Path.{_≡_, refl}
-use mathlib.Core.Bool.{Bool, true, false, _&&_}
+use mathlib.Core.Bool.{Bool, true, false}
 use mathlib.Core.List.{List}
 use mathlib.Core.Option.{Option, none, some}
-use Prim.Native.Nat.{ℕ, _+_, _*_, _^_, _/_, _-_, _≤_, _<_}
+use Prim.Native.Nat.{ℕ, _*_, _^_, _/_, _-_, _≤_, _<_}
 use native.Mathlib.Omega.{arith}
 use lib.Dec.{T, eqb}
 use Rattle.sums.specs.Tests.{and-left, and-right}

@@ -1,6 +1,6 @@
 -- Every answer of an operation fits a word of 64 bits. Whether a record is legal need not be known: a test that can fail in neither case passes.
 -- Assumes nothing.
-use mathlib.Core.Path.{_≡_, refl, sym, ap, subst}
+use mathlib.Core.Path.{_≡_, sym, subst}
 use mathlib.Core.Bool.{Bool, true, false, not}
 use mathlib.Core.List.{List, []}
 use Prim.Native.Nat.{ℕ, _-_, _^_, _≤_, _<_}

@@ -1,7 +1,7 @@
 // The eight operations. Each passes its buffers on and returns the word of an answer with which the operation did what it promises.
 ghost use mathlib.Core.Path.{_≡_};
 ghost use mathlib.Core.List.{[]};
-ghost use Rattle.model.specs.Calls.{new as New, mark as Mark, close as Close, part as Part, readText};
+ghost use Rattle.model.specs.Calls.{new as New, mark as Mark, close as Close, step as Step, shortfall as Shortfall, part as Part, readText, writeText};
 ghost use Rattle.model.specs.Calls.{Answer, after, Did};
 ghost use Rattle.talusdish.specs.Words.{word};
 use crate::word::word_of;
@@ -47,6 +47,25 @@ pub extern "C" fn talusdish_close(rec: &mut [u8], row: u64, column: u64, state: 
     word_of(service::close(rec, row as usize, column as usize, state as usize))
 }
 
+// One wire more, or the greatest number.
+#[no_mangle]
+pub extern "C" fn talusdish_step(rec: &mut [u8], scratch: &mut [u8]) -> u64
+    ensures { λ n. ⌜ ((a : Answer) × (n ≡ word a)
+        × Did (Step (now (scratch .entry))) (now (rec .entry)) (after a (now (rec .exit)) (now (scratch .exit)) [])) ⌝ }
+{
+    word_of(service::step(rec, scratch))
+}
+
+// The chosen pins less the greatest number, and the near side.
+#[no_mangle]
+pub extern "C" fn talusdish_shortfall(rec: &[u8], scratch: &mut [u8], output: &mut [u8]) -> u64
+    ensures { λ n. ⌜ ((a : Answer) × (n ≡ word a)
+        × Did (Shortfall (now (scratch .entry)) (now (output .entry))) (now (rec .entry))
+        (after a (now (rec .entry)) (now (scratch .exit)) (now (output .exit)))) ⌝ }
+{
+    word_of(service::shortfall(rec, scratch, output))
+}
+
 // The part of a pin's wire at an index.
 #[no_mangle]
 pub extern "C" fn talusdish_part(rec: &[u8], row: u64, column: u64, index: u64) -> u64
@@ -63,4 +82,13 @@ pub extern "C" fn talusdish_read_text(rec: &mut [u8], text: &[u8]) -> u64
         × Did (readText (now (text .entry))) (now (rec .entry)) (after a (now (rec .exit)) [] [])) ⌝ }
 {
     word_of(service::read_text(rec, text))
+}
+
+// The text of the job.
+#[no_mangle]
+pub extern "C" fn talusdish_write_text(rec: &[u8], output: &mut [u8]) -> u64
+    ensures { λ n. ⌜ ((a : Answer) × (n ≡ word a)
+        × Did (writeText (now (output .entry))) (now (rec .entry)) (after a (now (rec .entry)) [] (now (output .exit)))) ⌝ }
+{
+    word_of(service::write_text(rec, output))
 }
