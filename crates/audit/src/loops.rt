@@ -39,7 +39,7 @@ fn live(rec: &[u8], fin: &[u16], u: usize, k: usize) -> bool
     ensures { λ b. ⌜ Live (now (rec .entry)) (now (fin .entry)) u k b ⌝ }
 {
     let d = 8 * u + k;
-    if channel::loads::carried(rec, d) == 0 {
+    if !channel::is_loaded(rec, d) {
         return false;
     }
     let v = channel::head_of(d);

@@ -34,6 +34,7 @@ pub use header::tile_at;
 pub use limits::is_free;
 pub use limits::limit;
 pub use loads::carried;
+pub use loads::is_loaded;
 pub use loads::load_against;
 pub use loads::load_along;
 pub use loads::origin;

@@ -1,7 +1,7 @@
 // The loads of a record: how many wires go along a dart, against it, and through a place. A dart's link has one byte.
 ghost use mathlib.Core.Path.{_≡_};
 ghost use Prim.Native.Nat.{_+_, _/_, _%_, _≤_, _<_};
-ghost use lib.Dec.{T};
+ghost use lib.Dec.{T, ltb};
 ghost use lib.ListN.{length, getD};
 ghost use Rattle.sums.specs.Counting.{when};
 ghost use Rattle.model.specs.Links.{pin, missing, centre, at};
@@ -14,6 +14,7 @@ use crate::header::wide;
 use crate::table::code_of;
 use crate::table::kind_of;
 use crate::table::owner_of;
+use crate::table::place_of;
 use crate::table::seat_of;
 use crate::table::sign_of;
 
@@ -170,6 +171,26 @@ pub fn carried(rec: &[u8], d: usize) -> usize
         return passing(rec, d);
     }
     0
+}
+
+// Whether wires go along a dart. The links of a cell that has all its neighbours are on the grid.
+pub fn is_loaded(rec: &[u8], d: usize) -> bool
+    requires { ⌜ (32768 ≤ length (now rec)) × (d < 105024) ⌝ }
+    ensures { λ b. ⌜ b ≡ ltb 0 (view (now (rec .entry)) d) ⌝ }
+{
+    let w = place_of(d % 64);
+    if w == 0 {
+        return false;
+    }
+    let x = d / 64;
+    if (w == 1) | ((x < 41) | (1600 <= x)) {
+        return carried(rec, d) != 0;
+    }
+    let b = wide(rec[w / 2 + x]);
+    if w % 2 == 0 {
+        return (0 < b) & (b < 32);
+    }
+    32 < b
 }
 
 // The spot that the wires of the i-th load byte leave; 13,128 where it is 0.

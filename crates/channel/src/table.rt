@@ -6,7 +6,7 @@ ghost use lib.ListN.{getD};
 ghost use Rattle.channel.specs.Table.{turnOf, kindOf, ownerOf, signOf, codeOf};
 ghost use Rattle.channel.specs.Map.{rev};
 ghost use Rattle.channel.specs.Map.Darts.{seatOf};
-ghost use Rattle.channel.specs.Map.Packed.{rowWords, turnWords, seatWords};
+ghost use Rattle.channel.specs.Map.Packed.{rowWords, turnWords, seatWords, placeWords, placeOf};
 
 // The neighbours of a spot by its kind, in document 01's clockwise order, a byte for each slot: what the dart is, and 16 times the kind of its link.
 const NEIGHBOURS: [usize; 8] = [
@@ -26,6 +26,27 @@ const SEATS: [usize; 4] = [
     0x0000_0b0a_0908_3b3a,
     0x1a12_132b_231b_2820,
     0x0000_241c_142c_2a22,
+];
+
+// Twice the place of the link's byte, counted from the dart's cell, and 1 more against the link's positive way; 1 from an entry to its exit, and 0 where
+// no wire goes: 16 bits for each of four rows.
+const PLACES: [usize; 16] = [
+    0x0000_0000_0000_0000,
+    0x0000_0000_0000_0001,
+    0xc12e_b4ae_a82e_9bae,
+    0x0000_0000_0000_0000,
+    0x5d2f_69af_37ae_1eae,
+    0x0000_0000_0000_a82f,
+    0x37af_762f_442e_2b30,
+    0x0000_0000_0000_b4b1,
+    0x442f_82af_50ae_1eff,
+    0x0000_0000_0000_c181,
+    0x50af_8f2f_5d2e_2b2f,
+    0x0000_0000_0000_9bff,
+    0x0000_0000_0000_0000,
+    0x0000_0000_0000_0001,
+    0x8f2e_82ae_762e_69ae,
+    0x0000_0000_0000_0000,
 ];
 
 // How far ahead the way back lies, 16 bits for each of four rows.
@@ -88,6 +109,39 @@ fn turn_word(k: usize) -> usize
         14 => TURNS[14],
         _ => TURNS[15],
     }
+}
+
+// Where the bytes of the rows 4 k to 4 k + 3 stand.
+fn place_word(k: usize) -> usize
+    requires { ⌜ k < 16 ⌝ }
+    ensures { λ r. ⌜ r ≡ getD placeWords k 0 ⌝ }
+{
+    match k {
+        0 => PLACES[0],
+        1 => PLACES[1],
+        2 => PLACES[2],
+        3 => PLACES[3],
+        4 => PLACES[4],
+        5 => PLACES[5],
+        6 => PLACES[6],
+        7 => PLACES[7],
+        8 => PLACES[8],
+        9 => PLACES[9],
+        10 => PLACES[10],
+        11 => PLACES[11],
+        12 => PLACES[12],
+        13 => PLACES[13],
+        14 => PLACES[14],
+        _ => PLACES[15],
+    }
+}
+
+// Where the byte of a dart's link stands, and the dart's way.
+pub fn place_of(i: usize) -> usize
+    requires { ⌜ i < 64 ⌝ }
+    ensures { λ r. ⌜ r ≡ placeOf i ⌝ }
+{
+    (place_word(i / 4) >> (i % 4 * 16)) % 65536
 }
 
 // The rows of eight kinds of links one way.

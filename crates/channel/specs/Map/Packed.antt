@@ -8,7 +8,9 @@ use Prim.Native.Nat.{ℕ, suc, zero-le, _+_, _*_, _/_, _%_, _^_, _≤_, _<_}
 use native.Mathlib.Omega.{arith}
 use lib.Dec.{eqb, eqb→eq, ltb, ltb→lt}
 use lib.ListN.{getD}
+use Rattle.sums.specs.Counting.{when}
 use Rattle.channel.specs.Table.{turns, links, owners, signs, codes, turnOf, kindOf, ownerOf, signOf, codeOf}
+use Rattle.channel.specs.Map.{carries, isPassage}
 use Rattle.channel.specs.Map.Bounds.{all, all-at}
 use Rattle.channel.specs.Map.Darts.{seatOf}
 
@@ -28,6 +30,19 @@ turnWords =
 -- the rows of the darts along links: two words for the positive way and two for the other, a byte for each kind
 unfoldable pub seatWords : List ℕ
 seatWords = 0x3938_2921_1911_1810 ∷ 0x0000_0b0a_0908_3b3a ∷ 0x1a12_132b_231b_2820 ∷ 0x0000_241c_142c_2a22 ∷ []
+
+-- where the byte of a dart's link stands, counted from the dart's cell: twice that and the sign; 1 from an entry to its exit, and 0 for the others
+unfoldable pub placeOf : ℕ → ℕ
+placeOf i = when (carries (codeOf i)) (2 * (3927 + 1600 * kindOf i + ownerOf i) + signOf i) + when (isPassage (codeOf i)) 1
+
+-- four rows to a word, 16 bits for each
+unfoldable pub placeWords : List ℕ
+placeWords =
+    0x0000_0000_0000_0000 ∷ 0x0000_0000_0000_0001 ∷ 0xc12e_b4ae_a82e_9bae ∷ 0x0000_0000_0000_0000 ∷ 0x5d2f_69af_37ae_1eae ∷ 0x0000_0000_0000_a82f ∷ 0x37af_762f_442e_2b30 ∷ 0x0000_0000_0000_b4b1 ∷ 0x442f_82af_50ae_1eff ∷ 0x0000_0000_0000_c181 ∷ 0x50af_8f2f_5d2e_2b2f ∷ 0x0000_0000_0000_9bff ∷ 0x0000_0000_0000_0000 ∷ 0x0000_0000_0000_0001 ∷ 0x8f2e_82ae_762e_69ae ∷ 0x0000_0000_0000_0000 ∷ []
+
+pub packed-place : (i : ℕ) → i < 64 → getD placeWords (i / 4) 0 / 2 ^ (i % 4 * 16) % 65536 ≡ placeOf i
+unfolding all placeWords placeOf carries isPassage codes codeOf links kindOf owners ownerOf signs signOf
+packed-place i l = eqb→eq _ _ (all-at 64 (λ i. eqb (getD placeWords (i / 4) 0 / 2 ^ (i % 4 * 16) % 65536) (placeOf i)) tt i l)
 
 module _ (k : ℕ) (l : k < 14) where
   seat-row : (f : Bool) → getD seatWords (elim f [ true ↦ k / 8 | false ↦ 2 + k / 8 ]) 0 / 2 ^ (k % 8 * 8) % 256 ≡ seatOf k f

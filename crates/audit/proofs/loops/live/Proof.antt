@@ -1,7 +1,11 @@
 -- `loops::live` meets its contract: a slot without a load has no edge, and an edge leads where the dart does. Assumes nothing.
 use borrow.Author.Needs.{needs}
-use mathlib.Core.Path.{sym}
+use borrow.Author.Tests.{ltb-true, ltb-false, not-true, not-false}
+use mathlib.Core.Path.{sym, _∙_}
+use Prim.Native.Nat.{_+_, _*_}
 use native.Mathlib.Omega.{arith}
+use denote.Ref.{now}
+use Rattle.channel.specs.Map.{view}
 use Rattle.audit.specs.Loops.Dfs.{live, dead}
 use Rattle.audit.proofs.loops.live.Statement.{statement}
 use Rattle.audit.proofs.loops.live.Tie as tie
@@ -12,11 +16,17 @@ mul-d c = search needs
 add-d : tie.Need-add-d
 add-d c = search needs
 
-carried-requires : tie.Need-carried-requires
-carried-requires c κs = search needs
+is-loaded-requires : tie.Need-is-loaded-requires
+is-loaded-requires c κs = search needs
 
 returns : tie.Need-returns
-returns c = dead (λ v e. absurd (omega (arith, c .if1 .taken, c .before .carried .ensures .0, e .laden)))
+returns c =
+    let a = c .before .before .before .before .args in
+    dead (λ v e. absurd (omega (
+      arith,
+      e .laden,
+      ltb-false 0 (view (now (a .rec)) (8 * a .u + a .k)) (sym (c .before .is-loaded .ensures) ∙ not-true _ (c .if1 .taken)),
+    )))
 
 head-of-requires : tie.Need-head-of-requires
 head-of-requires c κs = search needs
@@ -32,12 +42,13 @@ returns-2 c = dead (λ v e. rw (← e .leads, ← c .before .before .head-of .en
 
 returns-3 : tie.Need-returns-3
 returns-3 c =
+    let a = c .before .before .before .before .before .before .before .args in
     let p = c .before .before .before .before .before .before .before .pre in
     live
     (record {
       spot = p .2;
       slot = p .3;
-      laden = omega (arith, c .before .before .before .if1 .left, c .before .before .before .before .carried .ensures .0);
+      laden = ltb-true 0 (view (now (a .rec)) (8 * a .u + a .k)) (sym (c .before .before .before .before .is-loaded .ensures) ∙ not-false _ (c .before .before .before .if1 .left));
       leads = sym (c .before .before .head-of .ensures .0);
     })
     (c .if2 .left)
@@ -48,7 +59,7 @@ live-spec =
     (tie.spec
     mul-d
     add-d
-    carried-requires
+    is-loaded-requires
     returns
     head-of-requires
     mul-if2

@@ -1,0 +1,119 @@
+-- Whether wires go along a dart, by one byte: that of its link, at a place that the row of the table and the dart's cell name. Assumes nothing.
+use mathlib.Core.Path.{_≡_, refl, sym, ap, subst, _∙_}
+use mathlib.Core.Logic.{_≢_}
+use mathlib.Core.Bool.{Bool, true, false, not, _&&_, _||_}
+use mathlib.Core.List.{List}
+use Prim.Native.Nat.{ℕ, zero, suc, _+_, _*_, _/_, _%_, _≤_, _<_}
+use native.Mathlib.Omega.{arith}
+use borrow.Author.Tests.{eqb-false, ltb-false, leb-false, lt-ltb}
+use lib.Dec.{T, eqb, eqb·suc-zero, leb, ltb, ltb→lt, lt→ltb}
+use lib.ListN.{getD}
+use Rattle.sums.specs.Counting.{when}
+use Rattle.sums.specs.Tests.{and-left, and-right, and-both, both-ways}
+use Rattle.model.specs.Record.{forthPart, backPart}
+use Rattle.channel.specs.Table.{kindOf, ownerOf, signOf, codeOf}
+use Rattle.channel.specs.Map.{inGrid, carries, isPassage, isPassDart, view}
+use Rattle.channel.specs.Map.Bounds.{kind-bound, owner-bound, sign-bound, code-bound}
+use Rattle.channel.specs.Map.Bytes.{kept-in, along-forth, along-back, carries-no-pass, view-link, view-none}
+use Rattle.channel.specs.Map.Packed.{placeOf}
+
+-- ---- tests of a load
+
+pub load-test : (n : ℕ) → not (eqb n 0) ≡ ltb 0 n
+load-test zero = refl
+load-test (suc n) = rw (eqb·suc-zero n) (sym (lt-ltb 0 (suc n) (omega arith)))
+
+forth-test : (b : ℕ) → (ltb 0 b && ltb b 32) ≡ ltb 0 (forthPart b)
+forth-test b =
+    both-ways (ltb 0 b && ltb b 32) (ltb 0 (forthPart b))
+    (λ t. lt→ltb 0 (forthPart b) (omega (arith, ltb→lt 0 b (and-left (ltb 0 b) (ltb b 32) t), ltb→lt b 32 (and-right (ltb 0 b) (ltb b 32) t))))
+    (λ t.
+    let l : 0 < forthPart b = ltb→lt 0 (forthPart b) t in
+    and-both (ltb 0 b) (ltb b 32) (lt→ltb 0 b (omega arith)) (lt→ltb b 32 (omega arith)))
+
+back-test : (b : ℕ) → ltb 32 b ≡ ltb 0 (backPart b)
+back-test b =
+    both-ways (ltb 32 b) (ltb 0 (backPart b)) (λ t. lt→ltb 0 (backPart b) (omega (arith, ltb→lt 32 b t)))
+    (λ t. let l : 0 < backPart b = ltb→lt 0 (backPart b) t in lt→ltb 32 b (omega arith))
+
+-- a cell that has all its neighbours, and a word that names a byte
+pub inside : (w x : ℕ) → (eqb w 1 || (ltb x 41 || leb 1600 x)) ≡ false → (w ≢ 1) × (41 ≤ x) × (x < 1600)
+inside w x e = by (eqb w 1) refl (ltb x 41) refl (leb 1600 x) refl e
+  where
+    by : (a : Bool) → eqb w 1 ≡ a → (b : Bool) → ltb x 41 ≡ b → (c : Bool) → leb 1600 x ≡ c → (a || (b || c)) ≡ false
+        → (w ≢ 1) × (41 ≤ x) × (x < 1600)
+    by true p b q c r z = absurd (subst T z tt)
+    by false p true q c r z = absurd (subst T z tt)
+    by false p false q true r z = absurd (subst T z tt)
+    by false p false q false r z = (eqb-false w 1 p, ltb-false x 41 q, leb-false 1600 x r)
+
+-- ---- by the row
+
+-- what a row is, by its word
+data Row (i : ℕ) : ℕ → Type 0 where
+  along : carries (codeOf i) ≡ true → Row i (2 * (3927 + 1600 * kindOf i + ownerOf i) + signOf i)
+  passage : Row i 1
+  nothing : carries (codeOf i) ≡ false → isPassage (codeOf i) ≡ false → Row i 0
+
+row? : (i : ℕ) → i < 64 → Row i (placeOf i)
+unfolding placeOf
+row? i l = by (carries (codeOf i)) refl (isPassage (codeOf i)) refl
+  where
+    by : (a : Bool) → carries (codeOf i) ≡ a → (b : Bool) → isPassage (codeOf i) ≡ b
+        → Row i (when a (2 * (3927 + 1600 * kindOf i + ownerOf i) + signOf i) + when b 1)
+    by true e b f =
+        let z : b ≡ false = sym f ∙ carries-no-pass (codeOf i) (code-bound i l) (subst T (sym e) tt) in
+        let q : 2 * (3927 + 1600 * kindOf i + ownerOf i) + signOf i ≡ 2 * (3927 + 1600 * kindOf i + ownerOf i) + signOf i + when b 1 =
+        rw z (omega arith) in
+        subst (Row i) q (along e)
+    by false e true f = passage
+    by false e false f = nothing e f
+
+module _ (rec : List ℕ) (d w : ℕ) (e : w ≡ placeOf (d % 64)) where
+  row : Row (d % 64) w
+  row = subst (Row (d % 64)) (sym e) (row? (d % 64) (omega arith))
+
+  no-pass : isPassage (codeOf (d % 64)) ≡ false → isPassDart d ≡ false
+  unfolding isPassDart
+  no-pass f = ap (λ (b : Bool). b && inGrid (d / 64)) f
+
+  pub unladen : w ≡ 0 → false ≡ ltb 0 (view rec d)
+  unladen z = by w row z
+    where
+      by : (v : ℕ) → Row (d % 64) v → v ≡ 0 → false ≡ ltb 0 (view rec d)
+      by _ (along c) z = absurd (omega arith)
+      by _ passage z = absurd (omega arith)
+      by _ (nothing c f) z = ap (ltb 0) (view-none rec d c (no-pass f))
+
+  module _ (n : w ≢ 0) (p : w ≢ 1) (l : 41 ≤ d / 64) (m : d / 64 < 1600) where
+    -- the byte is that of the dart's link
+    record Stands : Type 0 where
+      carried : carries (codeOf (d % 64)) ≡ true
+      word : w ≡ 2 * (3927 + 1600 * kindOf (d % 64) + ownerOf (d % 64)) + signOf (d % 64)
+
+    stands : Stands
+    stands = by w row refl
+      where
+        by : (v : ℕ) → Row (d % 64) v → w ≡ v → Stands
+        by _ (along c) q = record { carried = c; word = q }
+        by _ passage q = absurd (p q)
+        by _ (nothing c f) q = absurd (n q)
+
+    pub place< : w / 2 + d / 64 < 32768
+    place< =
+        omega (arith, stands .word, kind-bound (d % 64) (omega arith), owner-bound (d % 64) (omega arith), sign-bound (d % 64) (omega arith))
+
+    at-link : getD rec (w / 2 + d / 64) 0 ≡ getD rec (3927 + 1600 * kindOf (d % 64) + (d / 64 + ownerOf (d % 64))) 0
+    at-link = ap (λ (x : ℕ). getD rec x 0) (omega (arith, stands .word, sign-bound (d % 64) (omega arith)))
+
+    pub laden-forth : w % 2 ≡ 0 → (b : ℕ) → b ≡ getD rec (w / 2 + d / 64) 0 → (ltb 0 b && ltb b 32) ≡ ltb 0 (view rec d)
+    laden-forth z b q =
+        let k = kept-in rec d (ownerOf (d % 64)) refl (kindOf (d % 64)) refl (omega arith) (omega (arith, owner-bound (d % 64) (omega arith))) in
+        let s : signOf (d % 64) ≡ 0 = omega (arith, stands .word, sign-bound (d % 64) (omega arith)) in
+        forth-test b ∙ ap (ltb 0) (along-forth rec d b (signOf (d % 64)) (q ∙ (at-link ∙ k)) refl s ∙ view-link rec d (stands .carried))
+
+    pub laden-back : w % 2 ≢ 0 → (b : ℕ) → b ≡ getD rec (w / 2 + d / 64) 0 → ltb 32 b ≡ ltb 0 (view rec d)
+    laden-back z b q =
+        let k = kept-in rec d (ownerOf (d % 64)) refl (kindOf (d % 64)) refl (omega arith) (omega (arith, owner-bound (d % 64) (omega arith))) in
+        let s : signOf (d % 64) ≢ 0 = λ y. z (omega (arith, stands .word)) in
+        back-test b ∙ ap (ltb 0) (along-back rec d b (signOf (d % 64)) (q ∙ (at-link ∙ k)) refl s ∙ view-link rec d (stands .carried))
