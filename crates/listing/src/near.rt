@@ -2,10 +2,8 @@
 use crate::page::Page;
 use crate::page::number_line;
 use crate::page::pair_line;
-ghost use mathlib.Core.Path.{_≡_};
-ghost use Prim.Native.Nat.{_+_, _*_, _≤_, _<_};
+ghost use Prim.Native.Nat.{_+_, _≤_, _<_};
 ghost use lib.ListN.{length};
-ghost use lib.Seq.{sets};
 ghost use Rattle.model.specs.Record.{jobOf};
 ghost use Rattle.listing.specs.Near.{nearLine, chosenLine, missingLines, sideLines, centreLines, tileLines, groupLines, shortListing, refusedListing};
 ghost use Rattle.listing.specs.Lines.{spread};

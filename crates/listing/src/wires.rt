@@ -20,7 +20,7 @@ ghost use Rattle.model.specs.Record.{jobOf, load, Legal};
 ghost use Rattle.model.specs.Wires.{wireCount};
 ghost use Rattle.channel.specs.Map.Entered.{kindAt};
 ghost use Rattle.wire.specs.Hops.{asPart};
-ghost use Rattle.listing.specs.Lines.{row, column, spread};
+ghost use Rattle.listing.specs.Lines.{spread};
 ghost use Rattle.listing.specs.Wires.{letters, placeLane, partBytes, wireLine, cellWire, wiresLine};
 ghost use Rattle.listing.specs.Puts.{Puts};
 
