@@ -1,0 +1,139 @@
+// The router's listings, made as `escape` makes them, and the listing that Part gives piece by piece.
+use crate::bytes::first;
+use crate::said::is_part;
+use crate::said::put_listed;
+use audit::sound;
+use listing::Page;
+use listing::count_page;
+use listing::refused_page;
+use listing::short_page;
+use listing::wires_page;
+use oracle::job::CHOSEN;
+use oracle::job::Job;
+use oracle::job::mark;
+use oracle::page::Page as Sheet;
+use oracle::page::byte;
+use oracle::page::decimal;
+use oracle::page::pair;
+use oracle::page::word;
+use search::route_all;
+use text::Judged;
+use text::read_into;
+ghost use Rattle.model.specs.Record.{Legal};
+
+pub type Near = [u8; 32768];
+
+// What `routed` and `listed` answer of a damaged record.
+pub const DAMAGED: usize = 100000;
+
+// The first `n` bytes of the page.
+pub fn shown(page: &Page, n: usize) -> &[u8] {
+    let all: &[u8] = page;
+    first(all, n)
+}
+
+// Puts the bytes at `at`, as far as the page goes; gives the place after them.
+fn append(out: &mut Page, at: usize, s: &[u8]) -> usize {
+    let mut n = at;
+    for k in 0..s.len() {
+        if n < 1048576 {
+            out[n] = s[k];
+            n += 1;
+        }
+    }
+    n
+}
+
+// The wires of a legal record.
+fn list_wires(rec: &[u8], page: &mut Page) -> usize
+    requires { ⌜ Legal (now rec) ⌝ }
+{
+    let mut work = [0u8; 1048576];
+    let a = count_page(rec, &mut work);
+    let n = append(page, 0, shown(&work, a));
+    let filled = wires_page(rec, 0, &mut work);
+    append(page, n, shown(&work, filled.length))
+}
+
+// The wires of a record, as many as one page takes; gives the length.
+pub fn listed(rec: &[u8], page: &mut Page) -> usize {
+    if !sound(rec) {
+        return DAMAGED;
+    }
+    list_wires(rec, page)
+}
+
+// All wires laid that fit; gives how many chosen pins stay unwired, with the near side where some do.
+pub fn routed(rec: &mut [u8], near: &mut Near) -> usize {
+    if !sound(rec) {
+        return DAMAGED;
+    }
+    route_all(rec, near)
+}
+
+// The near side of a job that lacks `short` wires.
+fn list_near(rec: &Near, near: &Near, short: usize, page: &mut Page) -> usize {
+    short_page(rec, near, short, page)
+}
+
+// The listing of a text; gives its length.
+pub fn list_text(text: &[u8], page: &mut Page) -> usize {
+    let mut rec = [0u8; 32768];
+    let mut near = [0u8; 32768];
+    match read_into(text, &mut rec) {
+        Judged::WrongAt(o) => refused_page(o, page),
+        Judged::Reads => {
+            let short = routed(&mut rec, &mut near);
+            if short == 0 {
+                listed(&rec, page)
+            } else {
+                list_near(&rec, &near, short, page)
+            }
+        }
+    }
+}
+
+// The parts of the wire of the pin (r, c), by Part, from index 0 to the last.
+fn put_parts(rec: &[u8], out: &mut Sheet, at: usize, r: usize, c: usize) -> usize {
+    let mut n = at;
+    let mut i = 0;
+    while i < 20000 {
+        let answer = service::part(rec, r, c, i);
+        if !is_part(answer) {
+            return n;
+        }
+        n = put_listed(out, n, answer);
+        i += 1;
+    }
+    n
+}
+
+// The line of the wire of the pin p, 40 r + c, by Part; nothing where it has none.
+pub fn put_wire(rec: &[u8], out: &mut Sheet, at: usize, p: usize) -> usize {
+    if !is_part(service::part(rec, p / 40, p % 40, 0)) {
+        return at;
+    }
+    let a = word(out, at, b"(wire (pin ");
+    let b = pair(out, a, p / 40, p % 40);
+    let c = byte(out, b, b')');
+    let d = put_parts(rec, out, c, p / 40, p % 40);
+    word(out, d, b")\n")
+}
+
+fn put_wires(rec: &[u8], job: &Job, out: &mut Sheet, at: usize) -> usize {
+    let mut n = at;
+    for p in 0..1600 {
+        if mark(job, p) == CHOSEN {
+            n = put_wire(rec, out, n, p);
+        }
+    }
+    n
+}
+
+// The listing of a record with this many wires, by Part alone; gives its length.
+pub fn list_by_parts(rec: &[u8], job: &Job, wires: usize, out: &mut Sheet) -> usize {
+    let a = word(out, 0, b"(wires ");
+    let b = decimal(out, a, wires);
+    let c = word(out, b, b")\n");
+    put_wires(rec, job, out, c)
+}
