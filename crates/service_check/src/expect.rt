@@ -1,0 +1,153 @@
+// What document 01 has the operations answer, of a job that the oracle keeps and buffers of these lengths. The record itself is legal.
+use crate::said::ADDED;
+use crate::said::ALL_WIRED;
+use crate::said::DONE;
+use crate::said::LACKS;
+use crate::said::LISTS;
+use crate::said::REFUSED;
+use crate::said::SHORT;
+use crate::said::Said;
+use crate::said::WRONG_TEXT;
+use crate::said::WROTE;
+use crate::said::say;
+use oracle::job::CHOSEN;
+use oracle::job::Job;
+use oracle::job::count_marked;
+use oracle::job::is_pin;
+use oracle::job::is_tile;
+use oracle::job::mark;
+use oracle::job::state;
+use oracle::text::ACCEPTED;
+use oracle::text::Reading;
+
+fn in_range(x: usize, least: usize, most: usize) -> bool {
+    x >= least && x <= most
+}
+
+fn caps_fit(o: usize, d: usize, e: usize) -> bool {
+    if o >= 1 {
+        if o <= 8 {
+            return in_range(d, o, 2 * o) && e <= 16;
+        }
+    }
+    false
+}
+
+pub fn expect_new(n: usize, rows: usize, columns: usize, o: usize, d: usize, e: usize) -> Said {
+    if n < 32768 {
+        return say(REFUSED, 1);
+    }
+    if !in_range(rows, 2, 40) || !in_range(columns, 2, 40) {
+        return say(REFUSED, 2);
+    }
+    if !caps_fit(o, d, e) {
+        return say(REFUSED, 3);
+    }
+    say(DONE, 0)
+}
+
+// Of a text on which the oracle's reading ends so.
+pub fn expect_read(n: usize, reading: Reading) -> Said {
+    if n < 32768 {
+        return say(REFUSED, 1);
+    }
+    if reading.stage == ACCEPTED {
+        return say(DONE, 0);
+    }
+    say(WRONG_TEXT, reading.at)
+}
+
+pub fn expect_mark(job: &Job, n: usize, row: usize, column: usize, value: usize) -> Said {
+    if n < 32768 {
+        return say(REFUSED, 1);
+    }
+    if !is_pin(job, row, column) {
+        return say(REFUSED, 4);
+    }
+    if value > 2 {
+        return say(REFUSED, 5);
+    }
+    say(DONE, 0)
+}
+
+pub fn expect_close(job: &Job, n: usize, row: usize, column: usize, value: usize) -> Said {
+    if n < 32768 {
+        return say(REFUSED, 1);
+    }
+    if !is_tile(job, row, column) {
+        return say(REFUSED, 4);
+    }
+    if value > 1 {
+        return say(REFUSED, 5);
+    }
+    say(DONE, 0)
+}
+
+// The cell 40 r + c; 1,600, which is none, where one of the two is too large.
+pub fn cell(row: usize, column: usize) -> usize {
+    if row < 40 {
+        if column < 40 {
+            return 40 * row + column;
+        }
+    }
+    1600
+}
+
+pub fn mark_at(job: &Job, row: usize, column: usize) -> usize {
+    mark(job, cell(row, column))
+}
+
+pub fn state_at(job: &Job, row: usize, column: usize) -> usize {
+    state(job, cell(row, column))
+}
+
+// Of a record with this many wires, of a job that lacks this many.
+pub fn expect_step(job: &Job, n: usize, m: usize, wires: usize, missed: usize) -> Said {
+    if n < 32768 {
+        return say(REFUSED, 1);
+    }
+    if m < 65536 {
+        return say(REFUSED, 8);
+    }
+    if std::num::wrapping_add_usize(wires, missed) < count_marked(job, CHOSEN) {
+        return say(ADDED, 0);
+    }
+    if missed == 0 {
+        return say(ALL_WIRED, 0);
+    }
+    say(SHORT, 0)
+}
+
+pub fn expect_shortfall(n: usize, m: usize, l: usize, missed: usize) -> Said {
+    if n < 32768 {
+        return say(REFUSED, 1);
+    }
+    if m < 65536 {
+        return say(REFUSED, 8);
+    }
+    if l < 32768 {
+        return say(REFUSED, 7);
+    }
+    say(LACKS, missed)
+}
+
+pub fn expect_part(job: &Job, n: usize, row: usize, column: usize) -> Said {
+    if n < 32768 {
+        return say(REFUSED, 1);
+    }
+    if !is_pin(job, row, column) || mark_at(job, row, column) != CHOSEN {
+        return say(REFUSED, 4);
+    }
+    say(LISTS, 0)
+}
+
+// Of a text of this length.
+pub fn expect_write(n: usize, m: usize, length: usize) -> Said {
+    if n < 32768 {
+        return say(REFUSED, 1);
+    }
+    if m < length {
+        return say(REFUSED, 7);
+    }
+    say(WROTE, length)
+}
