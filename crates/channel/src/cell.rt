@@ -8,6 +8,7 @@ ghost use Rattle.model.specs.Record.{jobOf};
 ghost use Rattle.channel.specs.Cell.{valuesFit, linksFit, placesEven};
 use crate::cell_links::corners;
 use crate::cell_links::held;
+use crate::cell_links::idle;
 use crate::cell_links::legs;
 use crate::cell_links::sides;
 use crate::cell_links::spokes;
@@ -33,6 +34,9 @@ pub fn links_fit(rec: &[u8], r: usize, c: usize) -> bool
     requires { ⌜ (32768 ≤ length (now rec)) × (r < 40) × (c < 40) ⌝ }
     ensures { λ t. ⌜ t ≡ linksFit (now (rec .entry)) r c ⌝ }
 {
+    if idle(rec, r, c) {
+        return true;
+    }
     sides(rec, r, c) & (corners(rec, r, c) & (spokes(rec, r, c) & legs(rec, r, c)))
 }
 
@@ -41,5 +45,8 @@ pub fn places_even(rec: &[u8], r: usize, c: usize) -> bool
     requires { ⌜ (32768 ≤ length (now rec)) × (r < 40) × (c < 40) × T (arrayFits (jobOf (now rec) .rows) (jobOf (now rec) .columns)) ⌝ }
     ensures { λ t. ⌜ t ≡ placesEven (now (rec .entry)) r c ⌝ }
 {
+    if idle(rec, r, c) {
+        return tile(rec, r, c);
+    }
     tile(rec, r, c) & (centre(rec, r, c) & pins(rec, r, c))
 }

@@ -32,6 +32,15 @@ outOne a b x y z =
     eqb (forthPart a + (backPart b + (forthPart x + (forthPart y + (forthPart z + 0)))))
     (backPart a + (forthPart b + (backPart x + (backPart y + (backPart z + 0)))))
 
+-- by none
+pub two-none : outTwo 0 0 0 0 0 ≡ true
+unfolding outTwo
+two-none = refl
+
+pub one-none : outOne 0 0 0 0 0 ≡ true
+unfolding outOne
+one-none = refl
+
 -- what each byte has, l more along than against its link and 256 on top
 tilt-two : (a b x y z f₁ f₂ f₃ f₄ f₅ b₁ b₂ b₃ b₄ b₅ : ℕ) → a + b₁ ≡ 256 + f₁ → b + b₂ ≡ 256 + f₂ → x + b₃ ≡ 256 + f₃ → y + b₄ ≡ 256 + f₄ → z + b₅ ≡ 256 + f₅
     → eqb (a + b + 256) (x + y + z) ≡ eqb (b₁ + (b₂ + (f₃ + (f₄ + (f₅ + 0))))) (f₁ + (f₂ + (b₃ + (b₄ + (b₅ + 0)))))
@@ -143,6 +152,10 @@ module _ (rec : List ℕ) (r c : ℕ) where
     pub tile-none : not o ≡ true → true ≡ tileEven rec r c
     unfolding tileEven
     tile-none = unasked (isOpen J r c) o (allFour (λ d. evenAt rec (at (side d) r c))) e
+
+    pub tile-quiet : not o ≡ false → true ≡ allFour (λ d. evenAt rec (at (side d) r c)) → true ≡ tileEven rec r c
+    unfolding tileEven
+    tile-quiet n q = rw (sym q) (asked (isOpen J r c) o true e n)
 
     pub tile-read : not o ≡ false → (x₁ x₂ x₃ x₄ : Bool) → x₁ ≡ evenAt rec (at (side north) r c) → x₂ ≡ evenAt rec (at (side east) r c)
         → x₃ ≡ evenAt rec (at (side south) r c) → x₄ ≡ evenAt rec (at (side west) r c) → (x₁ && (x₂ && (x₃ && x₄))) ≡ tileEven rec r c
