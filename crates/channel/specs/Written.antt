@@ -1,4 +1,4 @@
--- Laws of what the writers store. A record is told by its bytes: a byte of the header, of a cell of a plane, or of the rest of a longer buffer. A store at
+-- What the writers store, and its laws. A record is told by its bytes: a byte of the header, of a cell of a plane, or of the rest of a longer buffer. A store at
 -- a cell changes the job's table there and nowhere else, and a record of no loads differs from a legal one in the planes of loads only. Assumes nothing.
 use mathlib.Core.Path.{_≡_, refl, sym, ap, _∙_}
 use mathlib.Core.Logic.{_≢_}
@@ -8,7 +8,7 @@ use mathlib.Core.Option.{Option, none, some}
 use Prim.Native.Nat.{ℕ, zero, suc, _+_, _-_, _*_, _/_, _%_, _≤_, _<_}
 use native.Mathlib.Omega.{arith}
 use lib.Dec.{T, eqb, ltb, eqb→eq, eqb-refl, ltb→lt, nltb→le, lit≤}
-use lib.ListN.{length, getD, getElem?, take, drop, set, length-append, length-drop, length-set, length-replicate, getD-replicate, List·getD-append}
+use lib.ListN.{length, getD, getElem?, take, drop, set, replicate, length-append, length-drop, length-set, length-replicate, getD-replicate, List·getD-append}
 use borrow.Author.Tests.{eq-eqb}
 use borrow.Rule.Slice.PartMut.{midOf, putMid, mid-len, post-is}
 use lib.Seq.{ext-getD, drop-at, getD-append-add, getD-drop, getD-take, getD-set-same, getD-set-other, length-take-le}
@@ -22,9 +22,22 @@ use Rattle.model.specs.Record.{unwiredRecord, over}
 use Rattle.model.proofs.RecordOf.{inCells, cells-row, cells-column, cells-have, length-record, head-back, cell-back, plane-high}
 use Rattle.model.proofs.Over.{get-over}
 use Rattle.model.proofs.LegalRecord.{legal-record}
-use Rattle.channel.specs.Write.{zeros, unwired}
+
+-- ---- what the writers store
+
+-- n bytes 0
+pub zeros : ℕ → List ℕ
+zeros n = replicate n 0
+
+-- the record with its planes of loads, from offset (loadPlane northSide) 0 0 to offset reservePlane 0 0, all 0
+pub unwired : List ℕ → List ℕ
+unwired rec = take 3968 rec ++ (zeros 22400 ++ drop 26368 rec)
 
 -- ---- zeros
+
+pub zeros-filled : (n : ℕ) → replicate n 0 ≡ zeros n
+unfolding zeros
+zeros-filled n = refl
 
 pub length-zeros : (n : ℕ) → length (zeros n) ≡ n
 unfolding zeros

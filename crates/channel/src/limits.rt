@@ -5,11 +5,9 @@ ghost use Prim.Native.Nat.{_/_, _%_, _≤_, _<_};
 ghost use lib.Dec.{T, eqb};
 ghost use lib.ListN.{length, getD};
 ghost use Rattle.model.specs.Job.{centreLimit};
-ghost use Rattle.model.specs.Links.{isPlace, northSide, westSide, go, come, aheadOf, may};
+ghost use Rattle.model.specs.Links.{isPlace, northSide, westSide, link, go, come, aheadOf, may};
 ghost use Rattle.model.specs.Record.{kinds, jobOf};
-ghost use Rattle.channel.specs.Table.{kindOf, codeOf};
-ghost use Rattle.channel.specs.Map.{cap, free};
-ghost use Rattle.channel.specs.Map.Ways.{stepAt, mayTake, reaches, ownerMark};
+ghost use Rattle.channel.specs.Map.{cap, free, kindOf, codeOf, mayTake, reaches, ownerMark};
 use crate::header::clear_in;
 use crate::header::diagonal;
 use crate::header::extra;
@@ -70,7 +68,7 @@ pub fn may_west(job: &[u8], r: usize, c: usize) -> bool
 // Whether one may go over the side of kind k in the direction of sign s.
 fn may_side(job: &[u8], k: usize, s: usize, r: usize, c: usize) -> bool
     requires { ⌜ (32768 ≤ length (now job)) × (k < 2) × (s < 2) × (r < 40) × (c < 40) ⌝ }
-    ensures { λ b. ⌜ b ≡ may (jobOf (now (job .entry))) (stepAt k s r c) ⌝ }
+    ensures { λ b. ⌜ b ≡ may (jobOf (now (job .entry))) (record { link = link (getD kinds k northSide) r c; forth = eqb s 0 }) ⌝ }
 {
     if k == 0 {
         if s == 0 {

@@ -1,12 +1,9 @@
-// The constant table of the map, a row for each d % 64: specs/Table.antt's lists, packed into words. A word is read by cases: an array that is read at a
+// The constant table of the map, a row for each d % 64: the lists of specs/Map.antt, packed into words. A word is read by cases: an array that is read at a
 // number known only later is built anew for each read. The way back of a dart stands on it.
 ghost use mathlib.Core.Path.{_≡_};
-ghost use Prim.Native.Nat.{_+_, _*_, _/_, _<_};
-ghost use lib.ListN.{getD};
-ghost use Rattle.channel.specs.Table.{turnOf, kindOf, ownerOf, signOf, codeOf};
-ghost use Rattle.channel.specs.Map.{rev};
-ghost use Rattle.channel.specs.Map.Darts.{seatOf};
-ghost use Rattle.channel.specs.Map.Packed.{rowWords, turnWords, seatWords, placeWords, placeOf};
+ghost use Prim.Native.Nat.{ℕ, _+_, _*_, _/_, _%_, _^_, _<_};
+ghost use lib.Dec.{ltb};
+ghost use Rattle.channel.specs.Map.{rev, turnOf, kindOf, ownerOf, signOf, codeOf, seatOf, placeOf};
 
 // The neighbours of a spot by its kind, in document 01's clockwise order, a byte for each slot: what the dart is, and 16 times the kind of its link.
 const NEIGHBOURS: [usize; 8] = [
@@ -72,7 +69,7 @@ const TURNS: [usize; 16] = [
 // The neighbours of a spot of kind k.
 fn row_word(k: usize) -> usize
     requires { ⌜ k < 8 ⌝ }
-    ensures { λ r. ⌜ r ≡ getD rowWords k 0 ⌝ }
+    ensures { λ r. ⌜ ((j : ℕ) → j < 8 → (r / 2 ^ (j * 8) % 16 ≡ codeOf (8 * k + j)) × (r / 2 ^ (j * 8 + 4) % 16 ≡ kindOf (8 * k + j))) ⌝ }
 {
     match k {
         0 => NEIGHBOURS[0],
@@ -89,7 +86,7 @@ fn row_word(k: usize) -> usize
 // The ways back of the rows 4 k to 4 k + 3.
 fn turn_word(k: usize) -> usize
     requires { ⌜ k < 16 ⌝ }
-    ensures { λ r. ⌜ r ≡ getD turnWords k 0 ⌝ }
+    ensures { λ r. ⌜ ((j : ℕ) → j < 4 → r / 2 ^ (j * 16) % 65536 ≡ turnOf (4 * k + j)) ⌝ }
 {
     match k {
         0 => TURNS[0],
@@ -114,7 +111,7 @@ fn turn_word(k: usize) -> usize
 // Where the bytes of the rows 4 k to 4 k + 3 stand.
 fn place_word(k: usize) -> usize
     requires { ⌜ k < 16 ⌝ }
-    ensures { λ r. ⌜ r ≡ getD placeWords k 0 ⌝ }
+    ensures { λ r. ⌜ ((j : ℕ) → j < 4 → r / 2 ^ (j * 16) % 65536 ≡ placeOf (4 * k + j)) ⌝ }
 {
     match k {
         0 => PLACES[0],
@@ -147,7 +144,7 @@ pub fn place_of(i: usize) -> usize
 // The rows of eight kinds of links one way.
 fn seat_word(k: usize) -> usize
     requires { ⌜ k < 4 ⌝ }
-    ensures { λ r. ⌜ r ≡ getD seatWords k 0 ⌝ }
+    ensures { λ r. ⌜ ((j : ℕ) → j < 8 → r / 2 ^ (j * 8) % 256 ≡ seatOf (8 * (k % 2) + j) (ltb k 2)) ⌝ }
 {
     match k {
         0 => SEATS[0],

@@ -4,7 +4,7 @@ ghost use Prim.Native.Nat.{_≤_, _<_};
 ghost use lib.ListN.{length, set};
 ghost use Rattle.model.specs.Job.{fresh};
 ghost use Rattle.model.specs.Record.{recordSize, markPlane, statePlane, offset, unwiredRecord, over};
-ghost use Rattle.channel.specs.Write.{zeros, unwired};
+ghost use Rattle.channel.specs.Written.{zeros, unwired};
 
 // Every byte of the part becomes 0.
 fn clear(part: &mut [u8])

@@ -1,14 +1,14 @@
 -- Document 01, "The listing": the bytes of a wired job's listing. The line of a wire has the `to` and the `out` that Part gives, index by index.
 -- Assumes nothing.
-use mathlib.Core.Path.{_≡_, refl}
+use mathlib.Core.Path.{_≡_}
 use mathlib.Core.List.{List, [], _∷_, _++_}
-use Prim.Native.Nat.{ℕ, zero, suc}
+use Prim.Native.Nat.{ℕ}
 use lib.ListN.{getD}
 use Rattle.sums.specs.Counting.{only, each}
 use Rattle.model.specs.Job.{Job}
 use Rattle.model.specs.Links.{north, east, south, west, PlaceKind, pin, missing, centre, outside, nowhere, side, Step}
 use Rattle.model.specs.Wires.{Part, unwired, to, out, pastTheEnd, isWired, wireCount, partAt}
-use Rattle.channel.specs.Map.Entered.{kindAt}
+use Rattle.channel.specs.Map.Entered.{kindAt, by-kind}
 use Rattle.listing.specs.Lines.{spaced, close, line, pairLine, row, column, spread}
 
 -- ---- words
@@ -48,16 +48,7 @@ abbrev pub letters : List ℕ
 letters = 114 ∷ 0 ∷ 110 ∷ 101 ∷ 115 ∷ 119 ∷ 99 ∷ 99 ∷ []
 
 pub letter-kind : (k : ℕ) → getD letters k 0 ≡ letterOf (kindAt k)
-unfolding kindAt
-letter-kind zero = refl
-letter-kind (suc zero) = refl
-letter-kind (suc (suc zero)) = refl
-letter-kind (suc (suc (suc zero))) = refl
-letter-kind (suc (suc (suc (suc zero)))) = refl
-letter-kind (suc (suc (suc (suc (suc zero))))) = refl
-letter-kind (suc (suc (suc (suc (suc (suc zero)))))) = refl
-letter-kind (suc (suc (suc (suc (suc (suc (suc zero))))))) = refl
-letter-kind (suc (suc (suc (suc (suc (suc (suc (suc k)))))))) = refl
+letter-kind k = by-kind letterOf k
 
 abbrev pub placeLane : PlaceKind → ℕ → List ℕ
 placeLane k i = letterOf k ∷ spaced i ++ (41 ∷ [])

@@ -37,6 +37,10 @@ entry x = entryOf (x .kind) (x .row) (x .column)
 abbrev pub exit : Place → ℕ
 exit x = exitOf (x .kind) (x .row) (x .column)
 
+-- a number of a place's entry or exit
+abbrev pub IsSpot : Job → ℕ → Type 0
+IsSpot J u = (x : Place) × T (isPlace J x) × ((u ≡ entry x) ⊎ (u ≡ exit x))
+
 -- the number of a limit; a link without one is never counted
 abbrev pub size : Option ℕ → ℕ
 size none = 0
@@ -57,7 +61,7 @@ module _ (J : Job) (S : ℕ → Bool) where
 
   -- "The near side is a set of chosen pins and places. A link without limit never leads out of it." The outside is no place, so it is never near.
   pub record Near : Type 0 where
-    pub within : (i : ℕ) → T (S i) → (x : Place) × T (isPlace J x) × ((i ≡ entry x) ⊎ (i ≡ exit x))
+    pub within : (i : ℕ) → T (S i) → IsSpot J i
     pub limited : (s : Step) → T (leaves s) → (k : ℕ) × (limit J (s .link) ≡ some k)
 
   -- "Its sum is the chosen pins outside it, plus every limit on a link from near to not near, plus the passing limit where the entry is near and the

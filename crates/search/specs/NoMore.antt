@@ -17,7 +17,7 @@ use Rattle.flow.specs.MinCut.{closed-near, closed-cut, reach-near}
 use Rattle.model.specs.Job.{Job, arrayFits}
 use Rattle.model.specs.Links.{pin, at}
 use Rattle.model.specs.Route.{Route, Together, Greatest}
-use Rattle.model.specs.Near.{Near, nearSum, Smallest}
+use Rattle.model.specs.Near.{Near, nearSum, Smallest, IsSpot}
 use Rattle.model.specs.Loads.{Feasible}
 use Rattle.model.specs.Record.{load}
 use Rattle.model.specs.Wires.{wireCount}
@@ -27,7 +27,7 @@ use Rattle.channel.specs.Map.Network.{net}
 use Rattle.channel.specs.Map.NearSides.{near-net, net-near, near-cut}
 use Rattle.channel.specs.Map.Starts.{wanted-pin}
 use Rattle.channel.specs.Map.Flows.{feasible-flow, starts-count}
-use Rattle.channel.specs.Map.Moves.{IsSpot, move-residual, move-spot, closed-residual}
+use Rattle.channel.specs.Map.Moves.{move-residual, move-spot, closed-residual}
 
 -- what moves reach from the spots at which a wire is wanted and none starts
 pub data Reached (J : Job) (rec : List ℕ) : ℕ → Type 0 where

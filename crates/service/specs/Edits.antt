@@ -12,8 +12,7 @@ use Rattle.model.specs.Job.{Job, marked, closed, isPin, isTile}
 use Rattle.model.specs.Record.{recordSize, markPlane, statePlane, offset, jobOf, Legal, noLoads, unwiredRecord, over}
 use Rattle.model.specs.Calls.{refused, done, After, after, edited, markedBy, closedBy}
 use Rattle.channel.specs.Map.Places.{pin-cell, tile-cell}
-use Rattle.channel.specs.Write.{unwired}
-use Rattle.channel.specs.Written.{length-over, unwired-over, marked-over, closed-over}
+use Rattle.channel.specs.Written.{unwired, length-over, unwired-over, marked-over, closed-over}
 
 -- ---- the tests
 

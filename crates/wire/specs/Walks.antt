@@ -21,8 +21,7 @@ use Rattle.model.specs.Near.{exit}
 use Rattle.model.specs.Record.{jobOf, load, Legal}
 use Rattle.model.specs.Wires.{Hop, firstLoaded, onward, hopAt, isWired, Part, unwired, to, out, partFor, partOf, partAt}
 use Rattle.model.proofs.Listed.{may-enters}
-use Rattle.channel.specs.Map.{darts, rev, rowOf, columnOf, stepOf, isLinkDart, outside}
-use Rattle.channel.specs.Map.Darts.{dartOf}
+use Rattle.channel.specs.Map.{darts, rev, rowOf, columnOf, stepOf, isLinkDart, outside, dartOf}
 use Rattle.channel.specs.Map.Steps.{slot-step}
 use Rattle.channel.specs.Map.Places.{chosen-cell}
 use Rattle.channel.specs.Map.Pushed.{turn-turn}

@@ -12,7 +12,7 @@ use Rattle.sums.specs.Counting.{when}
 use Rattle.model.specs.Job.{Job, isOpen}
 use Rattle.model.specs.Links.{Compass, north, east, south, west, isPlace, northSide, westSide, corner, spoke, leg, go, come, aheadOf, limitOf, may}
 use Rattle.model.specs.Record.{cell, jobOf}
-use Rattle.channel.specs.Map.Ways.{within-may, leg-come, leg-go}
+use Rattle.channel.specs.Map.Ways.{by-corner, by-spoke, within-may, leg-come, leg-go}
 use Rattle.channel.specs.Cell.{allFour, fits, most, room, leaving, linkFits, sidesFit, cornersFit, spokesFit, legsFit, linksFit, fourFit}
 
 pub leaving-missing : (m : ℕ) → m ≡ 2 → 31 ≡ leaving m
@@ -33,11 +33,11 @@ module _ (J : Job) (r c : ℕ) where
   corner-room : (d : Compass) (f : Bool)
       → room J (record { link = record { kind = corner d; row = r; column = c }; forth = f }) ≡ when (isOpen J r c) (J .O / 2)
   unfolding room most limitOf
-  corner-room d f = ap (λ (b : Bool). when b (J .O / 2)) (within-may J (corner d) f r c tt)
+  corner-room d f = ap (λ (b : Bool). when b (J .O / 2)) (within-may J by-corner f r c)
 
   spoke-room : (d : Compass) (f : Bool) → room J (record { link = record { kind = spoke d; row = r; column = c }; forth = f }) ≡ when (isOpen J r c) 31
   unfolding room most limitOf
-  spoke-room d f = ap (λ (b : Bool). when b 31) (within-may J (spoke d) f r c tt)
+  spoke-room d f = ap (λ (b : Bool). when b 31) (within-may J by-spoke f r c)
 
   -- the tile that a leg leads into is open
   abbrev opens : Compass → Bool

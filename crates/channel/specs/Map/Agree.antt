@@ -1,6 +1,6 @@
 -- While a path is laid move by move, a record's bytes agree with a load of the network: on each link they carry the same net amount. One move is one push;
 -- and bytes that agree with a flow are feasible, with the flow's starts. Assumes nothing.
-use mathlib.Core.Path.{_≡_, refl, sym, ap, subst, subst₂, _∙_}
+use mathlib.Core.Path.{_≡_, refl, sym, ap, subst, _∙_}
 use mathlib.Core.Logic.{_≢_, _⊎_, inl, inr}
 use mathlib.Core.Bool.{Bool, true, false, not}
 use mathlib.Core.List.{List, [], _∷_}
@@ -8,7 +8,7 @@ use mathlib.Core.Option.{Option, some}
 use Prim.Native.Nat.{ℕ, _+_, _*_, _/_, _%_, _≤_, _<_}
 use native.Mathlib.Nat.{eq-zero-or-pos}
 use native.Mathlib.Omega.{arith}
-use lib.Dec.{T, eqb, not-T}
+use lib.Dec.{T, not-T}
 use lib.ListN.{length}
 use Rattle.sums.specs.Counting.{when, sum, total}
 use Rattle.sums.specs.Sums.{sum-cong, sum-le, sum-add}
@@ -22,18 +22,21 @@ use Rattle.model.specs.Near.{spot, entryOf, exitOf, exit}
 use Rattle.model.specs.Loads.{departures, arrivals, Feasible}
 use Rattle.model.specs.Record.{recordSize, loadPlane, cell, load}
 use Rattle.model.proofs.Same.{same-link, same-link-eq}
-use Rattle.channel.specs.Table.{signOf}
-use Rattle.channel.specs.Map.{spots, darts, rowOf, columnOf, stepOf, isLinkDart, isNone, isStart, want, outside, view, starts, laid}
+use Rattle.channel.specs.Map.{spots, darts, rowOf, columnOf, stepOf, isLinkDart, isNone, isStart, want, outside, view, starts, laid, dartOf}
 use Rattle.channel.specs.Map.Back.{link-stored}
-use Rattle.channel.specs.Map.Darts.{OnGrid, step-grid, dartOf, dart-step, step-dart}
+use Rattle.channel.specs.Map.Darts.{OnGrid, step-grid, dart-step, step-dart}
 use Rattle.channel.specs.Map.Network.{net}
 use Rattle.channel.specs.Map.Steps.{place-pass}
-use Rattle.channel.specs.Map.Stores.{Fits, amount, amount-one, bumped, byteOf, load-amount, grid?, Lay, nothing, bumps, lay?, byte-bumped, byte-other}
+use Rattle.channel.specs.Map.Stores.{one-way, grid?, Lay, nothing, bumps, lay?, loads-bumped, byte-other, load-other}
 use Rattle.channel.specs.Map.Carry.{view-link, Shut, shut, link-shut, link-limit, pass-limit}
 use Rattle.channel.specs.Map.Pushed.{grid-turn, turn-turn, push-plain, push-apart, push-own}
 use Rattle.channel.specs.Map.InOut.{Quiet, side-out, side-back, exit-out, exit-back, entry-out, entry-back}
 use Rattle.channel.specs.Map.Places.{compass<, five, side-kind, side-cell, tile-cell, chosen-cell, missing-cell, open-tile, kind-inside, tile-inside, want-kind, start-cell, missing-want, missing-chosen, leg-shut, slot-link, slots-total}
 pub use Rattle.channel.specs.Map.Stores.{laid-length, laid-other, laid-rest, laid-job}
+
+-- what a link's byte may be
+abbrev Fits : List ℕ → Link → Type 0
+Fits rec l = (cell rec (loadPlane (l .kind)) (l .row) (l .column) < 64) × (cell rec (loadPlane (l .kind)) (l .row) (l .column) ≢ 32)
 
 pub record Agrees (g : ℕ → ℕ) (rec : List ℕ) : Type 0 where
   pub bytes : (k : LinkKind) (r c : ℕ) → (cell rec (loadPlane k) r c < 64) × (cell rec (loadPlane k) r c ≢ 32)
@@ -58,9 +61,7 @@ agrees-cong g h rec e a =
 
 module _ {g : ℕ → ℕ} {rec : List ℕ} (a : Agrees g rec) where
   load-one : (s : Step) → 0 < load rec s → load rec (turn s) ≡ 0
-  load-one s h =
-      load-amount rec (turn s)
-      ∙ amount-one (s .forth) (byteOf rec (s .link)) (a .bytes (s .link .kind) (s .link .row) (s .link .column) .0) (omega (arith, load-amount rec s))
+  load-one s h = one-way rec s (a .bytes (s .link .kind) (s .link .row) (s .link .column) .0) h
 
   load-le : (s : Step) → OnGrid s → load rec s ≤ g (dartOf s)
   load-le s o = go (eq-zero-or-pos (load rec s))
@@ -112,57 +113,29 @@ module _ (J : Job) (fits : T (arrayFits (J .rows) (J .columns))) where
           σ : Step
           σ = stepOf d
 
-          b : ℕ
-          b = byteOf rec (σ .link)
-
-          b′ : ℕ
-          b′ = byteOf r (σ .link)
-
-          Change : Bool → ℕ → Type 0
-          Change f x = Fits x × (amount f x + amount (not f) b ≡ amount f b + amount (not f) x + 1)
-
-          forth : σ .forth ≡ eqb (signOf (d % 64)) 0
-          forth = unfold stepOf in refl
-
-          -- what the byte has along σ is at most what goes along its dart
-          low : amount (eqb (signOf (d % 64)) 0) b < 31
-          low =
-              omega (
-                arith,
-                small (dartOf σ) (dart-step σ (step-grid d o) .0),
-                load-le a σ (step-grid d o),
-                load-amount rec σ,
-                ap (λ (f : Bool). amount f b) forth,
-              )
-
-          change : Change (σ .forth) b′
+          -- what goes along σ is at most what goes along its dart
+          change : Fits r (σ .link) × (load r σ + load rec (turn σ) ≡ load rec σ + load r (turn σ) + 1)
           change =
-              subst₂ Change (sym forth) (sym (byte-bumped rec d t o long))
-              (bumped (signOf (d % 64)) b (a .bytes (σ .link .kind) (σ .link .row) (σ .link .column)) low)
+              loads-bumped rec d t o long (a .bytes (σ .link .kind) (σ .link .row) (σ .link .column))
+              (omega (arith, small (dartOf σ) (dart-step σ (step-grid d o) .0), load-le a σ (step-grid d o)))
 
-          loads : load r σ + load rec (turn σ) ≡ load rec σ + load r (turn σ) + 1
-          loads = omega (arith, change, load-amount r σ, load-amount rec σ, load-amount r (turn σ), load-amount rec (turn σ))
-
-          byte : (k : LinkKind) (x y : ℕ) → (link k x y ≡ σ .link) ⊎ (link k x y ≢ σ .link) → Fits (cell r (loadPlane k) x y)
-          byte k x y (inl e) = subst (λ (m : Link). Fits (byteOf r m)) (sym e) (change .0)
-          byte k x y (inr n) = subst Fits (sym (byte-other rec d t o (link k x y) n)) (a .bytes k x y)
-
-          other : (s : Step) → s .link ≢ σ .link → load r s ≡ load rec s
-          other s n = load-amount r s ∙ (ap (amount (s .forth)) (byte-other rec d t o (s .link) n) ∙ sym (load-amount rec s))
+          byte : (k : LinkKind) (x y : ℕ) → (link k x y ≡ σ .link) ⊎ (link k x y ≢ σ .link) → Fits r (link k x y)
+          byte k x y (inl e) = subst (Fits r) (sym e) (change .0)
+          byte k x y (inr n) = subst (λ (b : ℕ). (b < 64) × (b ≢ 32)) (sym (byte-other rec d t o (link k x y) n)) (a .bytes k x y)
 
           Same : Step → Type 0
           Same s = load r s + h (dartOf (turn s)) ≡ load r (turn s) + h (dartOf s)
 
           own : Same σ
-          own = omega (arith, loads, a .same σ (step-grid d o), push-own J g p d l w res t o)
+          own = omega (arith, change .1, a .same σ (step-grid d o), push-own J g p d l w res t o)
 
           by : (s : Step) → OnGrid s → (s .link ≡ σ .link) ⊎ (s .link ≢ σ .link) → Same s
           by s q (inr n) =
               omega (
                 arith,
                 a .same s q,
-                other s n,
-                other (turn s) n,
+                load-other rec d t o s n,
+                load-other rec d t o (turn s) n,
                 push-apart J g p d l w res t o s q n,
                 push-apart J g p d l w res t o (turn s) (grid-turn q) n,
               )

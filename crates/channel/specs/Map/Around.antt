@@ -10,8 +10,7 @@ use lib.ListN.{getD, getElem?}
 use Rattle.model.specs.Links.{north, east, south, west, pin, centre, side, northSide, link, Step, aroundOf}
 use Rattle.model.specs.Near.{spot}
 use Rattle.model.specs.Record.{kinds}
-use Rattle.channel.specs.Table.{links, owners, signs, codes, kindOf, ownerOf, signOf, codeOf}
-use Rattle.channel.specs.Map.{darts, stepOf, carries, isLinkDart}
+use Rattle.channel.specs.Map.{darts, stepOf, carries, isLinkDart, links, owners, signs, codes, kindOf, ownerOf, signOf, codeOf}
 use Rattle.channel.specs.Map.Darts.{dart-at}
 
 infixr 5 _then_
@@ -31,14 +30,18 @@ slots-at {P} {j} (p then q) (suc k) s e =
     subst (λ (i : ℕ). P i s) n (slots-at q k s e)
 
 -- the dart of a slot takes the step
-abbrev pub Takes : ℕ → ℕ → Step → Type 0
-Takes u k s = (8 * u + k < darts) × T (isLinkDart (8 * u + k)) × (stepOf (8 * u + k) ≡ s)
+pub record Takes (u k : ℕ) (s : Step) : Type 0 where
+  pub range : 8 * u + k < darts
+  pub linked : T (isLinkDart (8 * u + k))
+  pub step : stepOf (8 * u + k) ≡ s
 
 -- the slot k of the spot of kind q in the cell (r, c), where the cell (i, j) owns the link
 takes : (q k r c i j : ℕ) → (q < 8) × (k < 8) × (41 + 40 * r + c + ownerOf (8 * q + k) ≡ 41 + 40 * i + j) × (i < 40) × (j < 40)
     → T (carries (codeOf (8 * q + k)))
     → Takes (spot q r c) k (record { link = link (getD kinds (kindOf (8 * q + k)) northSide) i j; forth = eqb (signOf (8 * q + k)) 0 })
-takes q k r c i j h t = dart-at (8 * spot q r c + k) (41 + 40 * r + c) (8 * q + k) i j (omega arith) t
+takes q k r c i j h t =
+    let (l, u, e) = dart-at (8 * spot q r c + k) (41 + 40 * r + c) (8 * q + k) i j (omega arith) t in
+    record { range = l; linked = u; step = e }
 
 -- the darts of each exit, slot by slot
 module _ (r c : ℕ) (a : r < 40) (b : c < 40) where

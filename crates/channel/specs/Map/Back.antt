@@ -10,9 +10,8 @@ use lib.ListN.{getD}
 use Rattle.sums.specs.Tests.{and-left, and-right}
 use Rattle.model.specs.Links.{northSide, link, turn}
 use Rattle.model.specs.Record.{kinds}
-use Rattle.channel.specs.Table.{turnOf, kindOf, ownerOf, signOf, codeOf}
-use Rattle.channel.specs.Map.{darts, inGrid, rowOf, columnOf, ahead, rev, ownerCell, stepOf, carries, isStored, isLinkDart}
-use Rattle.channel.specs.Map.Rows.{backRow, cellsOn, row-turn, row-kind, row-owner, owner-le, row-sign, row-stored, carries-stored}
+use Rattle.channel.specs.Map.{darts, inGrid, rowOf, columnOf, ahead, rev, ownerCell, stepOf, carries, isStored, isLinkDart, turnOf, kindOf, ownerOf, signOf, codeOf, backRow, backCell}
+use Rattle.channel.specs.Map.Rows.{row-turn, row-kind, row-owner, owner-le, row-sign, row-stored, carries-stored}
 
 -- what `ltb a b` says
 pub data Less (a b : ℕ) : Bool → Type 0 where
@@ -84,8 +83,8 @@ module _ (d r : ℕ) (e : r + 2688 ≡ ahead d) where
   unfolding ahead backRow
   over-row = omega arith
 
-  pub over-cell : r / 64 + 42 ≡ d / 64 + cellsOn (d % 64)
-  unfolding ahead cellsOn
+  pub over-cell : r / 64 + 42 ≡ d / 64 + backCell (d % 64)
+  unfolding ahead backCell
   over-cell = omega arith
 
   over-back : d + 2688 ≡ ahead r
@@ -125,7 +124,7 @@ row< d = omega arith
 
 -- the dart that its row leads to, from a link on the grid, is in range
 ahead-range : (d : ℕ) → T (inGrid (ownerCell d)) → (2688 ≤ ahead d) × (ahead d < 107712)
-unfolding ownerCell ahead cellsOn backRow
+unfolding ownerCell ahead backCell backRow
 ahead-range d g =
     let i = d % 64 in
     let (a, b) = grid-at (d / 64 + ownerOf i) g in

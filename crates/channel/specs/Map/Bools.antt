@@ -1,6 +1,6 @@
 -- Tests and their outcomes: the arms of a test, tests that agree, and what `&&` and `||` come to. Assumes nothing.
 use mathlib.Core.Path.{_≡_, refl, sym, subst}
-use mathlib.Core.Bool.{Bool, true, false, not, _&&_, _||_}
+use mathlib.Core.Bool.{Bool, true, false, not, _&&_, _||_, Bool·beq}
 use lib.Dec.{T}
 use Rattle.sums.specs.Tests.{and-left, so}
 
@@ -14,11 +14,7 @@ if-false true x y e = absurd (subst T e tt)
 if-false false x y e = refl
 
 -- two tests that agree
-unfoldable pub alike : Bool → Bool → Bool
-alike a b = (a && b) || (not a && not b)
-
-pub same-test : (a b : Bool) → T (alike a b) → a ≡ b
-unfolding alike
+pub same-test : (a b : Bool) → T (Bool·beq a b) → a ≡ b
 same-test true true t = refl
 same-test true false t = absurd t
 same-test false true t = absurd t

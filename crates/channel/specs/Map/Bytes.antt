@@ -1,7 +1,7 @@
 -- The loads of darts and of places, read off the bytes of a record, for each way out of the code that reads them. Assumes nothing.
 use mathlib.Core.Path.{_≡_, refl, sym, ap, subst, _∙_}
 use mathlib.Core.Logic.{_≢_}
-use mathlib.Core.Bool.{Bool, true, false, not, _&&_, _||_}
+use mathlib.Core.Bool.{Bool, true, false, not, _&&_, _||_, Bool·beq}
 use mathlib.Core.List.{List}
 use Prim.Native.Nat.{ℕ, _+_, _*_, _/_, _%_, _^_, _≤_, _<_}
 use native.Mathlib.Omega.{arith}
@@ -9,14 +9,13 @@ use borrow.Author.Tests.{eq-eqb, ne-eqb}
 use lib.Dec.{T, eqb, eqb→eq}
 use lib.ListN.{getD}
 use Rattle.sums.specs.Counting.{when, total}
-use Rattle.sums.specs.Tests.{and-right, so}
+use Rattle.sums.specs.Tests.{and-right, so, below, below-at}
 use Rattle.model.specs.Links.{pin, missing, centre, at, northSide, linkCode, link}
 use Rattle.model.specs.Loads.{arrivals, departures}
 use Rattle.model.specs.Record.{forthPart, backPart, kinds, cell, load}
-use Rattle.channel.specs.Table.{kindOf, ownerOf, signOf, codeOf}
-use Rattle.channel.specs.Map.{inGrid, rowOf, columnOf, ownerCell, stepOf, carries, isPassage, isStored, isLinkDart, isPassDart, passedOf, view, opposed, address}
-use Rattle.channel.specs.Map.Bools.{if-true, if-false, alike, same-test, not-so}
-use Rattle.channel.specs.Map.Bounds.{all, all-at, kind-bound, code-bound}
+use Rattle.channel.specs.Map.{inGrid, rowOf, columnOf, ownerCell, stepOf, carries, isPassage, isStored, isLinkDart, isPassDart, passedOf, view, opposed, address, kindOf, ownerOf, signOf, codeOf}
+use Rattle.channel.specs.Map.Bools.{if-true, if-false, same-test, not-so}
+use Rattle.channel.specs.Map.Bounds.{kind-bound, code-bound}
 use Rattle.channel.specs.Map.Grid.{grid-low, grid-in, grid-high, grid-bounds, cell-byte}
 
 -- ---- the byte of a dart's link
@@ -47,8 +46,8 @@ module _ (rec : List ℕ) (d o : ℕ) (e : o ≡ ownerOf (d % 64)) where
 -- ---- along it and against it
 
 kind-code : (k : ℕ) → k < 14 → linkCode (getD kinds k northSide) ≡ k
-unfolding all
-kind-code k l = eqb→eq _ _ (all-at 14 (λ k. eqb (linkCode (getD kinds k northSide)) k) tt k l)
+unfolding below
+kind-code k l = eqb→eq _ _ (below-at 14 (λ k. eqb (linkCode (getD kinds k northSide)) k) tt k l)
 
 step-cell : (rec : List ℕ) (d : ℕ) → T (inGrid (ownerCell d))
     → cell rec (2 + linkCode (getD kinds (kindOf (d % 64)) northSide)) (rowOf (ownerCell d)) (columnOf (ownerCell d)) ≡ getD rec (address d) 0
@@ -129,12 +128,12 @@ module _ (rec : List ℕ) (x : ℕ) (l : 41 ≤ x) (m : x < 1641) where
 -- ---- what a dart carries
 
 pub mask-carries : (c : ℕ) → c < 15 → eqb (222 / 2 ^ c % 2) 1 ≡ carries c
-unfolding all alike carries
-mask-carries c l = same-test _ _ (all-at 15 (λ c. alike (eqb (222 / 2 ^ c % 2) 1) (carries c)) tt c l)
+unfolding below carries
+mask-carries c l = same-test _ _ (below-at 15 (λ c. Bool·beq (eqb (222 / 2 ^ c % 2) 1) (carries c)) tt c l)
 
 pub mask-stored : (c : ℕ) → c < 15 → eqb (14046 / 2 ^ c % 2) 1 ≡ isStored c
-unfolding all alike isStored
-mask-stored c l = same-test _ _ (all-at 15 (λ c. alike (eqb (14046 / 2 ^ c % 2) 1) (isStored c)) tt c l)
+unfolding below isStored
+mask-stored c l = same-test _ _ (below-at 15 (λ c. Bool·beq (eqb (14046 / 2 ^ c % 2) 1) (isStored c)) tt c l)
 
 pub pass-dart-is : (d c : ℕ) (b : Bool) → c ≡ codeOf (d % 64) → b ≡ inGrid (d / 64) → ((eqb c 5 || eqb c 8) && b) ≡ isPassDart d
 unfolding isPassDart isPassage
@@ -154,8 +153,8 @@ passed-missing d e = ap (λ k. at k (rowOf (d / 64)) (columnOf (d / 64))) (sym (
 
 -- a dart of a code that carries is no passage
 pub carries-no-pass : (c : ℕ) → c < 15 → T (carries c) → isPassage c ≡ false
-unfolding all carries isPassage
-carries-no-pass c l t = not-so (carries c) (isPassage c) (all-at 15 (λ c. not (carries c && isPassage c)) tt c l) t
+unfolding below carries isPassage
+carries-no-pass c l t = not-so (carries c) (isPassage c) (below-at 15 (λ c. not (carries c && isPassage c)) tt c l) t
 
 pub view-link : (rec : List ℕ) (d : ℕ) → carries (codeOf (d % 64)) ≡ true → when (inGrid (ownerCell d)) (load rec (stepOf d)) ≡ view rec d
 unfolding view isLinkDart isPassDart

@@ -10,38 +10,38 @@ use borrow.Author.Tests.{eq-eqb, ne-eqb, eqb-true}
 use lib.Dec.{T, eqb, eqb→eq, leb, leb→le, ltb, ltb→lt}
 use lib.ListN.{getD}
 use Rattle.sums.specs.Counting.{when}
-use Rattle.sums.specs.Tests.{Same, same, other, same?, so}
+use Rattle.sums.specs.Tests.{Same, same, other, same?, so, below, below-at}
 use Rattle.model.specs.Job.{Job, isOpen, isMissing, centreLimit}
-use Rattle.model.specs.Links.{Place, isPlace, LinkKind, northSide, westSide, corner, spoke, leg, link, go, come, aheadOf, limitOf, limit, pass, may}
+use Rattle.model.specs.Links.{Place, isPlace, LinkKind, northSide, westSide, corner, spoke, leg, link, Step, go, come, aheadOf, limitOf, limit, pass, may}
 use Rattle.model.specs.Near.{size}
 use Rattle.model.specs.Record.{kinds}
-use Rattle.channel.specs.Table.{links, owners, signs, codes, kindOf, ownerOf, signOf, codeOf}
+use Rattle.channel.specs.Map.{links, owners, signs, codes, kindOf, ownerOf, signOf, codeOf, mayTake, reaches, ownerMark}
 use Rattle.channel.specs.Map.{inGrid, rowOf, columnOf, ownerCell, stepOf, carries, isPassage, isLinkDart, isPassDart, passedOf, isNone, cap, free}
 use Rattle.channel.specs.Map.Bools.{if-so, is-on, is-off, and-true, and-false}
-use Rattle.channel.specs.Map.Bounds.{all, all-at, code-bound}
+use Rattle.channel.specs.Map.Bounds.{code-bound}
 use Rattle.channel.specs.Map.Grid.{grid-low, grid-high, test-at}
 use Rattle.channel.specs.Map.Bytes.{owner-is, carries-no-pass, passed-centre, passed-missing}
-use Rattle.channel.specs.Map.Ways.{stepAt, mayTake, reaches, ownerMark, within, within-may, leg-come, leg-go}
+use Rattle.channel.specs.Map.Ways.{Within, by-corner, by-spoke, within-may, leg-come, leg-go}
 
 -- ---- the rows of a code
 
 -- 1 a side, 2 a corner, 3 a spoke, 4 a leg
-abbrev pub sort : LinkKind → ℕ
+abbrev sort : LinkKind → ℕ
 sort northSide = 1
 sort westSide = 1
 sort (corner d) = 2
 sort (spoke d) = 3
 sort (leg d) = 4
 
-abbrev pub sorts : List ℕ
+abbrev sorts : List ℕ
 sorts = 1 ∷ 1 ∷ 2 ∷ 3 ∷ 3 ∷ 1 ∷ 4 ∷ 4 ∷ 1 ∷ 3 ∷ 3 ∷ 1 ∷ 4 ∷ 4 ∷ 1 ∷ []
 
 abbrev kindAt : ℕ → LinkKind
 kindAt i = getD kinds (kindOf i) northSide
 
 row-sort : (i : ℕ) → i < 64 → sort (kindAt i) ≡ getD sorts (codeOf i) 0
-unfolding all kindOf links codeOf codes
-row-sort i l = eqb→eq _ _ (all-at 64 (λ i. eqb (sort (kindAt i)) (getD sorts (codeOf i) 0)) tt i l)
+unfolding below kindOf links codeOf codes
+row-sort i l = eqb→eq _ _ (below-at 64 (λ i. eqb (sort (kindAt i)) (getD sorts (codeOf i) 0)) tt i l)
 
 dart-sort : (d c : ℕ) → codeOf (d % 64) ≡ c → sort (kindAt (d % 64)) ≡ getD sorts c 0
 dart-sort d c e = row-sort (d % 64) (omega arith) ∙ ap (λ (x : ℕ). getD sorts x 0) e
@@ -51,36 +51,36 @@ abbrev own : ℕ → Bool
 own c = not (eqb c 1 || (eqb c 6 || eqb c 13))
 
 row-own : (i : ℕ) → i < 64 → T (own (codeOf i)) → ownerOf i ≡ 0
-unfolding all ownerOf owners codeOf codes
-row-own i l t = eqb→eq _ _ (if-so (own (codeOf i)) (eqb (ownerOf i) 0) (all-at 64 (λ i. not (own (codeOf i)) || eqb (ownerOf i) 0) tt i l) t)
+unfolding below ownerOf owners codeOf codes
+row-own i l t = eqb→eq _ _ (if-so (own (codeOf i)) (eqb (ownerOf i) 0) (below-at 64 (λ i. not (own (codeOf i)) || eqb (ownerOf i) 0) tt i l) t)
 
 pub own-cell : (d c : ℕ) → codeOf (d % 64) ≡ c → T (own c) → ownerCell d ≡ d / 64
 own-cell d c e t = sym (owner-is d 0 (sym (row-own (d % 64) (omega arith) (subst (λ (x : ℕ). T (own x)) (sym e) t)))) ∙ omega arith
 
 pub side-kind : (i : ℕ) → i < 64 → codeOf i ≡ 1 → kindOf i < 2
-unfolding all kindOf links codeOf codes
+unfolding below kindOf links codeOf codes
 side-kind i l e =
-    ltb→lt _ _ (if-so (eqb (codeOf i) 1) (ltb (kindOf i) 2) (all-at 64 (λ i. not (eqb (codeOf i) 1) || ltb (kindOf i) 2) tt i l) (so (eq-eqb _ _ e)))
+    ltb→lt _ _ (if-so (eqb (codeOf i) 1) (ltb (kindOf i) 2) (below-at 64 (λ i. not (eqb (codeOf i) 1) || ltb (kindOf i) 2) tt i l) (so (eq-eqb _ _ e)))
 
 -- codes 6 and 7
 pub leg-kind : (i : ℕ) → i < 64 → T (eqb (codeOf i) 6 || eqb (codeOf i) 7) → 10 ≤ kindOf i
-unfolding all kindOf links codeOf codes
+unfolding below kindOf links codeOf codes
 leg-kind i l t =
     leb→le _ _
     (if-so (eqb (codeOf i) 6 || eqb (codeOf i) 7) (leb 10 (kindOf i))
-    (all-at 64 (λ i. not (eqb (codeOf i) 6 || eqb (codeOf i) 7) || leb 10 (kindOf i)) tt i l) t)
+    (below-at 64 (λ i. not (eqb (codeOf i) 6 || eqb (codeOf i) 7) || leb 10 (kindOf i)) tt i l) t)
 
 six-sign : (i : ℕ) → i < 64 → codeOf i ≡ 6 → eqb (signOf i) 0 ≡ false
-unfolding all signOf signs codeOf codes
+unfolding below signOf signs codeOf codes
 six-sign i l e =
     is-off (eqb (signOf i) 0)
-    (if-so (eqb (codeOf i) 6) (not (eqb (signOf i) 0)) (all-at 64 (λ i. not (eqb (codeOf i) 6) || not (eqb (signOf i) 0)) tt i l) (so (eq-eqb _ _ e)))
+    (if-so (eqb (codeOf i) 6) (not (eqb (signOf i) 0)) (below-at 64 (λ i. not (eqb (codeOf i) 6) || not (eqb (signOf i) 0)) tt i l) (so (eq-eqb _ _ e)))
 
 seven-sign : (i : ℕ) → i < 64 → codeOf i ≡ 7 → eqb (signOf i) 0 ≡ true
-unfolding all signOf signs codeOf codes
+unfolding below signOf signs codeOf codes
 seven-sign i l e =
     is-on (eqb (signOf i) 0)
-    (if-so (eqb (codeOf i) 7) (eqb (signOf i) 0) (all-at 64 (λ i. not (eqb (codeOf i) 7) || eqb (signOf i) 0) tt i l) (so (eq-eqb _ _ e)))
+    (if-so (eqb (codeOf i) 7) (eqb (signOf i) 0) (below-at 64 (λ i. not (eqb (codeOf i) 7) || eqb (signOf i) 0) tt i l) (so (eq-eqb _ _ e)))
 
 -- ---- the codes
 
@@ -127,20 +127,20 @@ module _ (J : Job) where
   side-limit (spoke d) r c e = absurd (omega arith)
   side-limit (leg d) r c e = absurd (omega arith)
 
-  corner-limit : (k : LinkKind) (r c : ℕ) → sort k ≡ 2 → (limitOf J k r c ≡ some (J .O / 2)) × T (within k)
+  corner-limit : (k : LinkKind) (r c : ℕ) → sort k ≡ 2 → (limitOf J k r c ≡ some (J .O / 2)) × Within k
   unfolding limitOf
   corner-limit northSide r c e = absurd (omega arith)
   corner-limit westSide r c e = absurd (omega arith)
-  corner-limit (corner d) r c e = (refl, tt)
+  corner-limit (corner d) r c e = (refl, by-corner)
   corner-limit (spoke d) r c e = absurd (omega arith)
   corner-limit (leg d) r c e = absurd (omega arith)
 
-  spoke-limit : (k : LinkKind) (r c : ℕ) → sort k ≡ 3 → (limitOf J k r c ≡ none) × T (within k)
+  spoke-limit : (k : LinkKind) (r c : ℕ) → sort k ≡ 3 → (limitOf J k r c ≡ none) × Within k
   unfolding limitOf
   spoke-limit northSide r c e = absurd (omega arith)
   spoke-limit westSide r c e = absurd (omega arith)
   spoke-limit (corner d) r c e = absurd (omega arith)
-  spoke-limit (spoke d) r c e = (refl, tt)
+  spoke-limit (spoke d) r c e = (refl, by-spoke)
   spoke-limit (leg d) r c e = absurd (omega arith)
 
   leg-limit : (k : LinkKind) (r c : ℕ) → sort k ≡ 4 → limitOf J k r c ≡ elim (eqb (J .mark r c) 2) [ true ↦ none | false ↦ some 1 ]
@@ -191,11 +191,11 @@ module _ (J : Job) where
   carrying d c e t = ap carries e ∙ t
 
   -- a corner or a spoke may be taken where its tile is open
-  within-take : (d c : ℕ) → codeOf (d % 64) ≡ c → T (own c) → T (within (kindAt (d % 64)))
+  within-take : (d c : ℕ) → codeOf (d % 64) ≡ c → T (own c) → Within (kindAt (d % 64))
       → mayTake J d ≡ (inGrid (d / 64) && isOpen J (rowOf (d / 64)) (columnOf (d / 64)))
   unfolding mayTake stepOf
   within-take d c e o t =
-      ap (λ (b : Bool). inGrid (ownerCell d) && b) (within-may J (kindAt (d % 64)) (eqb (signOf (d % 64)) 0) (rowOf (ownerCell d)) (columnOf (ownerCell d)) t)
+      ap (λ (b : Bool). inGrid (ownerCell d) && b) (within-may J t (eqb (signOf (d % 64)) 0) (rowOf (ownerCell d)) (columnOf (ownerCell d)))
       ∙ ap (λ (x : ℕ). inGrid x && isOpen J (rowOf x) (columnOf x)) (own-cell d c e o)
 
   pub cap-side : (d : ℕ) → codeOf (d % 64) ≡ 1 → cap J d ≡ when (mayTake J d) (J .O)
@@ -467,6 +467,10 @@ module _ (J : Job) (d o : ℕ) (e : o ≡ ownerOf (d % 64)) where
   pub take-high : 1641 ≤ d / 64 + o → false ≡ mayTake J d
   unfolding mayTake
   take-high l = off-high (may J (stepOf d)) l
+
+  -- the step of the link of kind number k at (r, c) in the direction of sign s
+  abbrev stepAt : ℕ → ℕ → ℕ → ℕ → Step
+  stepAt k s r c = record { link = link (getD kinds k northSide) r c; forth = eqb s 0 }
 
   pub take-in : (k s : ℕ) → k ≡ kindOf (d % 64) → s ≡ signOf (d % 64) → 41 ≤ d / 64 + o → d / 64 + o < 1641 → (b : Bool)
       → b ≡ may J (stepAt k s ((d / 64 + o - 41) / 40) ((d / 64 + o - 41) % 40)) → b ≡ mayTake J d

@@ -33,7 +33,7 @@ turn-turn s = λ i. record { link = s .link; forth = twice (s .forth) i }
 -- ---- the steps around a place leave it
 
 module _ (J : Job) where
-  abbrev pub From : Place → List Step → Type 0
+  abbrev From : Place → List Step → Type 0
   From x [] = Unit {0}
   From x (s ∷ l) = (tail J s ≡ x) × From x l
 

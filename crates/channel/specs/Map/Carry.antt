@@ -8,18 +8,16 @@ use Prim.Native.Nat.{ℕ, _+_, _/_, _%_, _≤_, _<_}
 use native.Mathlib.Omega.{arith}
 use lib.Dec.{T, T-not, not-T}
 use Rattle.sums.specs.Counting.{when}
-use Rattle.sums.specs.Tests.{and-left, and-right, and-both, so-not}
+use Rattle.sums.specs.Tests.{and-left, and-right, and-both, if-so, so-not, below, below-at}
 use Rattle.sums.specs.Sums.{when-so, when-none}
 use Rattle.model.specs.Job.{Job}
 use Rattle.model.specs.Links.{isPlace, turn, may, limit, pass}
 use Rattle.model.specs.Near.{size}
 use Rattle.model.specs.Loads.{arrivals}
 use Rattle.model.specs.Record.{load}
-use Rattle.channel.specs.Table.{turns, codes, turnOf, codeOf}
-use Rattle.channel.specs.Map.{darts, inGrid, rev, ownerCell, stepOf, carries, isStored, isPassage, isLinkDart, isPassDart, passedOf, isNone, cap, free, view}
-use Rattle.channel.specs.Map.Rows.{all, all-at, if-so, backRow}
+use Rattle.channel.specs.Map.{darts, inGrid, rev, ownerCell, stepOf, carries, isStored, isPassage, isLinkDart, isPassDart, passedOf, isNone, cap, free, view, turns, codes, turnOf, codeOf, backRow, dartOf, idle}
 use Rattle.channel.specs.Map.Back.{rev<, over-row, stored-turned}
-use Rattle.channel.specs.Map.Darts.{dartOf, step-dart}
+use Rattle.channel.specs.Map.Darts.{step-dart}
 
 -- ---- tests
 
@@ -43,29 +41,25 @@ at-most false b x k e = omega arith
 
 -- ---- codes
 
--- a row whose darts carry nothing
-abbrev pub idle : ℕ → Bool
-idle i = not (carries (codeOf i)) && not (isPassage (codeOf i))
-
 module _ (i : ℕ) (l : i < 64) where
   pub carries-passes : T (carries (codeOf i)) → T (not (isPassage (codeOf i)))
-  unfolding all codeOf codes carries isPassage
-  carries-passes = if-so (carries (codeOf i)) (not (isPassage (codeOf i))) (all-at 64 (λ i. not (carries (codeOf i)) || not (isPassage (codeOf i))) tt i l)
+  unfolding below codeOf codes carries isPassage
+  carries-passes = if-so (carries (codeOf i)) (not (isPassage (codeOf i))) (below-at 64 (λ i. not (carries (codeOf i)) || not (isPassage (codeOf i))) tt i l)
 
   -- a row with a stored byte that carries nothing along it
   pub stored-idle : T (isStored (codeOf i)) → T (not (carries (codeOf i))) → T (idle i)
-  unfolding all codeOf codes isStored isPassage
+  unfolding below codeOf codes isStored isPassage idle
   stored-idle s n =
       and-both (not (carries (codeOf i))) (not (isPassage (codeOf i))) n
-      (if-so (isStored (codeOf i)) (not (isPassage (codeOf i))) (all-at 64 (λ i. not (isStored (codeOf i)) || not (isPassage (codeOf i))) tt i l) s)
+      (if-so (isStored (codeOf i)) (not (isPassage (codeOf i))) (below-at 64 (λ i. not (isStored (codeOf i)) || not (isPassage (codeOf i))) tt i l) s)
 
   -- of a link's two ways one at least carries its load
   pub back-carries : T (isStored (codeOf i)) → T (not (carries (codeOf i))) → T (carries (codeOf (backRow i)))
-  unfolding all codeOf codes isStored carries backRow turnOf turns
+  unfolding below codeOf codes isStored carries backRow turnOf turns
   back-carries s n =
       if-so (not (carries (codeOf i))) (carries (codeOf (backRow i)))
       (if-so (isStored (codeOf i)) (not (not (carries (codeOf i))) || carries (codeOf (backRow i)))
-      (all-at 64 (λ i. not (isStored (codeOf i)) || (not (not (carries (codeOf i))) || carries (codeOf (backRow i)))) tt i l) s) n
+      (below-at 64 (λ i. not (isStored (codeOf i)) || (not (not (carries (codeOf i))) || carries (codeOf (backRow i)))) tt i l) s) n
 
 -- ---- the two sorts of darts that carry
 
@@ -76,11 +70,11 @@ link-passes d t =
     (carries-passes (d % 64) (omega arith) (and-left (carries (codeOf (d % 64))) (inGrid (ownerCell d)) t))
 
 pub idle-link : (d : ℕ) → T (idle (d % 64)) → T (not (isLinkDart d))
-unfolding isLinkDart
+unfolding isLinkDart idle
 idle-link d t = not-left (carries (codeOf (d % 64))) (inGrid (ownerCell d)) (and-left (not (carries (codeOf (d % 64)))) (not (isPassage (codeOf (d % 64)))) t)
 
 pub idle-pass : (d : ℕ) → T (idle (d % 64)) → T (not (isPassDart d))
-unfolding isPassDart
+unfolding isPassDart idle
 idle-pass d t = not-left (isPassage (codeOf (d % 64))) (inGrid (d / 64)) (and-right (not (carries (codeOf (d % 64)))) (not (isPassage (codeOf (d % 64)))) t)
 
 -- ---- what a record has on a dart

@@ -2,17 +2,16 @@
 -- the table is read off the step's kind and direction, its cell off the step's cell. Assumes nothing.
 use mathlib.Core.Path.{_≡_, refl, sym, ap, _∙_}
 use mathlib.Core.Bool.{Bool, true, false, not, _&&_, _||_, Bool·beq}
-use mathlib.Core.List.{[], _∷_}
 use Prim.Native.Nat.{ℕ, _+_, _-_, _*_, _/_, _%_, _<_}
 use native.Mathlib.Omega.{arith}
 use lib.Dec.{T, eqb, eqb→eq, leb, ltb, ltb→lt, le→leb, lt→ltb, lit<}
 use lib.ListN.{getD}
-use Rattle.sums.specs.Tests.{if-so, and-left, and-right, and-both}
+use Rattle.sums.specs.Tests.{if-so, and-left, and-right, and-both, below, below-at}
 use Rattle.model.specs.Links.{north, east, south, west, LinkKind, northSide, westSide, corner, spoke, leg, link, linkCode, Step, turn}
 use Rattle.model.specs.Record.{kinds}
-use Rattle.channel.specs.Table.{links, signs, codes, kindOf, ownerOf, signOf, codeOf}
-use Rattle.channel.specs.Map.{darts, inGrid, rowOf, columnOf, rev, ownerCell, stepOf, carries, isLinkDart}
-use Rattle.channel.specs.Map.Rows.{all, all-at, same-test, owner-le}
+use Rattle.channel.specs.Map.{darts, inGrid, rowOf, columnOf, rev, ownerCell, stepOf, carries, isLinkDart, links, signs, codes, kindOf, ownerOf, signOf, codeOf, seatOf, dartOf}
+use Rattle.channel.specs.Map.Bools.{same-test}
+use Rattle.channel.specs.Map.Rows.{owner-le}
 use Rattle.channel.specs.Map.Back.{grid-at, owner-law, link-stored, stored-turned, rev<}
 
 -- ---- cells
@@ -64,15 +63,6 @@ dart-at d y i r c (e, l, o, a, b) t =
 
 -- ---- the row of a step
 
--- by the number of the link's kind and the direction
-unfoldable pub seatOf : ℕ → Bool → ℕ
-seatOf k true = getD (16 ∷ 24 ∷ 17 ∷ 25 ∷ 33 ∷ 41 ∷ 56 ∷ 57 ∷ 58 ∷ 59 ∷ 8 ∷ 9 ∷ 10 ∷ 11 ∷ []) k 0
-seatOf k false = getD (32 ∷ 40 ∷ 27 ∷ 35 ∷ 43 ∷ 19 ∷ 18 ∷ 26 ∷ 34 ∷ 42 ∷ 44 ∷ 20 ∷ 28 ∷ 36 ∷ []) k 0
-
-unfoldable pub dartOf : Step → ℕ
-dartOf s =
-    64 * (41 + 40 * s .link .row + s .link .column - ownerOf (seatOf (linkCode (s .link .kind)) (s .forth))) + seatOf (linkCode (s .link .kind)) (s .forth)
-
 -- the 14 kinds and their numbers
 pub kind-code : (k : LinkKind) → (linkCode k < 14) × (getD kinds (linkCode k) northSide ≡ k)
 kind-code northSide = (lit< tt, refl)
@@ -91,33 +81,33 @@ kind-code (leg south) = (lit< tt, refl)
 kind-code (leg west) = (lit< tt, refl)
 
 -- a test of every kind in both directions
-all-seats : (p : ℕ → Bool → Bool) → T (all 14 (λ n. p n true && p n false)) → (n : ℕ) → n < 14 → (f : Bool) → T (p n f)
-all-seats p t n l true = and-left (p n true) (p n false) (all-at 14 (λ n. p n true && p n false) t n l)
-all-seats p t n l false = and-right (p n true) (p n false) (all-at 14 (λ n. p n true && p n false) t n l)
+all-seats : (p : ℕ → Bool → Bool) → T (below 14 (λ n. p n true && p n false)) → (n : ℕ) → n < 14 → (f : Bool) → T (p n f)
+all-seats p t n l true = and-left (p n true) (p n false) (below-at 14 (λ n. p n true && p n false) t n l)
+all-seats p t n l false = and-right (p n true) (p n false) (below-at 14 (λ n. p n true && p n false) t n l)
 
 module _ (n : ℕ) (l : n < 14) (f : Bool) where
   seat< : seatOf n f < 64
-  unfolding all seatOf
+  unfolding below seatOf
   seat< = ltb→lt _ _ (all-seats (λ n f. ltb (seatOf n f) 64) tt n l f)
 
   seat-carries : T (carries (codeOf (seatOf n f)))
-  unfolding all seatOf carries codeOf codes
+  unfolding below seatOf carries codeOf codes
   seat-carries = all-seats (λ n f. carries (codeOf (seatOf n f))) tt n l f
 
   seat-kind : kindOf (seatOf n f) ≡ n
-  unfolding all seatOf kindOf links
+  unfolding below seatOf kindOf links
   seat-kind = eqb→eq _ _ (all-seats (λ n f. eqb (kindOf (seatOf n f)) n) tt n l f)
 
   seat-sign : eqb (signOf (seatOf n f)) 0 ≡ f
-  unfolding all seatOf signOf signs
+  unfolding below seatOf signOf signs
   seat-sign = same-test _ _ (all-seats (λ n f. Bool·beq (eqb (signOf (seatOf n f)) 0) f) tt n l f)
 
 -- the row of a row's step is the row
 row-seat : (i : ℕ) → i < 64 → T (carries (codeOf i)) → seatOf (linkCode (getD kinds (kindOf i) northSide)) (eqb (signOf i) 0) ≡ i
-unfolding all seatOf kindOf links signOf signs codeOf codes carries
+unfolding below seatOf kindOf links signOf signs codeOf codes carries
 row-seat i l c =
     eqb→eq _ _ (if-so (carries (codeOf i)) _
-    (all-at 64 (λ i. not (carries (codeOf i)) || eqb (seatOf (linkCode (getD kinds (kindOf i) northSide)) (eqb (signOf i) 0)) i) tt i l) c)
+    (below-at 64 (λ i. not (carries (codeOf i)) || eqb (seatOf (linkCode (getD kinds (kindOf i) northSide)) (eqb (signOf i) 0)) i) tt i l) c)
 
 -- ---- there and back
 

@@ -1,7 +1,7 @@
 -- The two ends of a dart that carries a load: it leaves from the exit of its step's tail, by the step's slot there, and leads to the entry of its
 -- step's head, or to a spot of a cell that is no tile. One clause for each kind, direction and rim, by the dart's cell and row. Assumes nothing.
 use mathlib.Core.Path.{_≡_, refl, sym, ap}
-use mathlib.Core.Logic.{_⊎_, inl, inr}
+use mathlib.Core.Logic.{inl, inr}
 use mathlib.Core.Bool.{Bool, true, false, not, _&&_}
 use mathlib.Core.Option.{some}
 use Prim.Native.Nat.{ℕ, zero, suc, _+_, _*_, _/_, _%_, _≤_, _<_}
@@ -13,12 +13,10 @@ use Rattle.model.specs.Job.{Job, isTile}
 use Rattle.model.specs.Links.{Compass, north, east, south, west, compassCode, pin, missing, side, Place, at, theOutside, isPlace}
 use Rattle.model.specs.Links.{LinkKind, northSide, westSide, corner, spoke, leg, link, beside, pinAt, behindOf, aheadOf}
 use Rattle.model.specs.Links.{Step, head, tail, isEntered, around}
-use Rattle.model.specs.Near.{spot, entryOf, exitOf, entry, exit}
-use Rattle.channel.specs.Table.{turns, owners, turnOf, ownerOf}
-use Rattle.channel.specs.Map.{inGrid, rowOf, columnOf, ahead, rev, outside}
-use Rattle.channel.specs.Map.Rows.{backRow}
+use Rattle.model.specs.Near.{spot, entryOf, exitOf, exit}
+use Rattle.channel.specs.Map.{inGrid, rowOf, columnOf, ahead, rev, outside, turns, owners, turnOf, ownerOf, backRow, dartOf, seatOf, EndsAt}
 use Rattle.channel.specs.Map.Back.{grid-at, rev-over}
-use Rattle.channel.specs.Map.Darts.{cell-row, cell-column, dartOf, seatOf}
+use Rattle.channel.specs.Map.Darts.{cell-row, cell-column}
 
 abbrev step : LinkKind → Bool → ℕ → ℕ → Step
 step k f r c = record { link = link k r c; forth = f }
@@ -92,10 +90,6 @@ leaves J (leg west) false (suc r) (suc c) t = leaves-by (41 + 40 * r + c) 36 (om
 
 -- ---- heads
 
--- the dart leads to the place's entry, or outside
-abbrev pub Arrives : Job → ℕ → Place → Type 0
-Arrives J d p = (T (isPlace J p) × (entry p ≡ rev d / 8)) ⊎ ((p ≡ theOutside) × T (outside J (rev d / 8)))
-
 -- the spot that a dart at the row i leads to, in the cell z
 pub rev-spot : (d i z : ℕ) → (d % 64 ≡ i) × (64 * z + backRow i + 2688 ≡ d + turnOf i) × (z < 1641) → rev d / 8 ≡ 8 * z + backRow i / 8
 unfolding backRow ahead
@@ -123,12 +117,12 @@ module _ (J : Job) where
 
   -- the place beside a tile, or the outside where no tile is
   beside-arrives : (d : ℕ) (w : Compass) (r c : ℕ) → c < 40 → rev d / 8 ≡ spot (2 + compassCode w) r c → T (isEntered J (beside J w r c))
-      → Arrives J d (beside J w r c)
-  unfolding entryOf
+      → EndsAt J (beside J w r c) (rev d / 8)
+  unfolding entryOf EndsAt
   beside-arrives d w r c b e m = by (isTile J r c) refl m
     where
       by : (t : Bool) → isTile J r c ≡ t → T (isEntered J (elim t [ true ↦ at (side w) r c | false ↦ theOutside ]))
-          → Arrives J d (elim t [ true ↦ at (side w) r c | false ↦ theOutside ])
+          → EndsAt J (elim t [ true ↦ at (side w) r c | false ↦ theOutside ]) (rev d / 8)
       by true q m = inl (m, sym e)
       by false q m =
           inr (
@@ -138,12 +132,12 @@ module _ (J : Job) where
           )
 
   -- a missing pin; a chosen one is not entered
-  pin-arrives : (d r c : ℕ) → rev d / 8 ≡ spot 0 r c → T (isEntered J (pinAt J r c)) → Arrives J d (pinAt J r c)
-  unfolding entryOf
+  pin-arrives : (d r c : ℕ) → rev d / 8 ≡ spot 0 r c → T (isEntered J (pinAt J r c)) → EndsAt J (pinAt J r c) (rev d / 8)
+  unfolding entryOf EndsAt
   pin-arrives d r c e m = by (eqb (J .mark r c) 2) m
     where
       by : (t : Bool) → T (isEntered J (elim t [ true ↦ at missing r c | false ↦ at pin r c ]))
-          → Arrives J d (elim t [ true ↦ at missing r c | false ↦ at pin r c ])
+          → EndsAt J (elim t [ true ↦ at missing r c | false ↦ at pin r c ]) (rev d / 8)
       by true m = inl (m, sym e)
       by false m = absurd m
 
@@ -158,8 +152,8 @@ module _ (J : Job) where
       omega (arith, ltb→lt (suc (columnOf z)) (J .columns) (and-right (ltb (suc (rowOf z)) (J .rows)) (ltb (suc (columnOf z)) (J .columns)) t))
 
 pub arrives : (J : Job) → J .columns ≤ 40 → (k : LinkKind) (f : Bool) (r c : ℕ) → r < 40 → c < 40 → T (isEntered J (head J (step k f r c)))
-    → Arrives J (dartOf (step k f r c)) (head J (step k f r c))
-unfolding head behindOf aheadOf entryOf dartOf seatOf ownerOf owners backRow turnOf turns
+    → EndsAt J (head J (step k f r c)) (rev (dartOf (step k f r c)) / 8)
+unfolding head behindOf aheadOf entryOf dartOf seatOf ownerOf owners backRow turnOf turns EndsAt
 arrives J k northSide true zero c a b m = inr (refl, outside-at J _ (1 + c) south (rev-spot _ 16 (1 + c) (omega arith)) (north-rim J (1 + c) (omega arith)))
 arrives J k northSide true (suc r) c a b m = inl (m, sym (rev-spot _ 16 (41 + 40 * r + c) (omega arith)))
 arrives J k northSide false r c a b m = beside-arrives J _ north r c b (rev-spot _ 32 (41 + 40 * r + c) (omega arith)) m

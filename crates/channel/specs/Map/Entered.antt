@@ -3,7 +3,7 @@
 use mathlib.Core.Path.{_≡_, refl, sym, ap, ap₂, subst, _∙_}
 use mathlib.Core.Logic.{_≢_, inl, inr}
 use mathlib.Core.Bool.{Bool, true, false, not, _||_}
-use mathlib.Core.List.{List, [], _∷_}
+use mathlib.Core.List.{List, [], _∷_, map}
 use mathlib.Core.Option.{Option, none, some}
 use Prim.Native.Nat.{ℕ, zero, suc, _+_, _-_, _*_, _/_, _%_, _≤_, _<_}
 use native.Mathlib.Omega.{arith}
@@ -11,7 +11,7 @@ use borrow.Author.Tests.{le-leb, lt-leb}
 use lib.Dec.{T, eqb, eqb→eq, leb, leb→le, ltb, ltb→lt}
 use lib.ListN.{length, getD, getElem?}
 use Rattle.sums.specs.Counting.{when}
-use Rattle.sums.specs.Tests.{and-left, so, if-so}
+use Rattle.sums.specs.Tests.{and-left, so, if-so, below, below-at}
 use Rattle.sums.specs.Entries.{entry-there}
 use Rattle.model.specs.Job.{Job, arrayFits, isTile}
 use Rattle.model.specs.Links.{Compass, north, east, south, west, clockwise, compassCode, PlaceKind, pin, missing, centre, nowhere, side}
@@ -21,14 +21,11 @@ use Rattle.model.specs.Links.{Step, turn, head, tail, may, isEntered, around, a
 use Rattle.model.specs.Near.{spot, entryOf, exitOf, entry, exit}
 use Rattle.model.specs.Record.{kinds, load}
 use Rattle.model.proofs.Listed.{may-leaves, may-enters}
-use Rattle.channel.specs.Table.{links, owners, signs, codes, kindOf, ownerOf, signOf, codeOf}
-use Rattle.channel.specs.Map.{darts, inGrid, rowOf, columnOf, rev, ownerCell, stepOf, carries, isStored, isLinkDart, outside, opposed}
-use Rattle.channel.specs.Map.Rows.{all, all-at}
+use Rattle.channel.specs.Map.{darts, inGrid, rowOf, columnOf, rev, ownerCell, stepOf, carries, isStored, isLinkDart, EndsAt, outside, opposed, links, owners, signs, codes, kindOf, ownerOf, signOf, codeOf, seatOf, dartOf}
 use Rattle.channel.specs.Map.Back.{owner-law, link-stored, stored-turned}
-use Rattle.channel.specs.Map.Darts.{seatOf, dartOf, dart-step, step-grid, cell-row, cell-column, grid-cell}
+use Rattle.channel.specs.Map.Darts.{dart-step, step-grid, cell-row, cell-column, grid-cell}
 use Rattle.channel.specs.Map.Ends.{leaves}
 use Rattle.channel.specs.Map.Spots.{held-grid, spot-inside}
-use Rattle.channel.specs.Map.Taken.{Ends}
 use Rattle.channel.specs.Map.Steps.{slot-step, link-tail, link-head}
 use Rattle.channel.specs.Map.Places.{side-kind, pin-by}
 use Rattle.channel.specs.Map.Pushed.{grid-turn, turn-turn}
@@ -45,7 +42,7 @@ moved false true b = b - 3
 moved false false b = b
 
 -- the dart of the same step that leaves an exit
-unfoldable pub fromExit : ℕ → ℕ
+pub fromExit : ℕ → ℕ
 fromExit b = moved (eqb (b / 8 % 8) 0 || eqb (b / 8 % 8) 6) (leb 5 (b % 8)) b
 
 module _ (b : ℕ) where
@@ -78,15 +75,15 @@ exit-row b =
 -- the row of a stored row's step, and its owner
 module _ (i : ℕ) (l : i < 64) (s : T (isStored (codeOf i))) where
   row-exit : seatOf (linkCode (getD kinds (kindOf i) northSide)) (eqb (signOf i) 0) ≡ fromExit i
-  unfolding all seatOf kindOf links signOf signs codeOf codes isStored fromExit
+  unfolding below seatOf kindOf links signOf signs codeOf codes isStored fromExit
   row-exit =
       eqb→eq _ _ (if-so (isStored (codeOf i)) _
-      (all-at 64 (λ i. not (isStored (codeOf i)) || eqb (seatOf (linkCode (getD kinds (kindOf i) northSide)) (eqb (signOf i) 0)) (fromExit i)) tt i l) s)
+      (below-at 64 (λ i. not (isStored (codeOf i)) || eqb (seatOf (linkCode (getD kinds (kindOf i) northSide)) (eqb (signOf i) 0)) (fromExit i)) tt i l) s)
 
   exit-owner : ownerOf (fromExit i) ≡ ownerOf i
-  unfolding all ownerOf owners codeOf codes isStored fromExit
+  unfolding below ownerOf owners codeOf codes isStored fromExit
   exit-owner =
-      eqb→eq _ _ (if-so (isStored (codeOf i)) _ (all-at 64 (λ i. not (isStored (codeOf i)) || eqb (ownerOf (fromExit i)) (ownerOf i)) tt i l) s)
+      eqb→eq _ _ (if-so (isStored (codeOf i)) _ (below-at 64 (λ i. not (isStored (codeOf i)) || eqb (ownerOf (fromExit i)) (ownerOf i)) tt i l) s)
 
 -- the dart of a stored dart's step
 stored-dart : (b : ℕ) → T (isStored (codeOf (b % 64))) → T (inGrid (ownerCell b)) → dartOf (stepOf b) ≡ fromExit b
@@ -110,17 +107,17 @@ back-range d t = dart-step (turn (stepOf d)) (grid-turn (step-grid d (link-store
 -- ---- the slots of a place's exit
 
 -- the rows of the spots of kind q that carry a load have a slot below n
-below-slots : (q n : ℕ) → T (all 8 (λ k. not (carries (codeOf (8 * q + k))) || ltb k n))
+below-slots : (q n : ℕ) → T (below 8 (λ k. not (carries (codeOf (8 * q + k))) || ltb k n))
     → (d r c k : ℕ) → d ≡ 8 * spot q r c + k → q < 8 → k < 8 → T (isLinkDart d) → k < n
 unfolding isLinkDart
 below-slots q n a d r c k e h l t =
     let i : d % 64 ≡ 8 * q + k = omega arith in
     ltb→lt k n
-    (if-so (carries (codeOf (8 * q + k))) (ltb k n) (all-at 8 (λ k. not (carries (codeOf (8 * q + k))) || ltb k n) a k l)
+    (if-so (carries (codeOf (8 * q + k))) (ltb k n) (below-at 8 (λ k. not (carries (codeOf (8 * q + k))) || ltb k n) a k l)
     (subst (λ (j : ℕ). T (carries (codeOf j))) i (and-left (carries (codeOf (d % 64))) (inGrid (ownerCell d)) t)))
 
 kind-slots : (J : Job) (p : PlaceKind) (r c k : ℕ) → T (holds J p r c) → k < 8 → T (isLinkDart (8 * exitOf p r c + k)) → k < length (aroundOf p r c)
-unfolding all codeOf codes carries exitOf
+unfolding below codeOf codes carries exitOf
 kind-slots J pin r c k h l t = below-slots 1 4 tt _ r c k refl (omega arith) l t
 kind-slots J missing r c k h l t = below-slots 1 4 tt _ r c k refl (omega arith) l t
 kind-slots J centre r c k h l t = below-slots 7 4 tt _ r c k refl (omega arith) l t
@@ -156,8 +153,22 @@ column-is x = refl
 
 -- ---- the kind of a place, by that of its spot
 
-unfoldable pub kindAt : ℕ → PlaceKind
-kindAt k = getD (missing ∷ pin ∷ side north ∷ side east ∷ side south ∷ side west ∷ centre ∷ centre ∷ []) k nowhere
+abbrev spotKinds : List PlaceKind
+spotKinds = missing ∷ pin ∷ side north ∷ side east ∷ side south ∷ side west ∷ centre ∷ centre ∷ []
+
+pub kindAt : ℕ → PlaceKind
+kindAt k = getD spotKinds k nowhere
+
+-- what goes by the kind of a place, by that of its spot
+pub by-kind : {A : Type 0} (f : PlaceKind → A) (k : ℕ)
+    → getD (f missing ∷ f pin ∷ f (side north) ∷ f (side east) ∷ f (side south) ∷ f (side west) ∷ f centre ∷ f centre ∷ []) k (f nowhere) ≡ f (kindAt k)
+unfolding kindAt
+by-kind f k = by f spotKinds k
+  where
+    by : {A : Type 0} (f : PlaceKind → A) (l : List PlaceKind) (k : ℕ) → getD (map f l) k (f nowhere) ≡ f (getD l k nowhere)
+    by f [] k = refl
+    by f (x ∷ l) zero = refl
+    by f (x ∷ l) (suc k) = by f l k
 
 -- the kind, the cell's row and its column, of a spot of kind q
 pub record Named (u : ℕ) (p : PlaceKind) (r c : ℕ) : Type 0 where
@@ -255,17 +266,19 @@ module _ (J : Job) (fits : T (arrayFits (J .rows) (J .columns))) where
 
   module _ (d : ℕ) (l : d < darts) (t : T (isLinkDart d)) (m : T (may J (stepOf d))) where
     pub comes-outside : outside J (rev d / 8) ≡ true → head J (stepOf d) ≡ theOutside
+    unfolding EndsAt
     comes-outside e = by (link-head J fits d l t m)
       where
-        by : Ends J (head J (stepOf d)) (rev d / 8)
+        by : EndsAt J (head J (stepOf d)) (rev d / 8)
             → head J (stepOf d) ≡ theOutside
         by (inl (p, q)) = absurd (spot-inside J fits (rev d / 8) (head J (stepOf d), p, inl (sym q)) (so e))
         by (inr (p, q)) = p
 
     pub comes-inside : outside J (rev d / 8) ≡ false → T (isPlace J (head J (stepOf d))) × (entry (head J (stepOf d)) ≡ rev d / 8)
+    unfolding EndsAt
     comes-inside e = by (link-head J fits d l t m)
       where
-        by : Ends J (head J (stepOf d)) (rev d / 8)
+        by : EndsAt J (head J (stepOf d)) (rev d / 8)
             → T (isPlace J (head J (stepOf d))) × (entry (head J (stepOf d)) ≡ rev d / 8)
         by (inl (p, q)) = (p, q)
         by (inr (p, q)) = absurd (subst T e q)

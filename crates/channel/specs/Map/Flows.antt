@@ -18,7 +18,7 @@ use Rattle.model.specs.Loads.{departures, arrivals, Feasible}
 use Rattle.model.specs.Record.{load}
 use Rattle.model.specs.Route.{chosenCount}
 use Rattle.model.specs.Wires.{isWired, wireCount}
-use Rattle.channel.specs.Table.{owners, ownerOf, codeOf}
+use Rattle.channel.specs.Map.{owners, ownerOf, codeOf}
 use Rattle.channel.specs.Map.{spots, darts, inGrid, rowOf, columnOf, stepOf, isLinkDart, isPassDart, passedOf, cap, free, want, outside, view, isStart, starts}
 use Rattle.channel.specs.Map.Back.{Less, less, most, less?, grid-at}
 use Rattle.channel.specs.Map.Darts.{cell-row, cell-column, grid-cell}

@@ -14,13 +14,12 @@ use Rattle.model.specs.Job.{Job}
 use Rattle.model.specs.Links.{northSide, link, Step, turn}
 use Rattle.model.specs.Record.{kinds}
 use lib.ListN.{getD}
-use Rattle.channel.specs.Table.{turns, links, owners, signs, codes, turnOf, kindOf, ownerOf, signOf, codeOf}
+use Rattle.channel.specs.Map.{turns, links, owners, signs, codes, turnOf, kindOf, ownerOf, signOf, codeOf, backRow, dartOf, idle}
 use Rattle.channel.specs.Map.{spots, darts, inGrid, rowOf, columnOf, ahead, rev, ownerCell, stepOf, carries, isStored, isPassage, isLinkDart, isPassDart}
-use Rattle.channel.specs.Map.Rows.{all, all-at, backRow}
+use Rattle.sums.specs.Tests.{below as all, below-at as all-at}
 use Rattle.channel.specs.Map.Back.{rev<, rev-over, link-stored}
-use Rattle.channel.specs.Map.Darts.{dartOf}
 use Rattle.channel.specs.Map.Network.{net}
-use Rattle.channel.specs.Map.Carry.{idle, idle-link, idle-pass, back-link, back-idle}
+use Rattle.channel.specs.Map.Carry.{idle-link, idle-pass, back-link, back-idle}
 
 -- ---- rows
 
@@ -124,7 +123,7 @@ module _ (g : ℕ → ℕ) (quiet : Quiet g) where
       test k p t = all-at 4 (λ i. p (16 + 8 * i + k)) t j b
 
       pub side-out : out (net J) g u ≡ sum 5 (λ k. g (8 * u + k))
-      unfolding sum all codeOf codes carries isPassage
+      unfolding sum all codeOf codes carries isPassage idle
       side-out =
           omega (
             arith,
@@ -141,7 +140,7 @@ module _ (g : ℕ → ℕ) (quiet : Quiet g) where
           (omega arith) (slots h n)
 
       pub side-back : out (net J) (back (net J) g) u ≡ sum 5 (λ k. g (dartOf (turn (stepOf (8 * u + k)))))
-      unfolding sum all mirrors twin still backRow turnOf turns kindOf links ownerOf owners signOf signs codeOf codes carries isStored isPassage
+      unfolding sum all mirrors twin still backRow turnOf turns kindOf links ownerOf owners signOf signs codeOf codes carries isStored isPassage idle
       side-back =
           omega (
             arith,
@@ -180,7 +179,7 @@ module _ (g : ℕ → ℕ) (quiet : Quiet g) where
       exit-still k l t = still-at (8 * (u + 1) + k) _ (exit-row k l) (pair-test (8 + k) still t) (omega arith)
 
       pub exit-out : out (net J) g (u + 1) ≡ sum 4 (λ k. g (8 * (u + 1) + k))
-      unfolding sum all codeOf codes carries isPassage
+      unfolding sum all codeOf codes carries isPassage idle
       exit-out =
           omega (
             arith,
@@ -192,7 +191,7 @@ module _ (g : ℕ → ℕ) (quiet : Quiet g) where
           )
 
       pub entry-out : out (net J) g u ≡ g (8 * u + 4)
-      unfolding sum all codeOf codes carries isPassage
+      unfolding sum all codeOf codes carries isPassage idle
       entry-out =
           omega (
             arith,
@@ -230,7 +229,7 @@ module _ (g : ℕ → ℕ) (quiet : Quiet g) where
           (all-at 2 (λ i. mirrors (48 * i + k) (48 * i + (8 + k))) t j b) (omega arith) (slots k l)
 
       pub exit-back : out (net J) (back (net J) g) (u + 1) ≡ g (8 * u + 4)
-      unfolding sum all still backRow turnOf turns codeOf codes carries isPassage
+      unfolding sum all still backRow turnOf turns codeOf codes carries isPassage idle
       exit-back =
           omega (
             arith,
@@ -246,7 +245,7 @@ module _ (g : ℕ → ℕ) (quiet : Quiet g) where
           )
 
       pub entry-back : out (net J) (back (net J) g) u ≡ sum 4 (λ k. g (dartOf (turn (stepOf (8 * (u + 1) + k)))))
-      unfolding sum all mirrors twin still backRow turnOf turns kindOf links ownerOf owners signOf signs codeOf codes carries isStored isPassage
+      unfolding sum all mirrors twin still backRow turnOf turns kindOf links ownerOf owners signOf signs codeOf codes carries isStored isPassage idle
       entry-back =
           omega (
             arith,

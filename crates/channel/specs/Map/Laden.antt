@@ -11,11 +11,9 @@ use lib.ListN.{getD}
 use Rattle.sums.specs.Counting.{when}
 use Rattle.sums.specs.Tests.{and-left, and-right, and-both, both-ways}
 use Rattle.model.specs.Record.{forthPart, backPart}
-use Rattle.channel.specs.Table.{kindOf, ownerOf, signOf, codeOf}
-use Rattle.channel.specs.Map.{inGrid, carries, isPassage, isPassDart, view}
+use Rattle.channel.specs.Map.{inGrid, carries, isPassage, isPassDart, view, kindOf, ownerOf, signOf, codeOf, placeOf}
 use Rattle.channel.specs.Map.Bounds.{kind-bound, owner-bound, sign-bound, code-bound}
 use Rattle.channel.specs.Map.Bytes.{kept-in, along-forth, along-back, carries-no-pass, view-link, view-none}
-use Rattle.channel.specs.Map.Packed.{placeOf}
 
 -- ---- tests of a load
 

@@ -13,8 +13,7 @@ use Rattle.model.specs.Job.{Job, isTile, isChosen}
 use Rattle.model.specs.Links.{pin, at}
 use Rattle.model.specs.Loads.{departures}
 use Rattle.model.specs.Record.{load}
-use Rattle.channel.specs.Table.{kindOf, ownerOf, signOf, codeOf}
-use Rattle.channel.specs.Map.{inGrid, rowOf, columnOf, ownerCell, isStored, isStart, outside, starts, bump, address, laid}
+use Rattle.channel.specs.Map.{inGrid, rowOf, columnOf, ownerCell, isStored, isStart, outside, starts, bump, address, laid, kindOf, ownerOf, signOf, codeOf}
 use Rattle.channel.specs.Map.Bools.{if-true, if-false}
 use Rattle.channel.specs.Map.Grid.{grid-bounds}
 use Rattle.channel.specs.Map.Bytes.{owner-is, address-is}

@@ -9,7 +9,7 @@ use native.Mathlib.Nat.{eq-zero-or-pos}
 use native.Mathlib.Omega.{arith}
 use lib.Dec.{T, eqb, eqb→eq, ltb, ltb→lt, not-T, T-not}
 use Rattle.sums.specs.Counting.{when}
-use Rattle.sums.specs.Tests.{Same, same, other, same?, and-left, and-right, if-so, or-by, so, so-not}
+use Rattle.sums.specs.Tests.{Same, same, other, same?, and-left, and-right, if-so, or-by, so, so-not, below, below-at}
 use Rattle.sums.specs.Sums.{when-same, when-le, when-none, sum-le, sum-pick}
 use Rattle.flow.specs.Balance.{out}
 use Rattle.flow.specs.Flow.{Flow}
@@ -18,10 +18,9 @@ use Rattle.model.specs.Links.{missing, centre, at, isPlace, may, limit, pass}
 use Rattle.model.specs.Near.{size, exitOf, exit}
 use Rattle.model.specs.Loads.{arrivals, Feasible}
 use Rattle.model.specs.Record.{load}
-use Rattle.channel.specs.Table.{codes, codeOf}
+use Rattle.channel.specs.Map.{codes, codeOf}
 use Rattle.channel.specs.Map.{darts, inGrid, rowOf, columnOf, ownerCell, rev, stepOf, carries, isPassage, isLinkDart, isPassDart, passedOf}
 use Rattle.channel.specs.Map.{cap, free, outside, view, starts}
-use Rattle.channel.specs.Map.Rows.{all, all-at}
 use Rattle.channel.specs.Map.Back.{rev<, rev-rev, link-stored}
 use Rattle.channel.specs.Map.Darts.{step-grid, step-dart}
 use Rattle.channel.specs.Map.Passes.{passage-row, pass-ends}
@@ -44,9 +43,9 @@ pass-slot d t = by (eqb (d % 64) 4) (same? (d % 64) 4) (passage-row (d % 64) (om
 
 -- no link dart starts at such a spot
 link-row : (i : ℕ) → i < 64 → T (carries (codeOf i)) → T (ltb 7 i && (ltb i 48 || ltb 55 i))
-unfolding all carries codeOf codes
+unfolding below carries codeOf codes
 link-row i l =
-    if-so (carries (codeOf i)) (ltb 7 i && (ltb i 48 || ltb 55 i)) (all-at 64 (λ i. not (carries (codeOf i)) || (ltb 7 i && (ltb i 48 || ltb 55 i))) tt i l)
+    if-so (carries (codeOf i)) (ltb 7 i && (ltb i 48 || ltb 55 i)) (below-at 64 (λ i. not (carries (codeOf i)) || (ltb 7 i && (ltb i 48 || ltb 55 i))) tt i l)
 
 link-slot : (d : ℕ) → T (isLinkDart d) → (7 < d % 64) × ((d % 64 < 48) ⊎ (55 < d % 64))
 unfolding isLinkDart

@@ -20,9 +20,8 @@ use Rattle.model.specs.Near.{spot, entryOf, exitOf, entry, exit}
 use Rattle.model.specs.Loads.{arrivals, Feasible, Trail}
 use Rattle.model.specs.Record.{load}
 use Rattle.model.proofs.Listed.{step-listed, may-leaves}
-use Rattle.channel.specs.Table.{codeOf}
-use Rattle.channel.specs.Map.{darts, rowOf, columnOf, rev, stepOf, isLinkDart, isPassDart, passedOf, outside, view}
-use Rattle.channel.specs.Map.Darts.{OnGrid, dartOf, dart-step, cell-row, cell-column}
+use Rattle.channel.specs.Map.{darts, rowOf, columnOf, rev, stepOf, isLinkDart, isPassDart, passedOf, outside, view, codeOf, dartOf}
+use Rattle.channel.specs.Map.Darts.{OnGrid, dart-step, cell-row, cell-column}
 use Rattle.channel.specs.Map.Network.{net}
 use Rattle.channel.specs.Map.Steps.{link-tail, link-head, place-pass, pass-ends}
 use Rattle.channel.specs.Map.Stores.{grid?}

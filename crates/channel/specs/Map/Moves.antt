@@ -21,11 +21,11 @@ use Rattle.model.specs.Near.{size, entryOf, exitOf, entry, exit}
 use Rattle.model.specs.Loads.{arrivals, departures, Feasible}
 use Rattle.model.specs.Record.{load}
 use Rattle.model.proofs.Listed.{step-listed, may-leaves, may-enters}
-use Rattle.channel.specs.Table.{codeOf}
+use Rattle.channel.specs.Map.{codeOf}
 use Rattle.channel.specs.Map.{darts, inGrid, rowOf, columnOf, ownerCell, rev, stepOf, isLinkDart, isPassDart, passedOf, cap, free, opposed, moves, view, outside}
 use Rattle.channel.specs.Map.Back.{rev<, rev-rev}
 use Rattle.channel.specs.Map.Steps.{link-tail, link-head, place-pass, pass-ends, OnGrid, step-grid, dartOf, dart-step}
-pub use Rattle.channel.specs.Map.Spots.{IsSpot}
+use Rattle.model.specs.Near.{IsSpot}
 use Rattle.channel.specs.Map.Limits.{free-link, free-may, free-unlimited}
 use Rattle.channel.specs.Map.Carried.{turn-turn, loaded-may, passed-le}
 use Rattle.channel.specs.Map.Network.{net}

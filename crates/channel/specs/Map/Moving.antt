@@ -8,22 +8,20 @@ use Prim.Native.Nat.{ℕ, zero-le, _+_, _/_, _%_, _≤_, _<_}
 use native.Mathlib.Omega.{arith}
 use borrow.Author.Tests.{eq-eqb, ne-eqb, lt-ltb, le-ltb}
 use lib.Dec.{T, eqb, eqb→eq, ltb, ltb→lt, lt→ltb}
-use lib.ListN.{getD}
 use Rattle.sums.specs.Counting.{when}
-use Rattle.sums.specs.Tests.{so, so-not, both-ways, and-left, and-both}
+use Rattle.sums.specs.Tests.{so, so-not, both-ways, and-left, and-both, below, below-at}
 use Rattle.model.specs.Job.{Job, isOpen, isMissing, centreLimit}
 use Rattle.model.specs.Links.{missing, centre, at, Step, turn}
 use Rattle.model.specs.Loads.{arrivals}
 use Rattle.model.specs.Record.{load}
-use Rattle.channel.specs.Table.{turns, owners, codes, turnOf, kindOf, ownerOf, signOf, codeOf}
+use Rattle.channel.specs.Map.{turns, owners, codes, turnOf, kindOf, ownerOf, signOf, codeOf, backRow, backCell, backCode, reaches, ownerMark}
 use Rattle.channel.specs.Map.{darts, inGrid, rowOf, columnOf, rev, ownerCell, stepOf, carries, isPassage, isLinkDart, isPassDart, cap, free, view, opposed, moves}
 use Rattle.channel.specs.Map.Bools.{if-so, is-on, is-left, and-true, and-false, and-swap, or-true, or-false}
-use Rattle.channel.specs.Map.Bounds.{all, all-at, code-bound}
+use Rattle.channel.specs.Map.Bounds.{code-bound}
 use Rattle.channel.specs.Map.Packed.{not-least}
 use Rattle.channel.specs.Map.Grid.{grid-bounds}
-use Rattle.channel.specs.Map.Turning.{backRow, backCell, backCodes, back-kind, back-code, back-owner, back-sign, Turn, over, stays, turn?}
+use Rattle.channel.specs.Map.Turning.{back-kind, back-code, back-owner, back-sign, Turn, over, stays, turn?}
 use Rattle.channel.specs.Map.Bytes.{view-link, passed-centre, passed-missing}
-use Rattle.channel.specs.Map.Ways.{reaches, ownerMark}
 use Rattle.channel.specs.Map.Caps.{own-cell, cap-none, free-none, cap-centre, cap-missing, cap-pin, free-pin, cap-into, other-free}
 
 -- ---- along the way back
@@ -31,9 +29,9 @@ use Rattle.channel.specs.Map.Caps.{own-cell, cap-none, free-none, cap-ce
 module _ (rec : List ℕ) where
   -- a dart whose link has no owner on the grid carries nothing
   passage-owner : (i : ℕ) → i < 64 → T (isPassage (codeOf i)) → ownerOf i ≡ 0
-  unfolding all isPassage codeOf codes ownerOf owners
+  unfolding below isPassage codeOf codes ownerOf owners
   passage-owner i l t =
-      eqb→eq _ _ (if-so (isPassage (codeOf i)) (eqb (ownerOf i) 0) (all-at 64 (λ i. not (isPassage (codeOf i)) || eqb (ownerOf i) 0) tt i l) t)
+      eqb→eq _ _ (if-so (isPassage (codeOf i)) (eqb (ownerOf i) 0) (below-at 64 (λ i. not (isPassage (codeOf i)) || eqb (ownerOf i) 0) tt i l) t)
 
   off-pass : (d : ℕ) → inGrid (ownerCell d) ≡ false → isPassDart d ≡ false
   unfolding isPassDart ownerCell
@@ -63,17 +61,17 @@ module _ (rec : List ℕ) where
       let s : eqb (signOf (r % 64)) 0 ≡ not (eqb (signOf (d % 64)) 0) = ap (λ (x : ℕ). eqb (signOf x) 0) e ∙ back-sign (d % 64) (omega arith) n in
       rw (k, o, s)
 
-  code-back : (d r : ℕ) → r % 64 ≡ backRow (d % 64) → codeOf (r % 64) ≡ getD backCodes (codeOf (d % 64)) 0
+  code-back : (d r : ℕ) → r % 64 ≡ backRow (d % 64) → codeOf (r % 64) ≡ backCode (codeOf (d % 64))
   code-back d r e = ap codeOf e ∙ back-code (d % 64) (omega arith)
 
   -- a way back that carries the load of its step
-  back-link : (d c : ℕ) → d < darts → codeOf (d % 64) ≡ c → T (not (eqb c 0)) → carries (getD backCodes c 0) ≡ true → view rec (rev d) ≡ opposed rec d
+  back-link : (d c : ℕ) → d < darts → codeOf (d % 64) ≡ c → T (not (eqb c 0)) → carries (backCode c) ≡ true → view rec (rev d) ≡ opposed rec d
   unfolding opposed
   back-link d c l e n t = by (rev d) (turn? d l)
     where
       by : (r : ℕ) → Turn d r → view rec r ≡ when (inGrid (ownerCell d)) (load rec (turn (stepOf d)))
       by r (over f g) =
-          sym (view-link rec r (ap carries (code-back d r f ∙ ap (λ (x : ℕ). getD backCodes x 0) e) ∙ t))
+          sym (view-link rec r (ap carries (code-back d r f ∙ ap backCode e) ∙ t))
           ∙ ap₂ (λ (o : ℕ) (s : Step). when (inGrid o) (load rec s)) (owner-back d r f g) (step-back d r f g (subst (λ (x : ℕ). T (not (eqb x 0))) (sym e) n))
       by r (stays f) = off-view d f ∙ ap (λ (b : Bool). when b (load rec (turn (stepOf d)))) (sym f)
 
@@ -82,12 +80,12 @@ module _ (rec : List ℕ) where
   unfolding view isLinkDart isPassDart
   none-carried r t p = rw (t, p)
 
-  back-none : (d c : ℕ) → d < darts → codeOf (d % 64) ≡ c → carries (getD backCodes c 0) ≡ false → isPassage (getD backCodes c 0) ≡ false → view rec (rev d) ≡ 0
+  back-none : (d c : ℕ) → d < darts → codeOf (d % 64) ≡ c → carries (backCode c) ≡ false → isPassage (backCode c) ≡ false → view rec (rev d) ≡ 0
   back-none d c l e t p = by (rev d) (turn? d l)
     where
       by : (r : ℕ) → Turn d r → view rec r ≡ 0
       by r (over f g) =
-          let q : codeOf (r % 64) ≡ getD backCodes c 0 = code-back d r f ∙ ap (λ (x : ℕ). getD backCodes x 0) e in
+          let q : codeOf (r % 64) ≡ backCode c = code-back d r f ∙ ap backCode e in
           none-carried r (ap carries q ∙ t) (ap isPassage q ∙ p)
       by r (stays f) = off-view d f
 
@@ -108,19 +106,19 @@ module _ (rec : List ℕ) where
   missing-view d e = rw (e, sym (passed-missing d (λ q. absurd (omega arith)))) (omega arith)
 
   within-cell : (i : ℕ) → i < 64 → T (eqb (codeOf i) 11 || eqb (codeOf i) 14) → backCell i ≡ 42
-  unfolding all backCell turnOf turns codeOf codes
+  unfolding below backCell turnOf turns codeOf codes
   within-cell i l t =
       eqb→eq _ _
       (if-so (eqb (codeOf i) 11 || eqb (codeOf i) 14) (eqb (backCell i) 42)
-      (all-at 64 (λ i. not (eqb (codeOf i) 11 || eqb (codeOf i) 14) || eqb (backCell i) 42) tt i l) t)
+      (below-at 64 (λ i. not (eqb (codeOf i) 11 || eqb (codeOf i) 14) || eqb (backCell i) 42) tt i l) t)
 
   centre-back : (d : ℕ) → d < darts → codeOf (d % 64) ≡ 11 → view rec (rev d) ≡ throughCentreLoad (d / 64)
-  unfolding throughCentreLoad
+  unfolding throughCentreLoad backCode
   centre-back d l e = by (rev d) (turn? d l)
     where
       by : (r : ℕ) → Turn d r → view rec r ≡ throughCentreLoad (d / 64)
       by r (over f g) =
-          let q : codeOf (r % 64) ≡ 5 = code-back d r f ∙ ap (λ (x : ℕ). getD backCodes x 0) e in
+          let q : codeOf (r % 64) ≡ 5 = code-back d r f ∙ ap backCode e in
           let k : backCell (d % 64) ≡ 42 = within-cell (d % 64) (omega arith) (subst (λ (x : ℕ). T (eqb x 11 || eqb x 14)) (sym e) tt) in
           let s : r / 64 ≡ d / 64 = omega arith in
           centre-view r q ∙ ap throughCentreLoad s
@@ -129,12 +127,12 @@ module _ (rec : List ℕ) where
           (sym (ap inGrid (own-cell d 11 e tt)) ∙ f))
 
   missing-back : (d : ℕ) → d < darts → codeOf (d % 64) ≡ 14 → view rec (rev d) ≡ throughMissingLoad (d / 64)
-  unfolding throughMissingLoad
+  unfolding throughMissingLoad backCode
   missing-back d l e = by (rev d) (turn? d l)
     where
       by : (r : ℕ) → Turn d r → view rec r ≡ throughMissingLoad (d / 64)
       by r (over f g) =
-          let q : codeOf (r % 64) ≡ 8 = code-back d r f ∙ ap (λ (x : ℕ). getD backCodes x 0) e in
+          let q : codeOf (r % 64) ≡ 8 = code-back d r f ∙ ap backCode e in
           let k : backCell (d % 64) ≡ 42 = within-cell (d % 64) (omega arith) (subst (λ (x : ℕ). T (eqb x 11 || eqb x 14)) (sym e) tt) in
           let s : r / 64 ≡ d / 64 = omega arith in
           missing-view r q ∙ ap throughMissingLoad s
@@ -188,7 +186,7 @@ module _ (J : Job) (rec : List ℕ) (d : ℕ) (l : d < darts) where
   -- sides and corners
   plain-moves : (codeOf (d % 64) ≡ 1) ⊎ (codeOf (d % 64) ≡ 2)
       → moves J rec d ≡ (ltb (when (inGrid (ownerCell d)) (load rec (stepOf d))) (cap J d) || ltb 0 (opposed rec d))
-  unfolding carries
+  unfolding carries backCode
   plain-moves (inl e) =
       room-moves J rec d (free-none J d (omega arith) (omega arith) (omega arith) (omega arith)) (back-link rec d 1 l e tt refl) (ap carries e)
   plain-moves (inr e) =
@@ -207,14 +205,14 @@ module _ (J : Job) (rec : List ℕ) (d : ℕ) (l : d < darts) where
 
   -- to and from a centre, and to a missing pin
   spoke-moves : (codeOf (d % 64) ≡ 3) ⊎ (codeOf (d % 64) ≡ 4) → moves J rec d ≡ (free J d && eqb (opposed rec d) 0)
-  unfolding carries isPassage
+  unfolding carries isPassage backCode
   spoke-moves (inl e) =
       free-moves J rec d (cap-none J d (omega arith) (omega arith) (omega arith) (omega arith) (omega arith)) (back-none rec d 3 l e refl refl)
   spoke-moves (inr e) =
       free-moves J rec d (cap-none J d (omega arith) (omega arith) (omega arith) (omega arith) (omega arith)) (back-none rec d 4 l e refl refl)
 
   into-moves : codeOf (d % 64) ≡ 6 → moves J rec d ≡ (free J d && eqb (opposed rec d) 0)
-  unfolding carries isPassage
+  unfolding carries isPassage backCode
   into-moves e = free-moves J rec d (cap-into J d e) (back-none rec d 6 l e refl refl)
 
   pub spoke-shut : (codeOf (d % 64) ≡ 3) ⊎ (codeOf (d % 64) ≡ 4) → (a : ℕ) → a ≡ opposed rec d → 0 < a → false ≡ moves J rec d
@@ -238,7 +236,7 @@ module _ (J : Job) (rec : List ℕ) (d : ℕ) (l : d < darts) where
       → moves J rec d
       ≡ (ltb (when (inGrid (ownerCell d)) (load rec (stepOf d))) (when (eqb (ownerMark J d) 1 && reaches J d) 1)
       || ((eqb (ownerMark J d) 2 && reaches J d) && eqb (opposed rec d) 0))
-  unfolding carries isPassage
+  unfolding carries isPassage backCode
   from-pin e =
       pin-moves J rec d (back-none rec d 7 l e refl refl) (ap carries e)
       ∙ ap₂ (λ (n : ℕ) (b : Bool). ltb (when (inGrid (ownerCell d)) (load rec (stepOf d))) n || (b && eqb (opposed rec d) 0)) (cap-pin J d e)
@@ -276,13 +274,13 @@ module _ (J : Job) (rec : List ℕ) (d : ℕ) (l : d < darts) where
   centre-pass : codeOf (d % 64) ≡ 5
       → moves J rec d ≡ ltb (throughCentreLoad rec (d / 64))
       (when (inGrid (d / 64) && isOpen J (rowOf (d / 64)) (columnOf (d / 64))) (centreLimit (J .O) (J .D)))
-  unfolding carries isPassage
+  unfolding carries isPassage backCode
   centre-pass e =
       pass-moves J rec d (back-none rec d 5 l e refl refl) (other-free J d (ap carries e)) ∙ ap₂ ltb (centre-view rec d e) (cap-centre J d e)
 
   missing-pass : codeOf (d % 64) ≡ 8
       → moves J rec d ≡ ltb (throughMissingLoad rec (d / 64)) (when (inGrid (d / 64) && isMissing J (rowOf (d / 64)) (columnOf (d / 64))) (J .E))
-  unfolding carries isPassage
+  unfolding carries isPassage backCode
   missing-pass e =
       pass-moves J rec d (back-none rec d 8 l e refl refl) (other-free J d (ap carries e)) ∙ ap₂ ltb (missing-view rec d e) (cap-missing J d e)
 
@@ -324,12 +322,12 @@ module _ (J : Job) (rec : List ℕ) (d : ℕ) (l : d < darts) where
   unfolding throughMissing
   missing-back-moves e b f = f ∙ sym (high-moves (omega arith) ∙ ap (ltb 0) (missing-back rec d l e))
 
-  back-carries : (c : ℕ) → c < 15 → T (ltb 8 c && (not (eqb c 11) && not (eqb c 14))) → carries (getD backCodes c 0) ≡ true
-  unfolding all carries
+  back-carries : (c : ℕ) → c < 15 → T (ltb 8 c && (not (eqb c 11) && not (eqb c 14))) → carries (backCode c) ≡ true
+  unfolding below carries backCode
   back-carries c m t =
-      is-on (carries (getD backCodes c 0))
-      (if-so (ltb 8 c && (not (eqb c 11) && not (eqb c 14))) (carries (getD backCodes c 0))
-      (all-at 15 (λ c. not (ltb 8 c && (not (eqb c 11) && not (eqb c 14))) || carries (getD backCodes c 0)) tt c m) t)
+      is-on (carries (backCode c))
+      (if-so (ltb 8 c && (not (eqb c 11) && not (eqb c 14))) (carries (backCode c))
+      (below-at 15 (λ c. not (ltb 8 c && (not (eqb c 11) && not (eqb c 14))) || carries (backCode c)) tt c m) t)
 
   pub link-back-moves : 8 < codeOf (d % 64) → codeOf (d % 64) ≢ 11 → codeOf (d % 64) ≢ 14 → (a : ℕ) → a ≡ opposed rec d → ltb 0 a ≡ moves J rec d
   link-back-moves m n p a e =
@@ -342,7 +340,7 @@ module _ (J : Job) (rec : List ℕ) (d : ℕ) (l : d < darts) where
       (back-carries (codeOf (d % 64)) (code-bound (d % 64) (omega arith)) t)))
 
   pub none-moves : codeOf (d % 64) ≡ 0 → false ≡ moves J rec d
-  unfolding carries isPassage
+  unfolding carries isPassage backCode
   none-moves e =
       sym (back-moves J rec d (cap-none J d (omega arith) (omega arith) (omega arith) (omega arith) (omega arith))
       (free-none J d (omega arith) (omega arith) (omega arith) (omega arith))

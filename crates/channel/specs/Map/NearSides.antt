@@ -19,7 +19,8 @@ use Rattle.channel.specs.Map.{spots, darts, rev, stepOf, isLinkDart, isP
 use Rattle.channel.specs.Map.Steps.{link-tail, link-head, pass-ends, dartOf}
 use Rattle.channel.specs.Map.Network.{net}
 use Rattle.channel.specs.Map.Limits.{free-link, free-may, free-unlimited, not-free-limited}
-use Rattle.channel.specs.Map.Taken.{Ends, may-dart}
+use Rattle.channel.specs.Map.{EndsAt}
+use Rattle.channel.specs.Map.Taken.{may-dart}
 use Rattle.channel.specs.Map.Spots.{spot-front, spot-inside}
 use Rattle.channel.specs.Map.Sums.{sum-links, sum-passes, sum-starts}
 
@@ -50,13 +51,14 @@ module _ (J : Job) (fits : T (arrayFits (J .rows) (J .columns))) (S : ℕ → Bo
     zero-far t = omega (arith, spot-front J 0 (of 0 t))
 
     link-leaves : (d : ℕ) → d < darts → T (isLinkDart d) → T (may J (stepOf d)) → netLeaves (net J) S d ≡ crosses (stepOf d)
+    unfolding EndsAt
     link-leaves d l t m =
         ap₂ (λ (a b : Bool). a && not b) (ap S (sym (link-tail J fits d l t m .0))) (by (link-head J fits d l t m))
       where
         s : Step
         s = stepOf d
 
-        by : Ends J (head J s) (rev d / 8) → S (rev d / 8) ≡ S (entry (head J s))
+        by : EndsAt J (head J s) (rev d / 8) → S (rev d / 8) ≡ S (entry (head J s))
         by (inl (p, e)) = ap S (sym e)
         by (inr (e, o)) =
             both-ways (S (rev d / 8)) (S (entry (head J s))) (λ u. absurd (outside-far (rev d / 8) o u))

@@ -10,21 +10,19 @@ use borrow.Author.Tests.{eq-eqb, ne-eqb, lt-ltb, le-ltb, ltb-false}
 use lib.Dec.{T, eqb, leb, ltb, ltb→lt, le→leb}
 use lib.ListN.{getD}
 use Rattle.sums.specs.Counting.{when, total}
-use Rattle.sums.specs.Tests.{and-right, if-so, so}
+use Rattle.sums.specs.Tests.{and-right, if-so, so, below, below-at}
 use Rattle.model.specs.Links.{Compass, north, east, south, west, centre, missing, at, linkCode, spoke, leg, Step, come}
 use Rattle.model.specs.Loads.{arrivals}
 use Rattle.model.specs.Near.{spot, entryOf, entry}
 use Rattle.model.specs.Record.{loadPlane, cell, forthPart, backPart, load}
-use Rattle.channel.specs.Table.{turns, owners, codes, turnOf, ownerOf, codeOf}
-use Rattle.channel.specs.Map.{spots, darts, inGrid, rowOf, columnOf, rev, ownerCell, stepOf, carries, isPassage, isLinkDart, isPassDart, passedOf, view}
+use Rattle.channel.specs.Map.{spots, darts, inGrid, rowOf, columnOf, rev, ownerCell, stepOf, carries, isPassage, isLinkDart, isPassDart, passedOf, view, turns, owners, codes, turnOf, ownerOf, codeOf, backRow, seatOf, dartOf}
 use Rattle.channel.specs.Map.Back.{grid-at}
 use Rattle.channel.specs.Map.Bools.{if-true, if-false}
 use Rattle.channel.specs.Map.Carry.{view-link, view-pass}
-use Rattle.channel.specs.Map.Darts.{OnGrid, step-grid, seatOf, dartOf, kind-code, dart-step, step-dart}
+use Rattle.channel.specs.Map.Darts.{OnGrid, step-grid, kind-code, dart-step, step-dart}
 use Rattle.channel.specs.Map.Ends.{rev-spot}
 use Rattle.channel.specs.Map.Grid.{cell-on}
 use Rattle.channel.specs.Map.Passes.{pass-ends}
-use Rattle.channel.specs.Map.Rows.{all, all-at, backRow}
 
 -- ---- the spot of a load byte
 
@@ -176,10 +174,10 @@ module _ (rec : List ℕ) where
 -- ---- slots
 
 idle-row : (i : ℕ) → i < 64 → T (leb 5 (i % 8)) → T (not (carries (codeOf i) || isPassage (codeOf i)))
-unfolding all carries isPassage codeOf codes
+unfolding below carries isPassage codeOf codes
 idle-row i l =
     if-so (leb 5 (i % 8)) (not (carries (codeOf i) || isPassage (codeOf i)))
-    (all-at 64 (λ i. not (leb 5 (i % 8)) || not (carries (codeOf i) || isPassage (codeOf i))) tt i l)
+    (below-at 64 (λ i. not (leb 5 (i % 8)) || not (carries (codeOf i) || isPassage (codeOf i))) tt i l)
 
 pub loaded-slot : (rec : List ℕ) (d : ℕ) → 0 < view rec d → d % 8 < 5
 unfolding view isLinkDart isPassDart

@@ -1,89 +1,88 @@
--- The rows of the table packed into words, as the code reads them: one computed test over the 64 rows says that each part of a word is the entry of the
--- list. Assumes nothing.
-use mathlib.Core.Path.{_≡_, sym, ap}
+-- The rows of the table packed into words, as the code reads them: one computed test over the words says that each part of a word is the entry of its
+-- row. Assumes nothing.
+use mathlib.Core.Path.{_≡_, subst}
 use mathlib.Core.Logic.{_≢_}
 use mathlib.Core.Bool.{Bool, true, false}
 use mathlib.Core.List.{List, [], _∷_}
 use Prim.Native.Nat.{ℕ, suc, zero-le, _+_, _*_, _/_, _%_, _^_, _≤_, _<_}
 use native.Mathlib.Omega.{arith}
-use lib.Dec.{eqb, eqb→eq, ltb, ltb→lt}
+use lib.Dec.{T, eqb, eqb→eq, ltb, ltb→lt}
 use lib.ListN.{getD}
-use Rattle.sums.specs.Counting.{when}
-use Rattle.channel.specs.Table.{turns, links, owners, signs, codes, turnOf, kindOf, ownerOf, signOf, codeOf}
-use Rattle.channel.specs.Map.{carries, isPassage}
-use Rattle.channel.specs.Map.Bounds.{all, all-at}
-use Rattle.channel.specs.Map.Darts.{seatOf}
+use Rattle.sums.specs.Tests.{below, below-at}
+use Rattle.channel.specs.Map.{turns, links, owners, signs, codes, turnOf, kindOf, ownerOf, signOf, codeOf, seatOf, carries, isPassage, placeOf}
+
+-- ---- the words
 
 -- eight rows to a word, a byte for each: the code, and 16 times the kind of link
-unfoldable pub rowWords : List ℕ
+abbrev rowWords : List ℕ
 rowWords =
     0x0000_0008_dccc_bcac ∷ 0x0000_000e_d7c7_b7a7 ∷ 0xbd00_6ab6_5263_2201 ∷ 0xcd00_7ac6_2273_3211 ∷ 0xdd00_8ad6_3283_4201 ∷ 0xad00_9aa6_4293_5211
     ∷ 0x0000_0005_9989_7969 ∷ 0x0000_000b_9484_7464 ∷ []
 
--- four rows to a word, 16 bits for each
-unfoldable pub turnWords : List ℕ
+-- four rows to a word, 16 bits for each: how far the way back lies ahead
+abbrev turnWords : List ℕ
 turnWords =
     0x0061_0a5a_0a93_00ac ∷ 0x0a80_0a80_0a80_0a88 ∷ 0x005c_0a55_0a8e_00a7 ∷ 0x0a80_0a80_0a80_0a78 ∷ 0x0a96_0a9e_0a8a_0090 ∷ 0x0a72_0a80_0aa3_0a6d
     ∷ 0x0a76_0a97_0a8a_0ad0 ∷ 0x0aab_0a80_0a9c_0aa6 ∷ 0x0a76_0a90_0a8a_1470 ∷ 0x14a4_0a80_0a95_149f ∷ 0x0a76_0a89_0a6a_0a30 ∷ 0x1459_0a80_0a8e_1454
     ∷ 0x0a77_0a70_0a69_0a62 ∷ 0x0a80_0a80_0a80_0a88 ∷ 0x0a72_0a6b_0a64_0a5d ∷ 0x0a80_0a80_0a80_0a78 ∷ []
 
--- the rows of the darts along links: two words for the positive way and two for the other, a byte for each kind
-unfoldable pub seatWords : List ℕ
-seatWords = 0x3938_2921_1911_1810 ∷ 0x0000_0b0a_0908_3b3a ∷ 0x1a12_132b_231b_2820 ∷ 0x0000_241c_142c_2a22 ∷ []
-
--- where the byte of a dart's link stands, counted from the dart's cell: twice that and the sign; 1 from an entry to its exit, and 0 for the others
-unfoldable pub placeOf : ℕ → ℕ
-placeOf i = when (carries (codeOf i)) (2 * (3927 + 1600 * kindOf i + ownerOf i) + signOf i) + when (isPassage (codeOf i)) 1
-
--- four rows to a word, 16 bits for each
-unfoldable pub placeWords : List ℕ
+-- and where the bytes of their links stand
+abbrev placeWords : List ℕ
 placeWords =
     0x0000_0000_0000_0000 ∷ 0x0000_0000_0000_0001 ∷ 0xc12e_b4ae_a82e_9bae ∷ 0x0000_0000_0000_0000 ∷ 0x5d2f_69af_37ae_1eae ∷ 0x0000_0000_0000_a82f ∷ 0x37af_762f_442e_2b30 ∷ 0x0000_0000_0000_b4b1 ∷ 0x442f_82af_50ae_1eff ∷ 0x0000_0000_0000_c181 ∷ 0x50af_8f2f_5d2e_2b2f ∷ 0x0000_0000_0000_9bff ∷ 0x0000_0000_0000_0000 ∷ 0x0000_0000_0000_0001 ∷ 0x8f2e_82ae_762e_69ae ∷ 0x0000_0000_0000_0000 ∷ []
 
-pub packed-place : (i : ℕ) → i < 64 → getD placeWords (i / 4) 0 / 2 ^ (i % 4 * 16) % 65536 ≡ placeOf i
-unfolding all placeWords placeOf carries isPassage codes codeOf links kindOf owners ownerOf signs signOf
-packed-place i l = eqb→eq _ _ (all-at 64 (λ i. eqb (getD placeWords (i / 4) 0 / 2 ^ (i % 4 * 16) % 65536) (placeOf i)) tt i l)
+-- the rows of the darts along links: two words for the positive way and two for the other, a byte for each kind
+abbrev seatWords : List ℕ
+seatWords = 0x3938_2921_1911_1810 ∷ 0x0000_0b0a_0908_3b3a ∷ 0x1a12_132b_231b_2820 ∷ 0x0000_241c_142c_2a22 ∷ []
 
-module _ (k : ℕ) (l : k < 14) where
-  seat-row : (f : Bool) → getD seatWords (elim f [ true ↦ k / 8 | false ↦ 2 + k / 8 ]) 0 / 2 ^ (k % 8 * 8) % 256 ≡ seatOf k f
-  unfolding all seatWords seatOf
-  seat-row true = eqb→eq _ _ (all-at 14 (λ k. eqb (getD seatWords (k / 8) 0 / 2 ^ (k % 8 * 8) % 256) (seatOf k true)) tt k l)
-  seat-row false = eqb→eq _ _ (all-at 14 (λ k. eqb (getD seatWords (2 + k / 8) 0 / 2 ^ (k % 8 * 8) % 256) (seatOf k false)) tt k l)
+-- ---- the parts of a word
 
-  pub seat-small : (f : Bool) → seatOf k f < 64
-  unfolding all seatOf
-  seat-small true = ltb→lt _ _ (all-at 14 (λ k. ltb (seatOf k true) 64) tt k l)
-  seat-small false = ltb→lt _ _ (all-at 14 (λ k. ltb (seatOf k false) 64) tt k l)
+-- one computed test of the n parts of each of the m words
+part : (m n : ℕ) (f g : ℕ → ℕ → ℕ) → T (below m (λ k. below n (λ j. eqb (f k j) (g k j)))) → {k w : ℕ} → k < m → k ≡ w → (j : ℕ) → j < n → f w j ≡ g k j
+part m n f g t {k} l e j h =
+    subst (λ (w : ℕ). f w j ≡ g k j) e
+    (eqb→eq _ _ (below-at n (λ j. eqb (f k j) (g k j)) (below-at m (λ k. below n (λ j. eqb (f k j) (g k j))) t k l) j h))
 
-  pub packed-forth : (f : Bool) → f ≡ true → getD seatWords (k / 8) 0 / 2 ^ (k % 8 * 8) % 256 ≡ seatOf k f
-  packed-forth f e = rw e (seat-row true)
+-- the k-th word, by a number that is known
+module _ {k w : ℕ} where
+  pub turn-word : k < 16 → k ≡ w → (j : ℕ) → j < 4 → getD turnWords w 0 / 2 ^ (j * 16) % 65536 ≡ turnOf (4 * k + j)
+  unfolding below turns turnOf
+  turn-word = part 16 4 (λ w j. getD turnWords w 0 / 2 ^ (j * 16) % 65536) (λ k j. turnOf (4 * k + j)) tt
 
-  pub packed-back : (f : Bool) → f ≡ false → getD seatWords (2 + k / 8) 0 / 2 ^ (k % 8 * 8) % 256 ≡ seatOf k f
-  packed-back f e = rw e (seat-row false)
+  pub place-word : k < 16 → k ≡ w → (j : ℕ) → j < 4 → getD placeWords w 0 / 2 ^ (j * 16) % 65536 ≡ placeOf (4 * k + j)
+  unfolding below placeOf carries isPassage codes codeOf links kindOf owners ownerOf signs signOf
+  place-word = part 16 4 (λ w j. getD placeWords w 0 / 2 ^ (j * 16) % 65536) (λ k j. placeOf (4 * k + j)) tt
 
-pub packed-code : (i : ℕ) → i < 64 → getD rowWords (i / 8) 0 / 2 ^ (i % 8 * 8) % 16 ≡ codeOf i
-unfolding all rowWords codes codeOf
-packed-code i l = eqb→eq _ _ (all-at 64 (λ i. eqb (getD rowWords (i / 8) 0 / 2 ^ (i % 8 * 8) % 16) (codeOf i)) tt i l)
+  row-code : k < 8 → k ≡ w → (j : ℕ) → j < 8 → getD rowWords w 0 / 2 ^ (j * 8) % 16 ≡ codeOf (8 * k + j)
+  unfolding below codes codeOf
+  row-code = part 8 8 (λ w j. getD rowWords w 0 / 2 ^ (j * 8) % 16) (λ k j. codeOf (8 * k + j)) tt
 
-pub packed-kind : (i : ℕ) → i < 64 → getD rowWords (i / 8) 0 / 2 ^ (i % 8 * 8 + 4) % 16 ≡ kindOf i
-unfolding all rowWords links kindOf
-packed-kind i l = eqb→eq _ _ (all-at 64 (λ i. eqb (getD rowWords (i / 8) 0 / 2 ^ (i % 8 * 8 + 4) % 16) (kindOf i)) tt i l)
+  row-kind : k < 8 → k ≡ w → (j : ℕ) → j < 8 → getD rowWords w 0 / 2 ^ (j * 8 + 4) % 16 ≡ kindOf (8 * k + j)
+  unfolding below links kindOf
+  row-kind = part 8 8 (λ w j. getD rowWords w 0 / 2 ^ (j * 8 + 4) % 16) (λ k j. kindOf (8 * k + j)) tt
 
-pub packed-turn : (i : ℕ) → i < 64 → getD turnWords (i / 4) 0 / 2 ^ (i % 4 * 16) % 65536 ≡ turnOf i
-unfolding all turnWords turns turnOf
-packed-turn i l = eqb→eq _ _ (all-at 64 (λ i. eqb (getD turnWords (i / 4) 0 / 2 ^ (i % 4 * 16) % 65536) (turnOf i)) tt i l)
+  pub row-word : k < 8 → k ≡ w → (j : ℕ) → j < 8
+      → (getD rowWords w 0 / 2 ^ (j * 8) % 16 ≡ codeOf (8 * k + j)) × (getD rowWords w 0 / 2 ^ (j * 8 + 4) % 16 ≡ kindOf (8 * k + j))
+  row-word l e j h = (row-code l e j h, row-kind l e j h)
+
+  pub seat-word : k < 4 → k ≡ w → (j : ℕ) → j < 8 → getD seatWords w 0 / 2 ^ (j * 8) % 256 ≡ seatOf (8 * (k % 2) + j) (ltb k 2)
+  unfolding below seatOf
+  seat-word = part 4 8 (λ w j. getD seatWords w 0 / 2 ^ (j * 8) % 256) (λ k j. seatOf (8 * (k % 2) + j) (ltb k 2)) tt
+
+pub seat-small : (k : ℕ) → k < 14 → (f : Bool) → seatOf k f < 64
+unfolding below seatOf
+seat-small k l true = ltb→lt _ _ (below-at 14 (λ k. ltb (seatOf k true) 64) tt k l)
+seat-small k l false = ltb→lt _ _ (below-at 14 (λ k. ltb (seatOf k false) 64) tt k l)
+
+-- ---- the bits of a word
 
 pub packed-sign : (i : ℕ) → i < 64 → 0x1000_bdbd_bcbc_1000 / 2 ^ i % 2 ≡ signOf i
-unfolding all signs signOf
-packed-sign i l = eqb→eq _ _ (all-at 64 (λ i. eqb (0x1000_bdbd_bcbc_1000 / 2 ^ i % 2) (signOf i)) tt i l)
+unfolding below signs signOf
+packed-sign i l = eqb→eq _ _ (below-at 64 (λ i. eqb (0x1000_bdbd_bcbc_1000 / 2 ^ i % 2) (signOf i)) tt i l)
 
 pub packed-owner : (i : ℕ) → i < 64 → 0x0000_0090_9100_0000 / 2 ^ i % 2 + 0x0000_9091_0000_0000 / 2 ^ i % 2 * 40 ≡ ownerOf i
-unfolding all owners ownerOf
-packed-owner i l = eqb→eq _ _ (all-at 64 (λ i. eqb (0x0000_0090_9100_0000 / 2 ^ i % 2 + 0x0000_9091_0000_0000 / 2 ^ i % 2 * 40) (ownerOf i)) tt i l)
-
--- the word at a number that is known
-pub word-at : (words : List ℕ) {k n : ℕ} → k ≡ n → getD words n 0 ≡ getD words k 0
-word-at words e = sym (ap (λ (i : ℕ). getD words i 0) e)
+unfolding below owners ownerOf
+packed-owner i l = eqb→eq _ _ (below-at 64 (λ i. eqb (0x0000_0090_9100_0000 / 2 ^ i % 2 + 0x0000_9091_0000_0000 / 2 ^ i % 2 * 40) (ownerOf i)) tt i l)
 
 -- the last word is the one that is none of the others
 pub not-least : (k a : ℕ) → a ≤ k → k ≢ a → suc a ≤ k

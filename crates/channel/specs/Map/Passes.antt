@@ -5,12 +5,10 @@ use mathlib.Core.Bool.{Bool, true, false, not, _||_}
 use Prim.Native.Nat.{ℕ, _+_, _*_, _/_, _%_, _<_}
 use native.Mathlib.Omega.{arith}
 use lib.Dec.{T, eqb, eqb→eq, lit<}
-use Rattle.sums.specs.Tests.{Same, same, other, same?, if-so, and-left, and-right, and-both}
+use Rattle.sums.specs.Tests.{Same, same, other, same?, if-so, and-left, and-right, and-both, below, below-at}
 use Rattle.model.specs.Links.{missing, centre, at}
 use Rattle.model.specs.Near.{spot, entryOf, exitOf, entry, exit}
-use Rattle.channel.specs.Table.{turns, codes, turnOf, codeOf}
-use Rattle.channel.specs.Map.{darts, inGrid, rev, isPassage, isPassDart, passedOf}
-use Rattle.channel.specs.Map.Rows.{all, all-at, backRow}
+use Rattle.channel.specs.Map.{darts, inGrid, rev, isPassage, isPassDart, passedOf, turns, codes, turnOf, codeOf, backRow}
 use Rattle.channel.specs.Map.Back.{grid-at}
 use Rattle.channel.specs.Map.Darts.{cell-row, cell-column, cell-grid, grid-cell}
 use Rattle.channel.specs.Map.Ends.{rev-spot}
@@ -54,9 +52,9 @@ module _ (d : ℕ) (g : T (inGrid (d / 64))) where
 
 -- the two rows from an entry to its exit
 pub passage-row : (i : ℕ) → i < 64 → T (isPassage (codeOf i)) → T (eqb i 4 || eqb i 52)
-unfolding all isPassage codeOf codes
+unfolding below isPassage codeOf codes
 passage-row i l t =
-    if-so (isPassage (codeOf i)) (eqb i 4 || eqb i 52) (all-at 64 (λ i. not (isPassage (codeOf i)) || (eqb i 4 || eqb i 52)) tt i l) t
+    if-so (isPassage (codeOf i)) (eqb i 4 || eqb i 52) (below-at 64 (λ i. not (isPassage (codeOf i)) || (eqb i 4 || eqb i 52)) tt i l) t
 
 pub pass-ends : (d : ℕ) → d < darts → T (isPassDart d) → (entry (passedOf d) ≡ d / 8) × (exit (passedOf d) ≡ rev d / 8)
 unfolding isPassDart

@@ -17,13 +17,12 @@ use Rattle.flow.specs.Residual.{Residual, undo, room, unlimited}
 use Rattle.flow.specs.Store.{push-here, push-rev}
 use Rattle.model.specs.Job.{Job}
 use Rattle.model.specs.Links.{Step, turn}
-use Rattle.channel.specs.Table.{codeOf}
+use Rattle.channel.specs.Map.{codeOf, backRow, dartOf, idle}
 use Rattle.channel.specs.Map.{darts, inGrid, rev, ownerCell, stepOf, carries, isStored, isLinkDart, cap, free}
-use Rattle.channel.specs.Map.Rows.{backRow}
 use Rattle.channel.specs.Map.Back.{rev<, rev-rev, over-row, stored-turned, link-stored}
-use Rattle.channel.specs.Map.Darts.{OnGrid, step-grid, dartOf, dart-step, step-dart}
+use Rattle.channel.specs.Map.Darts.{OnGrid, step-grid, dart-step, step-dart}
 use Rattle.channel.specs.Map.Network.{net}
-use Rattle.channel.specs.Map.Carry.{idle, stored-idle, back-carries, idle-link, idle-pass, Shut, shut, back-link}
+use Rattle.channel.specs.Map.Carry.{stored-idle, back-carries, idle-link, idle-pass, Shut, shut, back-link}
 
 -- ---- steps of the grid
 

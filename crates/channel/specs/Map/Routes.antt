@@ -20,14 +20,14 @@ use Rattle.model.specs.Near.{spot, entryOf, exitOf, entry, exit, size}
 use Rattle.model.specs.Route.{Chain, Route, uses, visits, Together}
 use Rattle.model.proofs.Listed.{may-leaves, may-enters}
 use Rattle.model.proofs.Same.{same-place, same-link}
-use Rattle.channel.specs.Table.{codeOf}
+use Rattle.channel.specs.Map.{codeOf, countsTwice, EndsAt}
 use Rattle.channel.specs.Map.{spots, darts, rowOf, columnOf, rev, stepOf, isLinkDart, isPassDart, passedOf, cap, free, isStart, want, outside}
 use Rattle.channel.specs.Map.Darts.{cell-row, cell-column}
 use Rattle.channel.specs.Map.Steps.{dartOf, place-pass, pass-ends}
 use Rattle.channel.specs.Map.Network.{net}
 use Rattle.channel.specs.Map.Limits.{not-free-limited}
-use Rattle.channel.specs.Map.Taken.{Ends, may-dart, step-tail, step-head}
-use Rattle.channel.specs.Map.Spots.{countsTwice, held-grid}
+use Rattle.channel.specs.Map.Taken.{may-dart, step-tail, step-head}
+use Rattle.channel.specs.Map.Spots.{held-grid}
 use Rattle.channel.specs.Map.Sums.{start-at}
 
 -- the dart from a place's entry to its exit
@@ -36,7 +36,7 @@ passageOf x = 8 * entry x + 4
 
 -- a place that does not count twice has one spot
 once-spot : (k : PlaceKind) (r c : ℕ) → T (not (countsTwice k)) → entryOf k r c ≡ exitOf k r c
-unfolding entryOf exitOf
+unfolding entryOf exitOf countsTwice
 once-spot pin r c t = refl
 once-spot missing r c t = absurd t
 once-spot centre r c t = absurd t
@@ -55,6 +55,7 @@ module _ (J : Job) where
 
   -- what counts twice has a passing limit
   twice-limit : (k : PlaceKind) (r c : ℕ) → T (countsTwice k) → (n : ℕ) × (pass J (at k r c) ≡ some n)
+  unfolding countsTwice
   twice-limit pin r c t = absurd t
   twice-limit missing r c t = (_, refl)
   twice-limit centre r c t = (_, refl)
@@ -64,6 +65,7 @@ module _ (J : Job) where
 
   -- what counts twice and may be entered is a place
   twice-place : (k : PlaceKind) (r c : ℕ) → T (countsTwice k) → T (isEntered J (at k r c)) → T (isPlace J (at k r c))
+  unfolding countsTwice
   twice-place pin r c t e = absurd t
   twice-place missing r c t e = e
   twice-place centre r c t e = e
@@ -105,7 +107,7 @@ module _ (J : Job) (fits : T (arrayFits (J .rows) (J .columns))) where
       by false q = r u (sym (once-spot (x .kind) (x .row) (x .column) (so-not q)) ∙ e)
 
   chain-leads : (x : Place) (ss : List Step) (u : ℕ) → Chain J x ss → StandsAt x u → Leads (routeDarts J ss) u
-  unfolding routeDarts
+  unfolding routeDarts countsTwice EndsAt
   chain-leads x [] u c (inl (t, e)) = absurd (subst (λ (y : Place). T (isPlace J y)) c t)
   chain-leads x [] u c (inr (e, o)) = (u, stop refl, o)
   chain-leads x (s ∷ ss) u c (inr (e, o)) = absurd (subst (λ (y : Place). T (isPlace J y)) (c .0 ∙ e) (may-leaves J s (c .1)))
@@ -117,7 +119,7 @@ module _ (J : Job) (fits : T (arrayFits (J .rows) (J .columns))) where
       w = rev (dartOf s) / 8
 
       by : ((v : ℕ) → StandsAt (head J s) v → Leads (routeDarts J ss) v)
-          → Ends J (head J s) w → Leads (passages J (head J s) ++ routeDarts J ss) w
+          → EndsAt J (head J s) w → Leads (passages J (head J s) ++ routeDarts J ss) w
       by r (inl (p, f)) = leads-on (head J s) (routeDarts J ss) w p f (λ v g. r v (inl (p, g)))
       by r (inr (f, o)) =
           subst (λ (b : Bool). Leads (only b (passageOf (head J s) ∷ []) ++ routeDarts J ss) w) (ap (λ (y : Place). countsTwice (y .kind)) (sym f))

@@ -13,9 +13,8 @@ use Rattle.sums.specs.Sums.{sum-none}
 use Rattle.model.specs.Links.{Compass, compassCode, north, east, south, west, missing, centre, side, Place, at, northSide, link, Step, turn}
 use Rattle.model.specs.Loads.{departures, arrivals}
 use Rattle.model.specs.Record.{kinds, load}
-use Rattle.channel.specs.Table.{turns, links, owners, signs, codes, turnOf, kindOf, ownerOf, signOf, codeOf}
+use Rattle.channel.specs.Map.{turns, links, owners, signs, codes, turnOf, kindOf, ownerOf, signOf, codeOf, backRow}
 use Rattle.channel.specs.Map.{darts, inGrid, rowOf, columnOf, ahead, rev, ownerCell, stepOf, carries, isStored, isPassage, isLinkDart, isPassDart, passedOf, view}
-use Rattle.channel.specs.Map.Rows.{backRow}
 use Rattle.channel.specs.Map.Back.{rev<, rev-rev, rev-over, over-row}
 use Rattle.channel.specs.Map.Darts.{cell-row, cell-column, cell-grid}
 use Rattle.channel.specs.Map.Steps.{link-stored, stored-turned}

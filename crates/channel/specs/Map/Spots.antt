@@ -13,22 +13,9 @@ use Rattle.sums.specs.Sums.{when-add, when-cong, when-none, sum-cong, sum-none,
 use Rattle.sums.specs.Totals.{total-cong, total-each, total-those}
 use Rattle.model.specs.Job.{Job, inRange, arrayFits, isPin, isTile, isOpen, isChosen, isMissing}
 use Rattle.model.specs.Links.{north, east, south, west, PlaceKind, pin, missing, centre, nowhere, side, Place, at, holds, isPlace, placesAt, places}
-use Rattle.model.specs.Near.{spot, entryOf, exitOf, entry, exit}
-use Rattle.channel.specs.Map.{spots, inGrid, rowOf, columnOf, outside}
+use Rattle.model.specs.Near.{spot, entryOf, exitOf, entry, exit, IsSpot}
+use Rattle.channel.specs.Map.{spots, inGrid, rowOf, columnOf, countsTwice, outside}
 use Rattle.channel.specs.Map.Darts.{cell-row, cell-column, cell-grid}
-
--- the spot of a place
-abbrev pub IsSpot : Job → ℕ → Type 0
-IsSpot J u = (x : Place) × T (isPlace J x) × ((u ≡ entry x) ⊎ (u ≡ exit x))
-
--- "A centre or a missing pin counts twice, as entry and exit."
-abbrev pub countsTwice : PlaceKind → Bool
-countsTwice pin = false
-countsTwice missing = true
-countsTwice centre = true
-countsTwice PlaceKind.outside = false
-countsTwice nowhere = false
-countsTwice (side d) = false
 
 -- the numbers of two spots are the same where their kinds and cells are
 spot-same : (k r c m s e : ℕ) → k < 8 → m < 8 → c < 40 → e < 40 → spot k r c ≡ spot m s e → (k ≡ m) × (r ≡ s) × (c ≡ e)
@@ -231,7 +218,7 @@ module _ (J : Job) where
               rw (f, g, h) (x .held)
 
       cell-sum : (r c : ℕ) → r < 40 → c < 40 → sum 8 (λ k. W (spot k r c)) ≡ cellTotal counted r c
-      unfolding sum total entryOf exitOf
+      unfolding sum total entryOf exitOf countsTwice
       cell-sum r c a b =
           omega (
             arith,

@@ -13,10 +13,11 @@ use Rattle.model.specs.Job.{Job, arrayFits, inRange, isPin, isTile, isOpen, isC
 use Rattle.model.specs.Links.{north, east, south, west, PlaceKind, pin, missing, centre, nowhere, side, Place, at, theOutside, isPlace, holds}
 use Rattle.model.specs.Links.{Step, head, tail, may, isEntered, passOf, pass, around, aroundOf}
 use Rattle.model.specs.Near.{entryOf, exitOf, entry, exit}
-use Rattle.channel.specs.Map.{darts, rev, stepOf, isLinkDart, isPassDart, passedOf, outside}
+use Rattle.channel.specs.Map.{darts, rev, stepOf, isLinkDart, isPassDart, passedOf, outside, EndsAt}
 pub use Rattle.channel.specs.Map.Back.{Turned, stored-turned, link-stored}
-pub use Rattle.channel.specs.Map.Darts.{OnGrid, step-grid, dartOf, dart-step, step-dart, plain-back}
-use Rattle.channel.specs.Map.Ends.{Leaves, leaves, Arrives, arrives}
+pub use Rattle.channel.specs.Map.Darts.{OnGrid, step-grid, dart-step, step-dart, plain-back}
+pub use Rattle.channel.specs.Map.{dartOf}
+use Rattle.channel.specs.Map.Ends.{Leaves, leaves, arrives}
 use Rattle.channel.specs.Map.Around.{slots-at, Slots, Takes, takes-legs, takes-spokes, takes-north, takes-east, takes-south, takes-west}
 pub use Rattle.channel.specs.Map.Passes.{pass-ends}
 use Rattle.channel.specs.Map.Passes.{pass-missing, pass-centre}
@@ -56,7 +57,9 @@ module _ (J : Job) (fits : T (arrayFits (J .rows) (J .columns))) where
   pub slot-step : (x : Place) → T (isPlace J x) → (k : ℕ) (s : Step) → getElem? (around x) k ≡ some s
       → (8 * exit x + k < darts) × T (isLinkDart (8 * exit x + k)) × (stepOf (8 * exit x + k) ≡ s)
   unfolding exitOf
-  slot-step x t k s e = subst (λ (j : ℕ). Takes (exit x) j s) (zero-add k) (slots-at (takes (x .kind) (x .row) (x .column) t) k s e)
+  slot-step x t k s e =
+      let d = subst (λ (j : ℕ). Takes (exit x) j s) (zero-add k) (slots-at (takes (x .kind) (x .row) (x .column) t) k s e) in
+      (d .range, d .linked, d .step)
     where
       takes : (k : PlaceKind) (r c : ℕ) → T (holds J k r c) → Slots (Takes (exitOf k r c)) 0 (aroundOf k r c)
       takes pin r c t = takes-legs r c (chosen-in r c t .0) (chosen-in r c t .1)
@@ -82,12 +85,12 @@ module _ (J : Job) (fits : T (arrayFits (J .rows) (J .columns))) where
   -- and leads to the entry of the step's head, or outside
   pub link-head : (d : ℕ) → d < darts → T (isLinkDart d) → T (may J (stepOf d))
       → (T (isPlace J (head J (stepOf d))) × (entry (head J (stepOf d)) ≡ rev d / 8)) ⊎ ((head J (stepOf d) ≡ theOutside) × T (outside J (rev d / 8)))
-  unfolding may
+  unfolding may EndsAt
   link-head d l t m =
       let s = stepOf d in
       let n : T (isEntered J (head J s)) = and-right (isPlace J (tail J s)) (isEntered J (head J s)) m in
       let g = step-grid d (link-stored d t .1) in
-      subst (λ (z : ℕ). Arrives J z (head J s)) (step-dart d l t)
+      subst (λ (z : ℕ). EndsAt J (head J s) (rev z / 8)) (step-dart d l t)
       (arrives J columns≤ (s .link .kind) (s .forth) (s .link .row) (s .link .column) (g .row<) (g .column<) n)
 
   -- a place with a passing limit has a dart from its entry to its exit

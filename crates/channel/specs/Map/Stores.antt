@@ -1,6 +1,6 @@
 -- The bytes of loads: a byte has its amount on one of a link's two ways, and bumping it takes one off the other way or adds one to its own. One move bumps
 -- the byte of the dart's link and no other: the bytes of two links stand at different addresses. Assumes nothing.
-use mathlib.Core.Path.{_≡_, refl, sym, ap, _∙_}
+use mathlib.Core.Path.{_≡_, refl, sym, ap, subst₂, _∙_}
 use mathlib.Core.Logic.{_≢_, _⊎_, inl, inr}
 use mathlib.Core.Bool.{Bool, true, false, not, _&&_}
 use mathlib.Core.List.{List}
@@ -9,30 +9,28 @@ use native.Mathlib.Omega.{arith}
 use lib.Dec.{T, eqb, ltb, eqb→eq, ltb→lt, eqb·suc-zero}
 use lib.ListN.{length, getD, set, length-set}
 use lib.Seq.{getD-set-same, getD-set-other}
-use Rattle.sums.specs.Tests.{Same, same, other, same?, and-left, and-right}
+use Rattle.sums.specs.Tests.{Same, same, other, same?, and-left, and-right, below, below-at}
 use Rattle.sums.specs.Sums.{when-so, when-none, when-cong}
-use Rattle.model.specs.Links.{northSide, Link, link, linkCode, Step}
+use Rattle.model.specs.Links.{northSide, Link, link, linkCode, Step, turn}
 use Rattle.model.specs.Record.{recordSize, offset, loadPlane, kinds, cell, jobOf, forthPart, backPart, load}
 use Rattle.model.proofs.RecordOf.{inCells, cells-row, cells-column, cells-have}
-use Rattle.channel.specs.Table.{links, kindOf, signOf, codeOf}
-use Rattle.channel.specs.Map.{darts, inGrid, ownerCell, stepOf, isStored, bump, address, laid}
-use Rattle.channel.specs.Map.Rows.{all, all-at}
+use Rattle.channel.specs.Map.{darts, inGrid, ownerCell, stepOf, isStored, bump, address, laid, links, kindOf, signOf, codeOf}
 use Rattle.channel.specs.Map.Back.{Less, less, most, less?, grid-at}
 use Rattle.channel.specs.Map.Darts.{grid-cell, kind-code, OnGrid, step-grid}
 
 -- ---- one byte
 
 -- what a load byte may be
-abbrev pub Fits : ℕ → Type 0
+abbrev Fits : ℕ → Type 0
 Fits b = (b < 64) × (b ≢ 32)
 
 -- what the byte has along the link's positive way, and what against it
-abbrev pub amount : Bool → ℕ → ℕ
+abbrev amount : Bool → ℕ → ℕ
 amount true b = forthPart b
 amount false b = backPart b
 
 -- at most one of the two is not 0
-pub amount-one : (f : Bool) (b : ℕ) → b < 64 → 0 < amount f b → amount (not f) b ≡ 0
+amount-one : (f : Bool) (b : ℕ) → b < 64 → 0 < amount f b → amount (not f) b ≡ 0
 amount-one true b l h = omega arith
 amount-one false b l h = omega arith
 
@@ -67,7 +65,7 @@ back-less b l m = ((omega arith, omega arith), omega arith)
 back-more : (b : ℕ) → 33 ≤ b → backPart b < 31 → Bumped false b (b + 1)
 back-more b l h = ((omega arith, omega arith), omega arith)
 
-pub bumped : (n b : ℕ) → Fits b → amount (eqb n 0) b < 31 → Bumped (eqb n 0) b (bump n b)
+bumped : (n b : ℕ) → Fits b → amount (eqb n 0) b < 31 → Bumped (eqb n 0) b (bump n b)
 unfolding bump
 bumped zero b (l, n) h = go (ltb b 32) (less? b 32) (eqb b 33) (same? b 33)
   where
@@ -87,7 +85,7 @@ bumped (suc m) b (l, n) h =
 
 -- ---- the byte of a step
 
-abbrev pub byteOf : List ℕ → Link → ℕ
+abbrev byteOf : List ℕ → Link → ℕ
 byteOf rec l = cell rec (loadPlane (l .kind)) (l .row) (l .column)
 
 way-amount : (rec : List ℕ) (l : Link) (f : Bool) → load rec (record { link = l; forth = f }) ≡ amount f (byteOf rec l)
@@ -95,8 +93,12 @@ unfolding load
 way-amount rec l true = refl
 way-amount rec l false = refl
 
-pub load-amount : (rec : List ℕ) (s : Step) → load rec s ≡ amount (s .forth) (byteOf rec (s .link))
+load-amount : (rec : List ℕ) (s : Step) → load rec s ≡ amount (s .forth) (byteOf rec (s .link))
 load-amount rec s = way-amount rec (s .link) (s .forth)
+
+-- wires go along a link one way only
+pub one-way : (rec : List ℕ) (s : Step) → byteOf rec (s .link) < 64 → 0 < load rec s → load rec (turn s) ≡ 0
+one-way rec s l h = load-amount rec (turn s) ∙ amount-one (s .forth) (byteOf rec (s .link)) l (omega (arith, load-amount rec s))
 
 -- ---- where the byte stands
 
@@ -116,14 +118,14 @@ grid? rec s = go (inCells (s .link .row) (s .link .column)) (λ t. t) (λ t. t)
         inr (load-amount rec s ∙ none (s .forth) (byteOf rec (s .link)) (when-none (inCells (s .link .row) (s .link .column)) _ (λ t. absurd (h t))))
 
 row-kind< : (i : ℕ) → i < 64 → kindOf i < 14
-unfolding all kindOf links
-row-kind< i l = ltb→lt _ _ (all-at 64 (λ i. ltb (kindOf i) 14) tt i l)
+unfolding below kindOf links
+row-kind< i l = ltb→lt _ _ (below-at 64 (λ i. ltb (kindOf i) 14) tt i l)
 
 code-kind : (n : ℕ) → n < 14 → linkCode (getD kinds n northSide) ≡ n
-unfolding all
-code-kind n l = eqb→eq _ _ (all-at 14 (λ n. eqb (linkCode (getD kinds n northSide)) n) tt n l)
+unfolding below
+code-kind n l = eqb→eq _ _ (below-at 14 (λ n. eqb (linkCode (getD kinds n northSide)) n) tt n l)
 
-abbrev pub spotOf : Link → ℕ
+abbrev spotOf : Link → ℕ
 spotOf l = offset (loadPlane (l .kind)) (l .row) (l .column)
 
 offset-one : (a r c p q o : ℕ) → c < 40 → o < 40 → r < 40 → q < 40 → 1600 * a + 40 * r + c ≡ 1600 * p + 40 * q + o → (a ≡ p) × (r ≡ q) × (c ≡ o)
@@ -218,13 +220,34 @@ module _ (rec : List ℕ) (d : ℕ) where
     byte-in r l a b = when-so (inCells (l .row) (l .column)) _ (cells-have (l .row) (l .column) a b)
 
     -- the byte of the dart's link
-    pub byte-bumped : recordSize ≤ length rec → byteOf after (stepOf d .link) ≡ bump (signOf (d % 64)) (byteOf rec (stepOf d .link))
+    byte-bumped : recordSize ≤ length rec → byteOf after (stepOf d .link) ≡ bump (signOf (d % 64)) (byteOf rec (stepOf d .link))
     byte-bumped long =
         let o = step-grid d g in
         byte-in after (stepOf d .link) (o .row<) (o .column<)
         ∙ (ap (λ (i : ℕ). getD after i 0) (sym (address-spot d g))
         ∙ (getD-set-same rec (address d) _ 0 (omega (arith, address-range d g))
         ∙ ap (bump (signOf (d % 64))) (ap (λ (i : ℕ). getD rec i 0) (address-spot d g) ∙ sym (byte-in rec (stepOf d .link) (o .row<) (o .column<)))))
+
+    -- what it has: one less against the step, or one more along it
+    pub loads-bumped : recordSize ≤ length rec → Fits (byteOf rec (stepOf d .link)) → load rec (stepOf d) < 31
+        → Fits (byteOf after (stepOf d .link)) × (load after (stepOf d) + load rec (turn (stepOf d)) ≡ load rec (stepOf d) + load after (turn (stepOf d)) + 1)
+    loads-bumped long fits h =
+        (change .0, omega (arith, change, load-amount after σ, load-amount rec σ, load-amount after (turn σ), load-amount rec (turn σ)))
+      where
+        σ : Step
+        σ = stepOf d
+
+        b : ℕ
+        b = byteOf rec (σ .link)
+
+        forth : σ .forth ≡ eqb (signOf (d % 64)) 0
+        forth = unfold stepOf in refl
+
+        low : amount (eqb (signOf (d % 64)) 0) b < 31
+        low = omega (arith, h, load-amount rec σ, ap (λ (f : Bool). amount f b) forth)
+
+        change : Bumped (σ .forth) b (byteOf after (σ .link))
+        change = subst₂ (λ (f : Bool) (x : ℕ). Bumped f b x) (sym forth) (sym (byte-bumped long)) (bumped (signOf (d % 64)) b fits low)
 
     -- and every other
     pub byte-other : (l : Link) → l ≢ stepOf d .link → byteOf after l ≡ byteOf rec l
@@ -235,3 +258,6 @@ module _ (rec : List ℕ) (d : ℕ) where
         (λ t. getD-set-other rec (address d) (spotOf l) _ 0
         (λ e. n
         (spot-one l (stepOf d .link) (cells-row (l .row) (l .column) t) (cells-column (l .row) (l .column) t) (o .row<) (o .column<) (e ∙ address-spot d g))))
+
+    pub load-other : (s : Step) → s .link ≢ stepOf d .link → load after s ≡ load rec s
+    load-other s n = load-amount after s ∙ (ap (amount (s .forth)) (byte-other (s .link) n) ∙ sym (load-amount rec s))

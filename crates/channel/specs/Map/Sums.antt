@@ -14,13 +14,12 @@ use Rattle.sums.specs.Sums.{when-none, when-so, when-some, sum-cong, sum-none, 
 use Rattle.sums.specs.Totals.{sum-entries}
 use Rattle.model.specs.Job.{Job, arrayFits, isChosen}
 use Rattle.model.specs.Links.{north, east, south, west, PlaceKind, pin, missing, centre, nowhere, side, Place, at, holds, isPlace, places, isPinKind, Step, tail, may, pass, around, aroundOf}
-use Rattle.model.specs.Near.{spot, entryOf, exitOf, entry, exit}
+use Rattle.model.specs.Near.{spot, entryOf, exitOf, entry, exit, IsSpot}
 use Rattle.model.proofs.Listed.{may-leaves}
-use Rattle.channel.specs.Table.{codes, codeOf}
-use Rattle.channel.specs.Map.{spots, darts, inGrid, rowOf, columnOf, isStart, ownerCell, stepOf, carries, isPassage, isLinkDart, isPassDart, passedOf}
+use Rattle.channel.specs.Map.{spots, darts, inGrid, rowOf, columnOf, isStart, ownerCell, stepOf, carries, isPassage, isLinkDart, isPassDart, passedOf, codes, codeOf, countsTwice}
 use Rattle.channel.specs.Map.Darts.{cell-row, cell-column, cell-grid, grid-cell}
 use Rattle.channel.specs.Map.Steps.{slot-step, link-tail, place-pass, pass-ends}
-use Rattle.channel.specs.Map.Spots.{IsSpot, countsTwice, missing-or-chosen, held-grid, places-cong, sum-spots}
+use Rattle.channel.specs.Map.Spots.{missing-or-chosen, held-grid, places-cong, sum-spots}
 
 -- ---- rows without a dart of a kind
 
@@ -67,7 +66,7 @@ exit-links k r c i l m t = by k l (link-row (8 * exitOf k r c + i) t)
 
 -- nor the entry of a place that counts twice
 entry-links : (k : PlaceKind) (r c i : ℕ) → T (countsTwice k) → i < 8 → T (isLinkDart (8 * entryOf k r c + i)) → ⊥
-unfolding entryOf below carries codeOf codes
+unfolding entryOf below carries codeOf codes countsTwice
 entry-links k r c i d m t = by k d (link-row (8 * entryOf k r c + i) t)
   where
     test : ℕ → Bool
@@ -174,6 +173,7 @@ module _ (J : Job) (fits : T (arrayFits (J .rows) (J .columns))) where
     onPass d = when (isPassDart d && isPlace J (passedOf d)) (f (passedOf d))
 
     pub sum-passes : sum darts onPass ≡ total (places J) f
+    unfolding countsTwice
     sum-passes =
         sum-darts onPass found
         ∙ places-cong J _ f (λ x t. omega (arith, exits x t, entries (x .kind) (x .row) (x .column) t))
@@ -260,7 +260,7 @@ module _ (J : Job) (fits : T (arrayFits (J .rows) (J .columns))) where
     onStart u = when (isStart J u) (f u)
 
     pub sum-starts : sum spots onStart ≡ total (places J) (λ x. when (isPinKind x) (f (exit x)))
-    unfolding entryOf exitOf
+    unfolding entryOf exitOf countsTwice
     sum-starts =
         sum-spots J fits onStart found
         ∙ places-cong J _ (λ x. when (isPinKind x) (f (exit x))) (λ x t. by (x .kind) (x .row) (x .column) t)

@@ -1,19 +1,14 @@
 -- A step that may be taken has a dart, which leads from the exit of the step's tail to the entry of its head, or outside. Assumes nothing.
 use mathlib.Core.Path.{_≡_, sym, ap, _∙_, subst}
-use mathlib.Core.Logic.{_⊎_}
 use Prim.Native.Nat.{ℕ, _+_, _*_, _/_, _<_}
 use lib.Dec.{T}
 use Rattle.sums.specs.Entries.{has-entry}
 use Rattle.model.specs.Job.{Job, arrayFits}
-use Rattle.model.specs.Links.{Place, theOutside, isPlace, Step, head, tail, may}
-use Rattle.model.specs.Near.{entry, exit}
+use Rattle.model.specs.Links.{Step, head, tail, may}
+use Rattle.model.specs.Near.{exit}
 use Rattle.model.proofs.Listed.{step-listed, may-leaves}
-use Rattle.channel.specs.Map.{darts, rev, stepOf, isLinkDart, outside}
+use Rattle.channel.specs.Map.{darts, rev, stepOf, isLinkDart, EndsAt}
 use Rattle.channel.specs.Map.Steps.{dartOf, step-dart, slot-step, link-tail, link-head}
-
--- a dart to the place x ends at the spot u
-abbrev pub Ends : Job → Place → ℕ → Type 0
-Ends J x u = (T (isPlace J x) × (entry x ≡ u)) ⊎ ((x ≡ theOutside) × T (outside J u))
 
 module _ (J : Job) (fits : T (arrayFits (J .rows) (J .columns))) (s : Step) (m : T (may J s)) where
   pub may-dart : (dartOf s < darts) × T (isLinkDart (dartOf s)) × (stepOf (dartOf s) ≡ s)
@@ -29,7 +24,8 @@ module _ (J : Job) (fits : T (arrayFits (J .rows) (J .columns))) (s : Step) (m :
       let (l, t, q) = may-dart in
       sym (link-tail J fits (dartOf s) l t (rw q m) .0) ∙ ap (λ (y : Step). exit (tail J y)) q
 
-  pub step-head : Ends J (head J s) (rev (dartOf s) / 8)
+  pub step-head : EndsAt J (head J s) (rev (dartOf s) / 8)
+  unfolding EndsAt
   step-head =
       let (l, t, q) = may-dart in
-      subst (λ (y : Step). Ends J (head J y) (rev (dartOf s) / 8)) q (link-head J fits (dartOf s) l t (rw q m))
+      subst (λ (y : Step). EndsAt J (head J y) (rev (dartOf s) / 8)) q (link-head J fits (dartOf s) l t (rw q m))

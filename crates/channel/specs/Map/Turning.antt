@@ -1,17 +1,15 @@
 -- The way back of a dart: the three answers of a program, and what the rows of the table have to do with their ways back, one computed test over the 64
 -- rows. A dart whose row leads out of range has its link's owner off the grid. Assumes nothing.
 use mathlib.Core.Path.{_≡_, refl, sym, ap, subst, _∙_}
-use mathlib.Core.Bool.{Bool, true, false, not, _||_}
-use mathlib.Core.List.{List, [], _∷_}
+use mathlib.Core.Bool.{Bool, true, false, not, _||_, Bool·beq}
 use Prim.Native.Nat.{ℕ, _+_, _-_, _/_, _%_, _≤_, _<_}
 use native.Mathlib.Omega.{arith}
 use borrow.Author.Tests.{lt-ltb, le-ltb, ltb-true, ltb-false}
 use lib.Dec.{T, eqb, eqb→eq, ltb, ltb→lt}
-use lib.ListN.{getD}
-use Rattle.channel.specs.Table.{turns, links, owners, signs, codes, turnOf, kindOf, ownerOf, signOf, codeOf}
+use Rattle.sums.specs.Tests.{below, below-at}
+use Rattle.channel.specs.Map.{turns, links, owners, signs, codes, turnOf, kindOf, ownerOf, signOf, codeOf, backRow, backCell, backCode}
 use Rattle.channel.specs.Map.{darts, inGrid, ahead, rev, ownerCell}
-use Rattle.channel.specs.Map.Bools.{if-true, if-false, alike, same-test, if-so}
-use Rattle.channel.specs.Map.Bounds.{all, all-at}
+use Rattle.channel.specs.Map.Bools.{if-true, if-false, same-test, if-so}
 use Rattle.channel.specs.Map.Grid.{grid-low, grid-high}
 
 -- ---- the answers of a program
@@ -36,44 +34,33 @@ module _ (d t : ℕ) (e : t ≡ turnOf (d % 64)) where
 
 -- ---- the rows and their ways back
 
--- the row of the way back, and how many cells ahead it lies, 42 more
-unfoldable pub backRow : ℕ → ℕ
-backRow i = (i + turnOf i) % 64
-
-unfoldable pub backCell : ℕ → ℕ
-backCell i = (i + turnOf i) / 64
-
--- the code of the way back
-abbrev pub backCodes : List ℕ
-backCodes = 0 ∷ 1 ∷ 2 ∷ 9 ∷ 10 ∷ 11 ∷ 12 ∷ 13 ∷ 14 ∷ 3 ∷ 4 ∷ 5 ∷ 6 ∷ 7 ∷ 8 ∷ []
-
 module _ (i : ℕ) (l : i < 64) where
   pub back-kind : kindOf (backRow i) ≡ kindOf i
-  unfolding all backRow turnOf turns kindOf links
-  back-kind = eqb→eq _ _ (all-at 64 (λ i. eqb (kindOf (backRow i)) (kindOf i)) tt i l)
+  unfolding below backRow turnOf turns kindOf links
+  back-kind = eqb→eq _ _ (below-at 64 (λ i. eqb (kindOf (backRow i)) (kindOf i)) tt i l)
 
-  pub back-code : codeOf (backRow i) ≡ getD backCodes (codeOf i) 0
-  unfolding all backRow turnOf turns codeOf codes
-  back-code = eqb→eq _ _ (all-at 64 (λ i. eqb (codeOf (backRow i)) (getD backCodes (codeOf i) 0)) tt i l)
+  pub back-code : codeOf (backRow i) ≡ backCode (codeOf i)
+  unfolding below backRow backCode turnOf turns codeOf codes
+  back-code = eqb→eq _ _ (below-at 64 (λ i. eqb (codeOf (backRow i)) (backCode (codeOf i))) tt i l)
 
   pub back-owner : ownerOf i + 42 ≡ ownerOf (backRow i) + backCell i
-  unfolding all backRow backCell turnOf turns ownerOf owners
-  back-owner = eqb→eq _ _ (all-at 64 (λ i. eqb (ownerOf i + 42) (ownerOf (backRow i) + backCell i)) tt i l)
+  unfolding below backRow backCell turnOf turns ownerOf owners
+  back-owner = eqb→eq _ _ (below-at 64 (λ i. eqb (ownerOf i + 42) (ownerOf (backRow i) + backCell i)) tt i l)
 
   back-far : ownerOf i ≡ backCell i - 42
-  unfolding all backCell turnOf turns ownerOf owners
-  back-far = eqb→eq _ _ (all-at 64 (λ i. eqb (ownerOf i) (backCell i - 42)) tt i l)
+  unfolding below backCell turnOf turns ownerOf owners
+  back-far = eqb→eq _ _ (below-at 64 (λ i. eqb (ownerOf i) (backCell i - 42)) tt i l)
 
   back-low : 0 < backCell i
-  unfolding all backCell turnOf turns
-  back-low = ltb→lt _ _ (all-at 64 (λ i. ltb 0 (backCell i)) tt i l)
+  unfolding below backCell turnOf turns
+  back-low = ltb→lt _ _ (below-at 64 (λ i. ltb 0 (backCell i)) tt i l)
 
   pub back-sign : T (not (eqb (codeOf i) 0)) → eqb (signOf (backRow i)) 0 ≡ not (eqb (signOf i) 0)
-  unfolding all alike backRow turnOf turns signOf signs codeOf codes
+  unfolding below backRow turnOf turns signOf signs codeOf codes
   back-sign n =
       same-test _ _
-      (if-so (not (eqb (codeOf i) 0)) (alike (eqb (signOf (backRow i)) 0) (not (eqb (signOf i) 0)))
-      (all-at 64 (λ i. not (not (eqb (codeOf i) 0)) || alike (eqb (signOf (backRow i)) 0) (not (eqb (signOf i) 0))) tt i l) n)
+      (if-so (not (eqb (codeOf i) 0)) (Bool·beq (eqb (signOf (backRow i)) 0) (not (eqb (signOf i) 0)))
+      (below-at 64 (λ i. not (not (eqb (codeOf i) 0)) || Bool·beq (eqb (signOf (backRow i)) 0) (not (eqb (signOf i) 0))) tt i l) n)
 
 -- either the row leads over, or the dart is its own way back and its link has no owner on the grid
 pub data Turn (d : ℕ) : ℕ → Type 0 where

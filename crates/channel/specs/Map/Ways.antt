@@ -6,39 +6,15 @@ use Prim.Native.Nat.{ℕ, zero, suc, _<_}
 use native.Mathlib.Omega.{arith}
 use borrow.Author.Tests.{lt-ltb}
 use lib.Dec.{T, eqb, ltb, ltb→lt}
-use lib.ListN.{getD}
-use Rattle.sums.specs.Counting.{when}
 use Rattle.sums.specs.Tests.{and-left, and-right, so}
 use Rattle.model.specs.Job.{Job, isPin, isTile, isOpen, isChosen, isMissing}
-use Rattle.model.specs.Links.{Compass, north, east, south, west, pin, missing, side, at, theOutside, isPlace, isEntered, beside, pinAt, LinkKind, northSide, westSide, corner, spoke, leg, link, Step, go, come, behindOf, aheadOf, head, may}
-use Rattle.model.specs.Record.{kinds}
+use Rattle.model.specs.Links.{Compass, north, east, south, west, pin, missing, side, at, theOutside, isPlace, isEntered, beside, pinAt, LinkKind, northSide, westSide, corner, spoke, leg, link, go, come, behindOf, aheadOf, head, may}
 use Rattle.channel.specs.Map.Bools.{and-same, and-true, and-false, or-true, or-false}
-use Rattle.channel.specs.Map.{inGrid, rowOf, columnOf, ownerCell, stepOf}
-
--- the step of the link of kind number k at (r, c) in the direction of sign s
-abbrev pub stepAt : ℕ → ℕ → ℕ → ℕ → Step
-stepAt k s r c = record { link = link (getD kinds k northSide) r c; forth = eqb s 0 }
-
-module _ (J : Job) where
-  -- the dart's link has an owner on the grid, and its step may be taken
-  unfoldable pub mayTake : ℕ → Bool
-  mayTake d = inGrid (ownerCell d) && may J (stepOf d)
-
-  -- it has one, and the way ahead along the link leads to a place
-  unfoldable pub reaches : ℕ → Bool
-  reaches d = inGrid (ownerCell d) && isPlace J (aheadOf J (stepOf d .link .kind) (stepOf d .link .row) (stepOf d .link .column))
-
-  -- the mark of the pin there
-  unfoldable pub ownerMark : ℕ → ℕ
-  ownerMark d = when (inGrid (ownerCell d)) (J .mark (rowOf (ownerCell d)) (columnOf (ownerCell d)))
 
 -- a link within a tile: a corner or a spoke
-abbrev pub within : LinkKind → Bool
-within northSide = false
-within westSide = false
-within (corner d) = true
-within (spoke d) = true
-within (leg d) = false
+pub data Within : LinkKind → Type 0 where
+  by-corner : {d : Compass} → Within (corner d)
+  by-spoke : {d : Compass} → Within (spoke d)
 
 module _ (J : Job) where
   -- ---- beside a tile
@@ -104,15 +80,12 @@ module _ (J : Job) where
 
   -- ---- corners, spokes and legs
 
-  pub within-may : (k : LinkKind) (f : Bool) (r c : ℕ) → T (within k) → may J (record { link = link k r c; forth = f }) ≡ isOpen J r c
+  pub within-may : {k : LinkKind} → Within k → (f : Bool) (r c : ℕ) → may J (record { link = link k r c; forth = f }) ≡ isOpen J r c
   unfolding may head behindOf aheadOf
-  within-may northSide f r c t = absurd t
-  within-may westSide f r c t = absurd t
-  within-may (corner d) true r c t = and-same _
-  within-may (corner d) false r c t = and-same _
-  within-may (spoke d) true r c t = and-same _
-  within-may (spoke d) false r c t = and-same _
-  within-may (leg d) f r c t = absurd t
+  within-may by-corner true r c = and-same _
+  within-may by-corner false r c = and-same _
+  within-may by-spoke true r c = and-same _
+  within-may by-spoke false r c = and-same _
 
   -- what a leg leads to may be entered where it is a place
   leg-entered : (d : Compass) (r c : ℕ) → isEntered J (aheadOf J (leg d) r c) ≡ isPlace J (aheadOf J (leg d) r c)

@@ -3,7 +3,7 @@ use borrow.Author.Needs.{needs}
 use mathlib.Core.Path.{sym}
 use Prim.Native.Nat.{_%_}
 use native.Mathlib.Omega.{arith}
-use Rattle.channel.specs.Table.{codeOf}
+use Rattle.channel.specs.Map.{codeOf}
 use Rattle.model.specs.Record.{jobOf}
 use Rattle.channel.specs.Map.Caps.{free-none, from-three, from-six}
 use Rattle.channel.proofs.limits.is_free.Statement.{statement}

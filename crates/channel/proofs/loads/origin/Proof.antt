@@ -5,7 +5,7 @@ use Prim.Native.Nat.{ℕ, _/_}
 use native.Mathlib.Omega.{arith}
 use lib.Dec.{ltb}
 use Rattle.channel.specs.Map.Bounds.{owner-bound}
-use Rattle.channel.specs.Map.Darts.{seatOf}
+use Rattle.channel.specs.Map.{seatOf}
 use Rattle.channel.specs.Map.Origins.{origin-none, origin-at}
 use Rattle.channel.proofs.loads.origin.Statement.{statement}
 use Rattle.channel.proofs.loads.origin.Tie as tie

@@ -4,7 +4,7 @@ use mathlib.Core.Path.{_≡_, sym, _∙_}
 use Prim.Native.Nat.{_%_, _<_}
 use native.Mathlib.Omega.{arith}
 use Rattle.model.specs.Record.{jobOf}
-use Rattle.channel.specs.Table.{codeOf}
+use Rattle.channel.specs.Map.{codeOf}
 use Rattle.channel.specs.Map.Caps.{from-three}
 use Rattle.channel.specs.Map.Moving.{none-moves, centre-back-moves, missing-back-moves, link-back-moves, high-code}
 use Rattle.channel.proofs.moves.can_move.Statement.{statement}

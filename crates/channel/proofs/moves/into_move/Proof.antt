@@ -4,7 +4,7 @@ use mathlib.Core.Path.{_≡_}
 use Prim.Native.Nat.{_%_}
 use native.Mathlib.Omega.{arith}
 use Rattle.model.specs.Record.{jobOf}
-use Rattle.channel.specs.Table.{codeOf}
+use Rattle.channel.specs.Map.{codeOf}
 use Rattle.channel.specs.Map.Caps.{from-six}
 use Rattle.channel.specs.Map.Moving.{into-shut, into-open}
 use Rattle.channel.proofs.moves.into_move.Statement.{statement}

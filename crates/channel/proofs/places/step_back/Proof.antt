@@ -4,8 +4,7 @@ use mathlib.Core.Path.{_≡_, sym, ap, subst, _∙_}
 use Prim.Native.Nat.{ℕ, _<_}
 use lib.Dec.{T}
 use Rattle.model.specs.Links.{turn}
-use Rattle.channel.specs.Map.{darts, rev, stepOf, isLinkDart}
-use Rattle.channel.specs.Map.Darts.{dartOf}
+use Rattle.channel.specs.Map.{darts, rev, stepOf, isLinkDart, dartOf}
 use Rattle.channel.specs.Map.Entered.{fromExit, exit-entry, exit-twin, exit-same, back-exit, back-range}
 use Rattle.channel.proofs.places.step_back.Statement.{statement}
 use Rattle.channel.proofs.places.step_back.Tie as tie

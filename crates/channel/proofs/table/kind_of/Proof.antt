@@ -1,6 +1,9 @@
 -- `table::kind_of` meets its contract: the kind is a part of its row's word. Assumes nothing.
+use mathlib.Core.Path.{ap, _∙_}
+use Prim.Native.Nat.{_%_}
+use native.Mathlib.Omega.{arith}
 use borrow.Author.Needs.{needs}
-use Rattle.channel.specs.Map.Packed.{packed-kind}
+use Rattle.channel.specs.Map.{kindOf}
 use Rattle.channel.proofs.table.kind_of.Statement.{statement}
 use Rattle.channel.proofs.table.kind_of.Tie as tie
 
@@ -17,7 +20,7 @@ shr-result : tie.Need-shr-result
 shr-result c = search needs
 
 returns : tie.Need-returns
-returns c = rw (c .row-word .ensures) (packed-kind (c .before .args .i) (c .before .pre))
+returns c = c .row-word .ensures (c .before .args .i % 8) (omega arith) .1 ∙ ap kindOf (omega arith)
 
 pub kind-of-spec : {M : Type 1} → statement M
 kind-of-spec = tie.close (tie.spec row-word-requires mul-result add-result shr-result returns)

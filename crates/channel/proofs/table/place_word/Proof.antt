@@ -1,6 +1,6 @@
--- `table::place_word` meets its contract: the constant array is the list, word by word. Assumes nothing.
+-- `table::place_word` meets its contract: each constant has the entries of its rows. Assumes nothing.
 use borrow.Author.Needs.{needs}
-use Rattle.channel.specs.Map.Packed.{placeWords, word-at, from-fifteen}
+use Rattle.channel.specs.Map.Packed.{place-word, from-fifteen}
 use Rattle.channel.proofs.table.place_word.Statement.{statement}
 use Rattle.channel.proofs.table.place_word.Tie as tie
 
@@ -53,68 +53,52 @@ array-read-result-16 : tie.Need-array-read-result-16
 array-read-result-16 c = search needs
 
 returns : tie.Need-returns
-unfolding placeWords
-returns c = word-at placeWords (c .match .keys1)
+returns c = place-word (c .before .pre) (c .match .keys1)
 
 returns-2 : tie.Need-returns-2
-unfolding placeWords
-returns-2 c = word-at placeWords (c .match .keys2)
+returns-2 c = place-word (c .before .pre) (c .match .keys2)
 
 returns-3 : tie.Need-returns-3
-unfolding placeWords
-returns-3 c = word-at placeWords (c .match .keys3)
+returns-3 c = place-word (c .before .pre) (c .match .keys3)
 
 returns-4 : tie.Need-returns-4
-unfolding placeWords
-returns-4 c = word-at placeWords (c .match .keys4)
+returns-4 c = place-word (c .before .pre) (c .match .keys4)
 
 returns-5 : tie.Need-returns-5
-unfolding placeWords
-returns-5 c = word-at placeWords (c .match .keys5)
+returns-5 c = place-word (c .before .pre) (c .match .keys5)
 
 returns-6 : tie.Need-returns-6
-unfolding placeWords
-returns-6 c = word-at placeWords (c .match .keys6)
+returns-6 c = place-word (c .before .pre) (c .match .keys6)
 
 returns-7 : tie.Need-returns-7
-unfolding placeWords
-returns-7 c = word-at placeWords (c .match .keys7)
+returns-7 c = place-word (c .before .pre) (c .match .keys7)
 
 returns-8 : tie.Need-returns-8
-unfolding placeWords
-returns-8 c = word-at placeWords (c .match .keys8)
+returns-8 c = place-word (c .before .pre) (c .match .keys8)
 
 returns-9 : tie.Need-returns-9
-unfolding placeWords
-returns-9 c = word-at placeWords (c .match .keys9)
+returns-9 c = place-word (c .before .pre) (c .match .keys9)
 
 returns-10 : tie.Need-returns-10
-unfolding placeWords
-returns-10 c = word-at placeWords (c .match .keys10)
+returns-10 c = place-word (c .before .pre) (c .match .keys10)
 
 returns-11 : tie.Need-returns-11
-unfolding placeWords
-returns-11 c = word-at placeWords (c .match .keys11)
+returns-11 c = place-word (c .before .pre) (c .match .keys11)
 
 returns-12 : tie.Need-returns-12
-unfolding placeWords
-returns-12 c = word-at placeWords (c .match .keys12)
+returns-12 c = place-word (c .before .pre) (c .match .keys12)
 
 returns-13 : tie.Need-returns-13
-unfolding placeWords
-returns-13 c = word-at placeWords (c .match .keys13)
+returns-13 c = place-word (c .before .pre) (c .match .keys13)
 
 returns-14 : tie.Need-returns-14
-unfolding placeWords
-returns-14 c = word-at placeWords (c .match .keys14)
+returns-14 c = place-word (c .before .pre) (c .match .keys14)
 
 returns-15 : tie.Need-returns-15
-unfolding placeWords
-returns-15 c = word-at placeWords (c .match .keys15)
+returns-15 c = place-word (c .before .pre) (c .match .keys15)
 
 returns-16 : tie.Need-returns-16
-unfolding placeWords
-returns-16 c = word-at placeWords (from-fifteen _ (c .before .pre) (c .match .rest))
+returns-16 c = place-word (c .before .pre) (from-fifteen _ (c .before .pre) (c .match .rest))
 
 pub place-word-spec : {M : Type 1} → statement M
 place-word-spec =

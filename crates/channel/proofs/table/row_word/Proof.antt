@@ -1,6 +1,6 @@
--- `table::row_word` meets its contract: the constant array is the list, word by word. Assumes nothing.
+-- `table::row_word` meets its contract: each constant has the entries of its rows. Assumes nothing.
 use borrow.Author.Needs.{needs}
-use Rattle.channel.specs.Map.Packed.{rowWords, word-at, from-seven}
+use Rattle.channel.specs.Map.Packed.{row-word, from-seven}
 use Rattle.channel.proofs.table.row_word.Statement.{statement}
 use Rattle.channel.proofs.table.row_word.Tie as tie
 
@@ -29,36 +29,28 @@ array-read-result-8 : tie.Need-array-read-result-8
 array-read-result-8 c = search needs
 
 returns : tie.Need-returns
-unfolding rowWords
-returns c = word-at rowWords (c .match .keys1)
+returns c = row-word (c .before .pre) (c .match .keys1)
 
 returns-2 : tie.Need-returns-2
-unfolding rowWords
-returns-2 c = word-at rowWords (c .match .keys2)
+returns-2 c = row-word (c .before .pre) (c .match .keys2)
 
 returns-3 : tie.Need-returns-3
-unfolding rowWords
-returns-3 c = word-at rowWords (c .match .keys3)
+returns-3 c = row-word (c .before .pre) (c .match .keys3)
 
 returns-4 : tie.Need-returns-4
-unfolding rowWords
-returns-4 c = word-at rowWords (c .match .keys4)
+returns-4 c = row-word (c .before .pre) (c .match .keys4)
 
 returns-5 : tie.Need-returns-5
-unfolding rowWords
-returns-5 c = word-at rowWords (c .match .keys5)
+returns-5 c = row-word (c .before .pre) (c .match .keys5)
 
 returns-6 : tie.Need-returns-6
-unfolding rowWords
-returns-6 c = word-at rowWords (c .match .keys6)
+returns-6 c = row-word (c .before .pre) (c .match .keys6)
 
 returns-7 : tie.Need-returns-7
-unfolding rowWords
-returns-7 c = word-at rowWords (c .match .keys7)
+returns-7 c = row-word (c .before .pre) (c .match .keys7)
 
 returns-8 : tie.Need-returns-8
-unfolding rowWords
-returns-8 c = word-at rowWords (from-seven _ (c .before .pre) (c .match .rest))
+returns-8 c = row-word (c .before .pre) (from-seven _ (c .before .pre) (c .match .rest))
 
 pub row-word-spec : {M : Type 1} → statement M
 row-word-spec =

@@ -1,6 +1,6 @@
--- `table::seat_word` meets its contract: the constant array is the list, word by word. Assumes nothing.
+-- `table::seat_word` meets its contract: each constant has the entries of its rows. Assumes nothing.
 use borrow.Author.Needs.{needs}
-use Rattle.channel.specs.Map.Packed.{seatWords, word-at, from-three}
+use Rattle.channel.specs.Map.Packed.{seat-word, from-three}
 use Rattle.channel.proofs.table.seat_word.Statement.{statement}
 use Rattle.channel.proofs.table.seat_word.Tie as tie
 
@@ -17,20 +17,16 @@ array-read-result-4 : tie.Need-array-read-result-4
 array-read-result-4 c = search needs
 
 returns : tie.Need-returns
-unfolding seatWords
-returns c = word-at seatWords (c .match .keys1)
+returns c = seat-word (c .before .pre) (c .match .keys1)
 
 returns-2 : tie.Need-returns-2
-unfolding seatWords
-returns-2 c = word-at seatWords (c .match .keys2)
+returns-2 c = seat-word (c .before .pre) (c .match .keys2)
 
 returns-3 : tie.Need-returns-3
-unfolding seatWords
-returns-3 c = word-at seatWords (c .match .keys3)
+returns-3 c = seat-word (c .before .pre) (c .match .keys3)
 
 returns-4 : tie.Need-returns-4
-unfolding seatWords
-returns-4 c = word-at seatWords (from-three _ (c .before .pre) (c .match .rest))
+returns-4 c = seat-word (c .before .pre) (from-three _ (c .before .pre) (c .match .rest))
 
 pub seat-word-spec : {M : Type 1} → statement M
 seat-word-spec =

@@ -1,6 +1,6 @@
--- `table::turn_word` meets its contract: the constant array is the list, word by word. Assumes nothing.
+-- `table::turn_word` meets its contract: each constant has the entries of its rows. Assumes nothing.
 use borrow.Author.Needs.{needs}
-use Rattle.channel.specs.Map.Packed.{turnWords, word-at, from-fifteen}
+use Rattle.channel.specs.Map.Packed.{turn-word, from-fifteen}
 use Rattle.channel.proofs.table.turn_word.Statement.{statement}
 use Rattle.channel.proofs.table.turn_word.Tie as tie
 
@@ -53,68 +53,52 @@ array-read-result-16 : tie.Need-array-read-result-16
 array-read-result-16 c = search needs
 
 returns : tie.Need-returns
-unfolding turnWords
-returns c = word-at turnWords (c .match .keys1)
+returns c = turn-word (c .before .pre) (c .match .keys1)
 
 returns-2 : tie.Need-returns-2
-unfolding turnWords
-returns-2 c = word-at turnWords (c .match .keys2)
+returns-2 c = turn-word (c .before .pre) (c .match .keys2)
 
 returns-3 : tie.Need-returns-3
-unfolding turnWords
-returns-3 c = word-at turnWords (c .match .keys3)
+returns-3 c = turn-word (c .before .pre) (c .match .keys3)
 
 returns-4 : tie.Need-returns-4
-unfolding turnWords
-returns-4 c = word-at turnWords (c .match .keys4)
+returns-4 c = turn-word (c .before .pre) (c .match .keys4)
 
 returns-5 : tie.Need-returns-5
-unfolding turnWords
-returns-5 c = word-at turnWords (c .match .keys5)
+returns-5 c = turn-word (c .before .pre) (c .match .keys5)
 
 returns-6 : tie.Need-returns-6
-unfolding turnWords
-returns-6 c = word-at turnWords (c .match .keys6)
+returns-6 c = turn-word (c .before .pre) (c .match .keys6)
 
 returns-7 : tie.Need-returns-7
-unfolding turnWords
-returns-7 c = word-at turnWords (c .match .keys7)
+returns-7 c = turn-word (c .before .pre) (c .match .keys7)
 
 returns-8 : tie.Need-returns-8
-unfolding turnWords
-returns-8 c = word-at turnWords (c .match .keys8)
+returns-8 c = turn-word (c .before .pre) (c .match .keys8)
 
 returns-9 : tie.Need-returns-9
-unfolding turnWords
-returns-9 c = word-at turnWords (c .match .keys9)
+returns-9 c = turn-word (c .before .pre) (c .match .keys9)
 
 returns-10 : tie.Need-returns-10
-unfolding turnWords
-returns-10 c = word-at turnWords (c .match .keys10)
+returns-10 c = turn-word (c .before .pre) (c .match .keys10)
 
 returns-11 : tie.Need-returns-11
-unfolding turnWords
-returns-11 c = word-at turnWords (c .match .keys11)
+returns-11 c = turn-word (c .before .pre) (c .match .keys11)
 
 returns-12 : tie.Need-returns-12
-unfolding turnWords
-returns-12 c = word-at turnWords (c .match .keys12)
+returns-12 c = turn-word (c .before .pre) (c .match .keys12)
 
 returns-13 : tie.Need-returns-13
-unfolding turnWords
-returns-13 c = word-at turnWords (c .match .keys13)
+returns-13 c = turn-word (c .before .pre) (c .match .keys13)
 
 returns-14 : tie.Need-returns-14
-unfolding turnWords
-returns-14 c = word-at turnWords (c .match .keys14)
+returns-14 c = turn-word (c .before .pre) (c .match .keys14)
 
 returns-15 : tie.Need-returns-15
-unfolding turnWords
-returns-15 c = word-at turnWords (c .match .keys15)
+returns-15 c = turn-word (c .before .pre) (c .match .keys15)
 
 returns-16 : tie.Need-returns-16
-unfolding turnWords
-returns-16 c = word-at turnWords (from-fifteen _ (c .before .pre) (c .match .rest))
+returns-16 c = turn-word (c .before .pre) (from-fifteen _ (c .before .pre) (c .match .rest))
 
 pub turn-word-spec : {M : Type 1} → statement M
 turn-word-spec =

@@ -8,7 +8,7 @@ use borrow.Author.Needs.{needs}
 use borrow.Author.Fill.{fill-more}
 use lib.ListN.{length, drop, set, replicate, length-set}
 use lib.Seq.{drop-length}
-use Rattle.channel.specs.Write.{zeros}
+use Rattle.channel.specs.Written.{zeros-filled}
 use Rattle.channel.proofs.write.clear.Statement.{statement}
 use Rattle.channel.proofs.write.clear.Tie as tie
 
@@ -42,11 +42,10 @@ same-length : tie.Need-same-length Inv-loop μ-loop
 same-length c = c .before .loop .inv .1
 
 returns : tie.Need-returns Inv-loop μ-loop
-unfolding zeros
 returns c =
     let l = c .before .loop in
     let e : l .i ≡ length (now (c .before .before .args .part)) = omega arith in
-    l .inv .2 ∙ rw (e, drop-length, append-nil)
+    l .inv .2 ∙ rw (e, drop-length, append-nil) (zeros-filled (length (now (c .before .before .args .part))))
 
 pub clear-spec : {M : Type 1} → statement M
 clear-spec = tie.close (tie.spec Inv-loop μ-loop loop-holds slice-write-part add-i loop-less loop-again same-length returns)

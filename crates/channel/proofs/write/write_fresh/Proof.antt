@@ -7,8 +7,7 @@ use denote.Ref.{now}
 use borrow.Author.Needs.{needs}
 use lib.ListN.{drop, set, length-set}
 use lib.Seq.{length-take-le, length-front}
-use Rattle.channel.specs.Write.{zeros}
-use Rattle.channel.specs.Written.{fresh-written}
+use Rattle.channel.specs.Written.{zeros, fresh-written}
 use Rattle.channel.proofs.write.write_fresh.Statement.{statement}
 use Rattle.channel.proofs.write.write_fresh.Tie as tie
 
