@@ -2,6 +2,7 @@
 -- definition of this file is shut: a crate above sees its name and the laws, never its text. Assumes nothing.
 pub mod Rows
 pub mod Back
+pub mod Numbers
 pub mod Darts
 pub mod Ends
 pub mod Around
@@ -12,21 +13,12 @@ pub mod Limits
 pub mod Taken
 pub mod Spots
 pub mod Sums
-pub mod NearSides
-pub mod Routes
 pub mod Carried
 pub mod Slots
-pub mod Flows
-pub mod Moves
 pub mod Carry
 pub mod Stores
-pub mod Pushed
-pub mod InOut
 pub mod Places
-pub mod Agree
-pub mod Loops
 pub mod Starts
-pub mod Least
 pub mod Bools
 pub mod Bounds
 pub mod Turning

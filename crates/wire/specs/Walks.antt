@@ -25,7 +25,7 @@ use Rattle.channel.specs.Map.{darts, rev, rowOf, columnOf, stepOf, isLinkDart, 
 use Rattle.channel.specs.Map.Darts.{dartOf}
 use Rattle.channel.specs.Map.Steps.{slot-step}
 use Rattle.channel.specs.Map.Places.{chosen-cell}
-use Rattle.channel.specs.Map.Pushed.{turn-turn}
+use Rattle.channel.specs.Map.Network.Pushed.{turn-turn}
 use Rattle.channel.specs.Map.Entered.{Named, slot-entry, slot-none, comes-outside, comes-inside, head-slot, head-named, tail-named}
 use Rattle.pairing.specs.Answer.{lanes, lanes-in, Partner}
 use Rattle.pairing.specs.Lanes.{loadOf}

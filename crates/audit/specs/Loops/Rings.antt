@@ -10,11 +10,11 @@ use native.Mathlib.Omega.{arith}
 use lib.ListN.{getD}
 use Rattle.sums.specs.Counting.{total}
 use Rattle.sums.specs.Sums.{when-other}
-use Rattle.flow.specs.Network.{times, Path, here, along}
+use Rattle.flow.specs.Network.{times, Path, here}
 use Rattle.flow.specs.Cancel.{Loaded}
 use Rattle.model.specs.Job.{Job}
 use Rattle.channel.specs.Map.{spots, darts, rev, view}
-use Rattle.channel.specs.Map.Network.{net}
+use Rattle.channel.specs.Map.Network.{net, path-along}
 use Rattle.channel.specs.Map.Origins.{originOf, Begins, leaves, goesOn, loaded-begins, loaded-slot}
 use Rattle.audit.specs.Loops.{ringDarts, Closed}
 use Rattle.audit.specs.Loops.Dfs.{Edge, Dfs, Placed}
@@ -83,7 +83,7 @@ module _ {rec fin st sl : List ℕ} {n m : ℕ} (s : Dfs rec fin st sl n m) {x :
   climb J (suc c) j u e a b =
       let (v, g) = edge-at j (omega arith) in
       let p : u ≡ getD st j 0 = a (omega arith) in
-      along {d = 8 * getD st j 0 + getD sl j 0} {u = u} (omega (arith, g .spot, g .slot)) (omega (arith, g .slot)) (g .laden)
+      path-along J {d = 8 * getD st j 0 + getD sl j 0} {u = u} (omega (arith, g .spot, g .slot)) (omega (arith, g .slot)) (g .laden)
       (not-again c (suc j) j (omega arith) (omega arith))
       (climb J c (suc j) (rev (8 * getD st j 0 + getD sl j 0) / 8) (omega arith)
       (λ l. rw add-one at (s .link j (omega arith) .leads)) (λ l. last j (omega arith) .leads))

@@ -69,12 +69,12 @@ module _ (d e : ℕ) (q : e / 64 ≡ d / 64) (t : T (twin (e % 64) (d % 64))) wh
 
 -- ---- loads that are only where something may be
 
-abbrev pub Quiet : (ℕ → ℕ) → Type 0
-Quiet g = (d : ℕ) → d < darts → T (not (isLinkDart d)) → T (not (isPassDart d)) → g d ≡ 0
+pub record Quiet (g : ℕ → ℕ) : Type 0 where
+  pub none : (d : ℕ) → d < darts → T (not (isLinkDart d)) → T (not (isPassDart d)) → g d ≡ 0
 
 module _ (g : ℕ → ℕ) (quiet : Quiet g) where
   idle-none : (d : ℕ) → d < darts → T (idle (d % 64)) → g d ≡ 0
-  idle-none d l t = quiet d l (idle-link d t) (idle-pass d t)
+  idle-none d l t = quiet .none d l (idle-link d t) (idle-pass d t)
 
   idle-at : (d i : ℕ) → d % 64 ≡ i → T (idle i) → d < darts → g d ≡ 0
   idle-at d i e t l = idle-none d l (subst (λ (x : ℕ). T (idle x)) (sym e) t)
@@ -113,6 +113,7 @@ module _ (g : ℕ → ℕ) (quiet : Quiet g) where
 
   module _ (J : Job) where
     out-eight : (f : ℕ → ℕ) (u : ℕ) → u < spots → out (net J) f u ≡ sum 8 (λ k. f (8 * u + k))
+    unfolding net
     out-eight f u l = out-slots (net J) 8 (λ i. 105024) (λ d i. d / 8) f u l ∙ sum-cong 8 _ _ (λ k h. ap f (omega arith))
 
     -- n, e, s, w: the kind is 2 + j
@@ -141,7 +142,7 @@ module _ (g : ℕ → ℕ) (quiet : Quiet g) where
           (omega arith) (slots h n)
 
       pub side-back : out (net J) (back (net J) g) u ≡ sum 5 (λ k. g (dartOf (turn (stepOf (8 * u + k)))))
-      unfolding sum all mirrors twin still backRow turnOf turns kindOf links ownerOf owners signOf signs codeOf codes carries isStored isPassage
+      unfolding net sum all mirrors twin still backRow turnOf turns kindOf links ownerOf owners signOf signs codeOf codes carries isStored isPassage
       side-back =
           omega (
             arith,
@@ -230,7 +231,7 @@ module _ (g : ℕ → ℕ) (quiet : Quiet g) where
           (all-at 2 (λ i. mirrors (48 * i + k) (48 * i + (8 + k))) t j b) (omega arith) (slots k l)
 
       pub exit-back : out (net J) (back (net J) g) (u + 1) ≡ g (8 * u + 4)
-      unfolding sum all still backRow turnOf turns codeOf codes carries isPassage
+      unfolding net sum all still backRow turnOf turns codeOf codes carries isPassage
       exit-back =
           omega (
             arith,
@@ -246,7 +247,7 @@ module _ (g : ℕ → ℕ) (quiet : Quiet g) where
           )
 
       pub entry-back : out (net J) (back (net J) g) u ≡ sum 4 (λ k. g (dartOf (turn (stepOf (8 * (u + 1) + k)))))
-      unfolding sum all mirrors twin still backRow turnOf turns kindOf links ownerOf owners signOf signs codeOf codes carries isStored isPassage
+      unfolding net sum all mirrors twin still backRow turnOf turns kindOf links ownerOf owners signOf signs codeOf codes carries isStored isPassage
       entry-back =
           omega (
             arith,
