@@ -49,10 +49,10 @@ use Rattle.channel.specs.Table.{turnOf, kindOf, ownerOf, signOf, codeOf}
 -- ---- numbers
 
 -- the numbers of spots and of darts
-abbrev pub spots : ℕ
+pub spots : ℕ
 spots = 13128
 
-abbrev pub darts : ℕ
+pub darts : ℕ
 darts = 105024
 
 -- the row and the column of a cell, where it is on the grid

@@ -15,7 +15,7 @@ use Rattle.model.specs.Links.{LinkKind, northSide, westSide, corner, spoke, leg
 use Rattle.model.specs.Links.{Step, head, tail, isEntered, around}
 use Rattle.model.specs.Near.{spot, entryOf, exitOf, entry, exit}
 use Rattle.channel.specs.Table.{turns, owners, turnOf, ownerOf}
-use Rattle.channel.specs.Map.{inGrid, rowOf, columnOf, ahead, rev, outside}
+use Rattle.channel.specs.Map.{darts, inGrid, rowOf, columnOf, ahead, rev, outside}
 use Rattle.channel.specs.Map.Rows.{backRow}
 use Rattle.channel.specs.Map.Back.{grid-at, rev-over}
 use Rattle.channel.specs.Map.Darts.{cell-row, cell-column, dartOf, seatOf}
@@ -98,7 +98,7 @@ Arrives J d p = (T (isPlace J p) × (entry p ≡ rev d / 8)) ⊎ ((p ≡ theOuts
 
 -- the spot that a dart at the row i leads to, in the cell z
 pub rev-spot : (d i z : ℕ) → (d % 64 ≡ i) × (64 * z + backRow i + 2688 ≡ d + turnOf i) × (z < 1641) → rev d / 8 ≡ 8 * z + backRow i / 8
-unfolding backRow ahead
+unfolding backRow ahead darts
 rev-spot d i z (m, e, l) =
     let r : rev d ≡ 64 * z + (i + turnOf i) % 64 = rev-over d (64 * z + (i + turnOf i) % 64) (omega (arith, ap turnOf m)) (omega arith) in
     omega arith

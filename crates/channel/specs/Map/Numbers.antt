@@ -13,6 +13,14 @@ pub darts-is : darts ≡ 105024
 unfolding darts
 darts-is = refl
 
+pub is-dart : {d : ℕ} → d < 105024 → d < darts
+unfolding darts
+is-dart l = l
+
+pub dart-below : {d : ℕ} → d < darts → d < 105024
+unfolding darts
+dart-below l = l
+
 pub slot-dart : (u k : ℕ) → u < spots → k < 8 → 8 * u + k < darts
 slot-dart u k l h = omega (arith, spots-is, darts-is)
 

@@ -264,6 +264,7 @@ module _ (J : Job) (fits : T (arrayFits (J .rows) (J .columns))) (g s : ℕ → 
 
   -- n, e, s, w
   side-even : (d : Compass) (r c : ℕ) → T (isOpen J r c) → arrivals f (at (side d) r c) ≡ departures f (at (side d) r c)
+  unfolding darts spots
   side-even d r c t =
       omega (
         arith,
@@ -299,6 +300,7 @@ module _ (J : Job) (fits : T (arrayFits (J .rows) (J .columns))) (g s : ℕ → 
     slots k h = subst (λ (v : ℕ). T (isLinkDart (8 * v + k))) e (slot-link J fits x t k (omega arith) .1)
 
     low : u + 1 < spots
+    unfolding darts spots
     low = omega (arith, slot-link J fits x t 0 (omega arith) .0)
 
     -- what goes through it
@@ -366,7 +368,7 @@ module _ (J : Job) (fits : T (arrayFits (J .rows) (J .columns))) (g s : ℕ → 
   unstarted u l w = omega (arith, F .load .wanted u l)
 
   even : (k : PlaceKind) (r c : ℕ) → T (isPlace J (at k r c)) → T (isEntered J (at k r c)) → arrivals f (at k r c) ≡ departures f (at k r c)
-  unfolding exitOf
+  unfolding exitOf spots
   even pin r c t e = absurd e
   even missing r c t e =
       let (p, q) = missing-cell J fits r c t in
@@ -406,7 +408,7 @@ module _ (J : Job) (fits : T (arrayFits (J .rows) (J .columns))) (g s : ℕ → 
   passes (side d) r c m t e = absurd (subst (λ (o : Option ℕ). T (isNone o)) e tt)
 
   pin-once : (r c : ℕ) → T (isChosen J r c) → departures f (at pin r c) ≤ 1
-  unfolding net exitOf want
+  unfolding net exitOf want spots
   pin-once r c t =
       let (p, q) = chosen-cell J fits r c t in
       omega (arith, pin-starts r c t, F .load .wanted (exit (at pin r c)) (omega arith), one (isStart J (exit (at pin r c))))

@@ -113,7 +113,7 @@ module _ (g : ℕ → ℕ) (quiet : Quiet g) where
 
   module _ (J : Job) where
     out-eight : (f : ℕ → ℕ) (u : ℕ) → u < spots → out (net J) f u ≡ sum 8 (λ k. f (8 * u + k))
-    unfolding net
+    unfolding net darts spots
     out-eight f u l = out-slots (net J) 8 (λ i. 105024) (λ d i. d / 8) f u l ∙ sum-cong 8 _ _ (λ k h. ap f (omega arith))
 
     -- n, e, s, w: the kind is 2 + j
@@ -125,7 +125,7 @@ module _ (g : ℕ → ℕ) (quiet : Quiet g) where
       test k p t = all-at 4 (λ i. p (16 + 8 * i + k)) t j b
 
       pub side-out : out (net J) g u ≡ sum 5 (λ k. g (8 * u + k))
-      unfolding sum all codeOf codes carries isPassage
+      unfolding sum all codeOf codes carries isPassage darts spots
       side-out =
           omega (
             arith,
@@ -137,12 +137,13 @@ module _ (g : ℕ → ℕ) (quiet : Quiet g) where
 
       mirror : (k h : ℕ) → k < 8 → h < 5 → T (all 4 (λ i. mirrors (16 + 8 * i + k) (16 + 8 * i + h)))
           → g (rev (8 * u + k)) ≡ g (dartOf (turn (stepOf (8 * u + h))))
+      unfolding darts spots
       mirror k h l n t =
           mirror-at (8 * u + h) (8 * u + k) _ _ (row k l) (row h (omega arith)) (omega arith) (all-at 4 (λ i. mirrors (16 + 8 * i + k) (16 + 8 * i + h)) t j b)
           (omega arith) (slots h n)
 
       pub side-back : out (net J) (back (net J) g) u ≡ sum 5 (λ k. g (dartOf (turn (stepOf (8 * u + k)))))
-      unfolding net sum all mirrors twin still backRow turnOf turns kindOf links ownerOf owners signOf signs codeOf codes carries isStored isPassage
+      unfolding net sum all mirrors twin still backRow turnOf turns kindOf links ownerOf owners signOf signs codeOf codes carries isStored isPassage darts spots
       side-back =
           omega (
             arith,
@@ -169,15 +170,19 @@ module _ (g : ℕ → ℕ) (quiet : Quiet g) where
       pair-test k p t = all-at 2 (λ i. p (48 * i + k)) t j b
 
       entry-idle : (k : ℕ) → k < 8 → T (all 2 (λ i. idle (48 * i + k))) → g (8 * u + k) ≡ 0
+      unfolding darts spots
       entry-idle k l t = idle-at (8 * u + k) _ (entry-row k l) (pair-test k idle t) (omega arith)
 
       exit-idle : (k : ℕ) → k < 8 → T (all 2 (λ i. idle (48 * i + (8 + k)))) → g (8 * (u + 1) + k) ≡ 0
+      unfolding darts spots
       exit-idle k l t = idle-at (8 * (u + 1) + k) _ (exit-row k l) (pair-test (8 + k) idle t) (omega arith)
 
       entry-still : (k : ℕ) → k < 8 → T (all 2 (λ i. still (48 * i + k))) → g (rev (8 * u + k)) ≡ 0
+      unfolding darts spots
       entry-still k l t = still-at (8 * u + k) _ (entry-row k l) (pair-test k still t) (omega arith)
 
       exit-still : (k : ℕ) → k < 8 → T (all 2 (λ i. still (48 * i + (8 + k)))) → g (rev (8 * (u + 1) + k)) ≡ 0
+      unfolding darts spots
       exit-still k l t = still-at (8 * (u + 1) + k) _ (exit-row k l) (pair-test (8 + k) still t) (omega arith)
 
       pub exit-out : out (net J) g (u + 1) ≡ sum 4 (λ k. g (8 * (u + 1) + k))
@@ -209,23 +214,25 @@ module _ (g : ℕ → ℕ) (quiet : Quiet g) where
 
       -- the dart between the two, and its way back
       between : rev (8 * u + 4) ≡ 8 * (u + 1) + 4
-      unfolding all ahead turnOf turns
+      unfolding all ahead turnOf turns darts spots
       between =
           rev-over (8 * u + 4) (8 * (u + 1) + 4)
           (omega (arith, ap turnOf (entry-row 4 (omega arith)), eqb→eq (turnOf (48 * j + 4)) 2696 (pair-test 4 (λ i. eqb (turnOf i) 2696) tt))) (omega arith)
 
       between-back : rev (8 * (u + 1) + 4) ≡ 8 * u + 4
-      unfolding all ahead turnOf turns
+      unfolding all ahead turnOf turns darts spots
       between-back =
           rev-over (8 * (u + 1) + 4) (8 * u + 4)
           (omega (arith, ap turnOf (exit-row 4 (omega arith)), eqb→eq (turnOf (48 * j + 12)) 2680 (pair-test 12 (λ i. eqb (turnOf i) 2680) tt))) (omega arith)
 
       exit-quiet : (k : ℕ) → k < 4 → T (all 2 (λ i. idle (backRow (48 * i + (8 + k))))) → g (rev (8 * (u + 1) + k)) ≡ 0
+      unfolding darts spots
       exit-quiet k l t =
           quiet-at (8 * (u + 1) + k) _ (exit-row k (omega arith)) (pair-test (8 + k) (λ i. idle (backRow i)) t) (omega arith) (slots k l)
 
       entry-mirror : (k : ℕ) → k < 4 → T (all 2 (λ i. mirrors (48 * i + k) (48 * i + (8 + k))))
           → g (rev (8 * u + k)) ≡ g (dartOf (turn (stepOf (8 * (u + 1) + k))))
+      unfolding darts spots
       entry-mirror k l t =
           mirror-at (8 * (u + 1) + k) (8 * u + k) _ _ (entry-row k (omega arith)) (exit-row k (omega arith)) (omega arith)
           (all-at 2 (λ i. mirrors (48 * i + k) (48 * i + (8 + k))) t j b) (omega arith) (slots k l)

@@ -19,7 +19,7 @@ use Rattle.model.specs.Near.{size, exitOf, exit}
 use Rattle.model.specs.Loads.{arrivals, Feasible}
 use Rattle.model.specs.Record.{load}
 use Rattle.channel.specs.Table.{codes, codeOf}
-use Rattle.channel.specs.Map.{darts, inGrid, rowOf, columnOf, ownerCell, rev, stepOf, carries, isPassage, isLinkDart, isPassDart, passedOf}
+use Rattle.channel.specs.Map.{spots, darts, inGrid, rowOf, columnOf, ownerCell, rev, stepOf, carries, isPassage, isLinkDart, isPassDart, passedOf}
 use Rattle.channel.specs.Map.{cap, free, outside, view, starts}
 use Rattle.channel.specs.Map.Rows.{all, all-at}
 use Rattle.channel.specs.Map.Back.{rev<, rev-rev, link-stored}
@@ -150,7 +150,7 @@ module _ (J : Job) (fits : T (arrayFits (J .rows) (J .columns))) (g s : ℕ → 
 
   -- a dart through a place: what comes to the entry goes along it
   pass-least : (d : ℕ) → d < darts → T (isPassDart d) → view rec d ≤ g d
-  unfolding net out
+  unfolding net out darts spots
   pass-least d l t =
       omega (
         arith,

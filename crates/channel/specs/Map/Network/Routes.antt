@@ -125,7 +125,7 @@ module _ (J : Job) (fits : T (arrayFits (J .rows) (J .columns))) where
           (r w (inr (f, o)))
 
   pub route-walk : Route J → Walk (net J)
-  unfolding net exitOf
+  unfolding net exitOf spots
   route-walk p =
       let x = at pin (p .row) (p .column) in
       let (v, c, o) = chain-leads x (p .steps) (exit x) (p .chain) (inl (p .chosen, refl)) in
