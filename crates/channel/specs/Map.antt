@@ -2,6 +2,7 @@
 -- and what one move stores. Every definition of this file is shut: a crate above sees its name and the laws, never its text. Assumes nothing.
 pub mod Rows
 pub mod Back
+pub mod Numbers
 pub mod Darts
 pub mod Ends
 pub mod Around
@@ -12,21 +13,12 @@ pub mod Limits
 pub mod Taken
 pub mod Spots
 pub mod Sums
-pub mod NearSides
-pub mod Routes
 pub mod Carried
 pub mod Slots
-pub mod Flows
-pub mod Moves
 pub mod Carry
 pub mod Stores
-pub mod Pushed
-pub mod InOut
 pub mod Places
-pub mod Agree
-pub mod Loops
 pub mod Starts
-pub mod Least
 pub mod Bools
 pub mod Bounds
 pub mod Turning
@@ -63,10 +55,10 @@ use Rattle.model.specs.Record.{kinds, load}
 -- of the pin.
 
 -- the numbers of spots and of darts
-abbrev pub spots : ℕ
+pub spots : ℕ
 spots = 13128
 
-abbrev pub darts : ℕ
+pub darts : ℕ
 darts = 105024
 
 -- the row and the column of a cell, where it is on the grid

@@ -9,7 +9,7 @@ use Rattle.sums.specs.Counting.{when, sum}
 use Rattle.model.specs.Record.{jobOf, Legal}
 use Rattle.channel.specs.Map.{isStart, starts}
 use Rattle.channel.specs.Map.Starts.{want-start}
-use Rattle.channel.specs.Map.Flows.{feasible-flow}
+use Rattle.channel.specs.Map.Network.Flows.{feasible-flow}
 
 pub starts-one : (rec : List ℕ) → Legal rec → (u : ℕ) → u < 13128 → starts (jobOf rec) rec u ≤ 1
 starts-one rec g u l =

@@ -17,10 +17,10 @@ use Rattle.model.specs.Job.{Job, arrayFits, capsFit}
 use Rattle.model.specs.Loads.{Feasible}
 use Rattle.model.specs.Record.{recordSize, load}
 use Rattle.channel.specs.Map.{outside, view, starts}
-use Rattle.channel.specs.Map.Network.{net}
-use Rattle.channel.specs.Map.Flows.{feasible-flow}
-use Rattle.channel.specs.Map.Moves.{move-residual, closed-residual}
-use Rattle.channel.specs.Map.Least.{view-least}
+use Rattle.channel.specs.Map.Network.{net, node-spot, net-dart, inside-net, closed-move}
+use Rattle.channel.specs.Map.Network.Flows.{feasible-flow}
+use Rattle.channel.specs.Map.Network.Moves.{move-residual, closed-residual}
+use Rattle.channel.specs.Map.Network.Least.{view-least}
 use Rattle.search.specs.Laid.{laidAll, BytesFit}
 use Rattle.search.specs.OneMore.{OneMore, path-flow, path-agrees, lays-one}
 use Rattle.search.specs.Unlooped.{Lighter}
@@ -37,16 +37,16 @@ module _ (J : Job) (fits : T (arrayFits (J .rows) (J .columns))) (rec : List ℕ
   C = closed-residual J fits rec feasible S closed
 
   inside : Inside (net J) S
-  inside u l t = not-T (outside J u) (none u l t)
+  inside = inside-net J S none
 
   -- What is closed stays closed when a path to the outside is laid.
   pub dead-laid : (caps : T (capsFit (J .O) (J .D) (J .E))) → recordSize ≤ length rec → BytesFit rec → (u v : ℕ) (ds : List ℕ)
       → Unstarted (net J) (starts J rec) u → Path (net J) (Residual (net J) (view rec)) ds u v → T (outside J v)
       → (es : List ℕ) → ((x : ℕ) → times es x ≡ times ds x) → ClosedUnderMoves J (laidAll rec es) S
   dead-laid caps long bytes u v ds h p o es e d l t m =
-      less-closed (feasible-flow J fits (laidAll rec es) (M .feasible) .load .balanced) (G .load .balanced) (M .begun)
-      (view-least J fits _ _ (laidAll rec es) G (path-agrees J fits rec feasible caps long bytes u v ds h p o es e)) inside
-      (closed-kept ds C (path-avoids C p (not-T (S v) (λ s. none v (path-end p (h .node)) s o)))) .moves d l t (move-residual J (laidAll rec es) d m)
+      closed-move J (less-closed (feasible-flow J fits (laidAll rec es) (M .feasible) .load .balanced) (G .load .balanced) (λ x k. M .begun x (node-spot J k))
+      (λ x k. view-least J fits _ _ (laidAll rec es) G (path-agrees J fits rec feasible caps long bytes u v ds h p o es e) x (net-dart J k)) inside
+      (closed-kept ds C (path-avoids C p (not-T (S v) (λ s. none v (node-spot J (path-end p (h .node))) s o))))) d l t (move-residual J (laidAll rec es) d m)
     where
       G : Flow (net J) (push (net J) (view rec) ds) (more (starts J rec) u)
       G = path-flow J fits rec feasible caps long bytes u v ds h p o
@@ -57,5 +57,5 @@ module _ (J : Job) (fits : T (arrayFits (J .rows) (J .columns))) (rec : List ℕ
   -- What is closed stays closed when a loop is taken out.
   pub dead-unlooped : (rec′ : List ℕ) → Lighter J rec rec′ → ClosedUnderMoves J rec′ S
   dead-unlooped rec′ M d l t m =
-      less-closed (feasible-flow J fits rec′ (M .feasible) .load .balanced) (feasible-flow J fits rec feasible .load .balanced) (M .begun) (M .less) inside C
-      .moves d l t (move-residual J rec′ d m)
+      closed-move J (less-closed (feasible-flow J fits rec′ (M .feasible) .load .balanced) (feasible-flow J fits rec feasible .load .balanced)
+      (λ x k. M .begun x (node-spot J k)) (λ x k. M .less x (net-dart J k)) inside C) d l t (move-residual J rec′ d m)

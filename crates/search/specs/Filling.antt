@@ -15,7 +15,7 @@ use Rattle.model.specs.Near.{Smallest}
 use Rattle.model.specs.Record.{load}
 use Rattle.model.specs.Wires.{wireCount}
 use Rattle.channel.specs.Map.{spots, want, starts}
-use Rattle.channel.specs.Map.Flows.{feasible-flow}
+use Rattle.channel.specs.Map.Network.Flows.{feasible-flow}
 use Rattle.search.specs.OneMore.{OneMore}
 use Rattle.search.specs.NoMore.{reached-smallest, reached-greatest}
 use Rattle.search.specs.Marks.{marked, marked-spot, marked-byte}

@@ -6,13 +6,12 @@ use mathlib.Core.Bool.{Bool}
 use mathlib.Core.List.{List}
 use Prim.Native.Nat.{ℕ, _/_, _≤_, _<_}
 use native.Mathlib.Omega.{arith}
-use lib.Dec.{T, not-T}
+use lib.Dec.{T}
 use lib.ListN.{length}
 use Rattle.sums.specs.Counting.{sum}
-use Rattle.flow.specs.Network.{head<}
 use Rattle.flow.specs.Flow.{Flow, Unstarted}
 use Rattle.flow.specs.Cut.{cut, load-le}
-use Rattle.flow.specs.Residual.{Reach, begin, move}
+use Rattle.flow.specs.Residual.{Reach, begin}
 use Rattle.flow.specs.MinCut.{closed-near, closed-cut, reach-near}
 use Rattle.model.specs.Job.{Job, arrayFits}
 use Rattle.model.specs.Links.{pin, at}
@@ -23,11 +22,12 @@ use Rattle.model.specs.Record.{load}
 use Rattle.model.specs.Wires.{wireCount}
 use Rattle.model.proofs.Bound.{routes-le-sum}
 use Rattle.channel.specs.Map.{spots, darts, rev, want, outside, view, starts, moves}
-use Rattle.channel.specs.Map.Network.{net}
-use Rattle.channel.specs.Map.NearSides.{near-net, net-near, near-cut}
+use Rattle.channel.specs.Map.Numbers.{head-spot}
+use Rattle.channel.specs.Map.Network.{net, sum-nodes, unstarted-at, unstarted-spot, inside-net, reach-move}
+use Rattle.channel.specs.Map.Network.NearSides.{near-net, net-near, near-cut}
 use Rattle.channel.specs.Map.Starts.{wanted-pin}
-use Rattle.channel.specs.Map.Flows.{feasible-flow, starts-count}
-use Rattle.channel.specs.Map.Moves.{move-residual, move-spot, closed-residual}
+use Rattle.channel.specs.Map.Network.Flows.{feasible-flow, starts-count}
+use Rattle.channel.specs.Map.Network.Moves.{move-residual, move-spot, closed-residual}
 
 -- what moves reach from the spots at which a wire is wanted and none starts
 pub data Reached (J : Job) (rec : List ℕ) : ℕ → Type 0 where
@@ -45,8 +45,8 @@ NoneOutside J S = (u : ℕ) → u < spots → T (S u) → T (outside J u) → �
 module _ (J : Job) (rec : List ℕ) where
   -- what is reached is reached by residual moves
   reached-reach : {u : ℕ} → Reached J rec u → Reach (net J) (view rec) (Unstarted (net J) (starts J rec)) u
-  reached-reach (from l h) = begin (record { node = l; short = h })
-  reached-reach (onto {d = d} r l e t q) = move (reached-reach r) l e (move-residual J rec d t) q
+  reached-reach (from l h) = begin (unstarted-at J l h)
+  reached-reach (onto {d = d} r l e t q) = reach-move J (reached-reach r) l e (move-residual J rec d t) q
 
 module _ (J : Job) (fits : T (arrayFits (J .rows) (J .columns))) (rec : List ℕ) (feasible : Feasible J (load rec)) where
   F : Flow (net J) (view rec) (starts J rec)
@@ -54,7 +54,7 @@ module _ (J : Job) (fits : T (arrayFits (J .rows) (J .columns))) (rec : List ℕ
 
   -- no near side has a smaller sum than there are wires
   wires-le : (R : ℕ → Bool) → Near J R → wireCount J (load rec) ≤ nearSum J R
-  wires-le R near = omega (arith, load-le (F .load) (near-net J fits R near), near-cut J fits R (near .within), starts-count J fits rec feasible)
+  wires-le R near = omega (arith, load-le (F .load) (near-net J fits R near), near-cut J fits R (near .within), sum-nodes J (starts J rec), starts-count J fits rec feasible)
 
   module _ (S : ℕ → Bool) (unwired : (u : ℕ) → u < spots → starts J rec u < want J u → T (S u)) (closed : ClosedUnderMoves J rec S)
       (inside : NoneOutside J S) where
@@ -71,21 +71,22 @@ module _ (J : Job) (fits : T (arrayFits (J .rows) (J .columns))) (rec : List ℕ
       where
         by : IsSpot J (rev d / 8) ⊎ T (outside J (rev d / 8)) → T (S (rev d / 8)) → IsSpot J (rev d / 8)
         by (inl x) s = x
-        by (inr o) s = absurd (inside (rev d / 8) (head< (net J) d l) s o)
+        by (inr o) s = absurd (inside (rev d / 8) (head-spot d l) s o)
 
     module _ (reached : (u : ℕ) → T (S u) → Reached J rec u) where
       -- S is a near side, and its sum is the number of wires
       pub reached-near : Near J S
       reached-near =
           net-near J fits S (λ u t. reached-spot (reached u t))
-          (closed-near (closed-residual J fits rec feasible S closed) (λ u l t. not-T (outside J u) (inside u l t)))
+          (closed-near (closed-residual J fits rec feasible S closed) (inside-net J S inside))
 
       pub reached-sum : nearSum J S ≡ wireCount J (load rec)
       reached-sum =
           omega (
             arith,
             near-cut J fits S (λ u t. reached-spot (reached u t)),
-            closed-cut F (closed-residual J fits rec feasible S closed) (λ u l t. not-T (outside J u) (inside u l t)) (λ u h. unwired u (h .node) (h .short)),
+            closed-cut F (closed-residual J fits rec feasible S closed) (inside-net J S inside) (λ u h. let (l, k) = unstarted-spot J h in unwired u l k),
+            sum-nodes J (starts J rec),
             starts-count J fits rec feasible,
           )
 
@@ -99,8 +100,8 @@ module _ (J : Job) (fits : T (arrayFits (J .rows) (J .columns))) (rec : List ℕ
             least = λ R near e u t. reach-near F (near-net J fits R near) (tight R near e) (reached-reach J rec (reached u t));
           }
         where
-          tight : (R : ℕ → Bool) (near : Near J R) → nearSum J R ≡ wireCount J (load rec) → cut (net J) R ≤ sum spots (starts J rec)
-          tight R near e = omega (arith, near-cut J fits R (near .within), starts-count J fits rec feasible)
+          tight : (R : ℕ → Bool) (near : Near J R) → nearSum J R ≡ wireCount J (load rec) → cut (net J) R ≤ sum (net J .nodes) (starts J rec)
+          tight R near e = omega (arith, near-cut J fits R (near .within), sum-nodes J (starts J rec), starts-count J fits rec feasible)
 
       -- The number of wires is the greatest number, if there are as many routes.
       pub reached-greatest : (rs : List (Route J)) → Together J rs → length rs ≡ wireCount J (load rec) → Greatest J (wireCount J (load rec))

@@ -20,12 +20,12 @@ use Rattle.model.specs.Near.{exit}
 use Rattle.model.specs.Loads.{Feasible}
 use Rattle.model.specs.Record.{recordSize, load}
 use Rattle.model.specs.Wires.{isWired, wireCount}
-use Rattle.channel.specs.Map.{spots, view, starts, moves}
-use Rattle.channel.specs.Map.Network.{net}
+use Rattle.channel.specs.Map.{spots, outside, view, starts, moves}
+use Rattle.channel.specs.Map.Network.{net, net-outside, net-dart, node-spot, unstarted-spot}
 use Rattle.channel.specs.Map.Starts.{wanted-pin, pin-spot}
-use Rattle.channel.specs.Map.Flows.{feasible-flow, pin-starts, starts-count}
-use Rattle.channel.specs.Map.Moves.{move-residual}
-use Rattle.channel.specs.Map.Agree.{Agrees, agrees-feasible, agrees-starts}
+use Rattle.channel.specs.Map.Network.Flows.{feasible-flow, pin-starts, starts-count}
+use Rattle.channel.specs.Map.Network.Moves.{move-residual}
+use Rattle.channel.specs.Map.Network.Agree.{Agrees, agrees-feasible, agrees-starts}
 use Rattle.search.specs.Wired.{same-wired}
 use Rattle.search.specs.Laid.{laidAll, BytesFit, Darts, SameButLoads, laid-kept, laid-agrees, same-darts}
 
@@ -38,7 +38,7 @@ pub record OneMore (J : Job) (rec rec′ : List ℕ) (u : ℕ) : Type 0 where
 
 -- the darts of a path are darts
 pub path-darts : (J : Job) {P : ℕ → Type 0} {ds : List ℕ} {u v : ℕ} → Path (net J) P ds u v → Darts ds
-path-darts J p d m = path-dart (path-map (λ x k n q. k) p) m
+path-darts J p d m = path-dart (path-map (λ x k n q. net-dart J k) p) m
 
 -- a path of moves is a path of residual moves
 pub moves-path : (J : Job) (rec : List ℕ) {ds : List ℕ} {u v : ℕ} → Path (net J) (λ d. T (moves J rec d)) ds u v
@@ -47,10 +47,10 @@ moves-path J rec p = path-map (λ d l m t. move-residual J rec d t) p
 
 module _ (J : Job) (fits : T (arrayFits (J .rows) (J .columns))) (rec : List ℕ) (feasible : Feasible J (load rec)) where
   module _ (caps : T (capsFit (J .O) (J .D) (J .E))) (long : recordSize ≤ length rec) (bytes : BytesFit rec) (u v : ℕ) (ds : List ℕ)
-      (h : Unstarted (net J) (starts J rec) u) (p : Path (net J) (Residual (net J) (view rec)) ds u v) (o : T (net J .outside v)) where
+      (h : Unstarted (net J) (starts J rec) u) (p : Path (net J) (Residual (net J) (view rec)) ds u v) (o : T (outside J v)) where
     -- the flow that the bytes agree with
     pub path-flow : Flow (net J) (push (net J) (view rec) ds) (more (starts J rec) u)
-    path-flow = push-flow (feasible-flow J fits rec feasible) h p o
+    path-flow = push-flow (feasible-flow J fits rec feasible) h p (rw (net-outside J) o)
 
     module _ (es : List ℕ) (e : (x : ℕ) → times es x ≡ times ds x) where
       pub path-agrees : Agrees (push (net J) (view rec) ds) (laidAll rec es)
@@ -69,7 +69,7 @@ module _ (J : Job) (fits : T (arrayFits (J .rows) (J .columns))) (rec : List ℕ
 
   -- the spot is that of a chosen pin
   pub unstarted-pin : (u : ℕ) → Unstarted (net J) (starts J rec) u → (r c : ℕ) × T (isChosen J r c) × (u ≡ exit (at pin r c))
-  unstarted-pin u h = wanted-pin J u (omega (arith, h .short))
+  unstarted-pin u h = wanted-pin J u (omega (arith, unstarted-spot J h .1))
 
   module _ (rec′ : List ℕ) (u : ℕ) (l : u < spots) (M : OneMore J rec rec′ u) where
     pub wires-more : wireCount J (load rec′) ≡ suc (wireCount J (load rec))

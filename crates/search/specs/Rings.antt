@@ -13,8 +13,8 @@ use Rattle.model.specs.Record.{load}
 use Rattle.model.specs.Wires.{wireCount}
 use Rattle.channel.specs.Map.{spots, darts, rev, view, starts, laid}
 use Rattle.channel.specs.Map.Network.{net}
-use Rattle.channel.specs.Map.Flows.{starts-count}
-use Rattle.channel.specs.Map.Loops.{ranked-loops}
+use Rattle.channel.specs.Map.Network.Flows.{starts-count}
+use Rattle.channel.specs.Map.Network.Loops.{ranked-loops}
 use Rattle.search.specs.Laid.{laidAll, laid-last}
 use Rattle.search.specs.Unlooped.{Lighter, takes-out}
 use Rattle.audit.specs.Loops.{ringDarts, Closed, Answer, free, ring}

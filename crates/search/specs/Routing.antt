@@ -22,7 +22,7 @@ use Rattle.model.specs.Calls.{wiredIn, wiresIn, nearBytes, Shown, none-short, s
 use Rattle.wire.specs.Held.{sound-holds}
 use Rattle.channel.specs.Map.{spots, isStart, want, starts}
 use Rattle.channel.specs.Map.Starts.{pin-spot, want-start}
-use Rattle.channel.specs.Map.Flows.{feasible-flow, pin-starts, starts-count, want-count}
+use Rattle.channel.specs.Map.Network.Flows.{feasible-flow, pin-starts, starts-count, want-count}
 use Rattle.search.specs.Marks.{marked, is-marked}
 use Rattle.search.specs.Pins.{Held}
 use Rattle.search.specs.Loose.{Loosened, Freed}

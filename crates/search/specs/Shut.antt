@@ -11,12 +11,13 @@ use borrow.Author.Tests.{not-true, not-false}
 use lib.Dec.{T}
 use lib.ListN.{getD}
 use Rattle.sums.specs.Sums.{when-some, when-so}
-use Rattle.flow.specs.Network.{head<, Path}
+use Rattle.flow.specs.Network.{Path}
 use Rattle.flow.specs.Flow.{Unstarted}
 use Rattle.flow.specs.Residual.{Residual}
 use Rattle.model.specs.Job.{Job}
 use Rattle.channel.specs.Map.{spots, darts, rev, isStart, view, starts, moves}
-use Rattle.channel.specs.Map.Network.{net}
+use Rattle.channel.specs.Map.Numbers.{head-spot}
+use Rattle.channel.specs.Map.Network.{net, unstarted-at}
 use Rattle.channel.specs.Map.Starts.{want-start}
 use Rattle.search.specs.Laid.{laidAll}
 use Rattle.search.specs.OneMore.{OneMore, moves-path, lays-one}
@@ -63,7 +64,7 @@ module _ {J : Job} {rec : List ℕ} {start : ℕ} {t₀ t q f w : List ℕ} {n :
           (λ (i, li, e).
           let ed : 8 * getD q i 0 + d % 8 ≡ d = omega arith in
           let hit : T (moves J rec (8 * getD q i 0 + d % 8)) → getD t (rev (8 * getD q i 0 + d % 8) / 8) 0 ≡ 1 = done i li (d % 8) (omega arith) in
-          is-marked t (rev d / 8) (head< (net J) d l) (rw ed at hit may))
+          is-marked t (rev d / 8) (head-spot d l) (rw ed at hit may))
           (since (d / 8) m)
 
   -- every spot in the queue is reached from the start
@@ -99,7 +100,7 @@ module _ {J : Job} {rec : List ℕ} {start : ℕ} {t₀ t q f w : List ℕ} {n :
 module _ {J : Job} {rec : List ℕ} {start : ℕ} {t₀ t q f w : List ℕ} {j k n : ℕ} (F : Found J rec start t₀ t q f w j k n) {rec′ t′ : List ℕ}
     (L : LaidTo q f w j k 0 rec rec′) (U : Unmarked q n t t′) (H : Held J rec) (D : Dead J rec t₀) (ls : start < spots) (u : Unwired J rec start) where
   unstarted : Unstarted (net J) (starts J rec) start
-  unstarted = record { node = ls; short = u }
+  unstarted = unstarted-at J ls u
 
   path : Path (net J) (Residual (net J) (view rec)) (L .way) start (rev (8 * getD q j 0 + k) / 8)
   path = moves-path J rec (way-path (F .spread) j k (F .place) (F .slot) (F .may) (L .walked))

@@ -21,11 +21,11 @@ use Rattle.model.specs.Record.{recordSize, load}
 use Rattle.model.specs.Wires.{isWired, wireCount}
 use Rattle.channel.specs.Map.{spots, darts, rev, view, starts}
 use Rattle.channel.specs.Map.Back.{rev<}
-use Rattle.channel.specs.Map.Network.{net}
+use Rattle.channel.specs.Map.Network.{net, net-darts, net-rev, net-dart, dart-net}
 use Rattle.channel.specs.Map.Starts.{pin-spot}
-use Rattle.channel.specs.Map.Flows.{feasible-flow, starts-count}
-use Rattle.channel.specs.Map.Agree.{Agrees, agrees-feasible, agrees-starts}
-use Rattle.channel.specs.Map.Least.{view-least}
+use Rattle.channel.specs.Map.Network.Flows.{feasible-flow, starts-count}
+use Rattle.channel.specs.Map.Network.Agree.{Agrees, agrees-feasible, agrees-starts}
+use Rattle.channel.specs.Map.Network.Least.{view-least}
 use Rattle.search.specs.Laid.{laidAll, BytesFit, Darts, SameButLoads, laid-kept, laid-agrees, same-darts}
 use Rattle.search.specs.Wired.{same-wired}
 use Rattle.search.specs.OneMore.{path-darts}
@@ -60,26 +60,33 @@ module _ (J : Job) (fits : T (arrayFits (J .rows) (J .columns))) (rec : List ℕ
     backs-darts : Darts (map rev loop)
     backs-darts = reverse-darts loop (path-darts J p)
 
+    backs-times : (x : ℕ) → x < darts → times (map rev loop) x ≡ times loop (rev x)
+    backs-times x l = subst (λ (r : ℕ → ℕ). times (map r loop) x ≡ times loop (r x)) (net-rev J) (times-rev (path-chain p) x (dart-net J l))
+
     backs-once : (x : ℕ) → times (map rev loop) x ≤ 1
     backs-once x = by (eq-zero-or-pos (times (map rev loop) x))
       where
         by : (times (map rev loop) x ≡ 0) ⊎ (0 < times (map rev loop) x) → times (map rev loop) x ≤ 1
         by (inl e) = omega arith
-        by (inr h) = omega (arith, times-rev (path-chain p) x (backs-darts x (times-has (map rev loop) x h)), path-once p (rev x))
+        by (inr h) = omega (arith, backs-times x (backs-darts x (times-has (map rev loop) x h)), path-once p (rev x))
 
     backs-residual : (x : ℕ) → List·Memᴰ x (map rev loop) → Residual (net J) (view rec) x
     backs-residual x m =
-        undo (path-dart p (times-has loop (rev x) (omega (arith, times-rev (path-chain p) x (backs-darts x m), has-times (map rev loop) m))))
+        undo (rw (net-rev J) (path-dart p (times-has loop (rev x) (omega (arith, backs-times x (backs-darts x m), has-times (map rev loop) m)))))
+
+    backs-push : (x : ℕ) → x < darts → cancel (view rec) loop x ≡ push (net J) (view rec) (map rev loop) x
+    backs-push x l =
+        subst (λ (r : ℕ → ℕ). cancel (view rec) loop x ≡ push (net J) (view rec) (map r loop) x) (net-rev J) (cancel-push F p x (dart-net J l))
 
     backs-flow : Flow (net J) (push (net J) (view rec) (map rev loop)) (starts J rec)
-    backs-flow = flow-cong (λ x l. sym (cancel-push F p x l)) (cancel-flow F p)
+    backs-flow = flow-cong (λ x l. sym (backs-push x (net-dart J l))) (cancel-flow F p)
 
     module _ (es : List ℕ) (e : (x : ℕ) → times es x ≡ times (map rev loop) x) where
       backs-agree : Agrees (push (net J) (view rec) (map rev loop)) (laidAll rec es)
       backs-agree = laid-agrees J fits caps rec long bytes feasible (map rev loop) es backs-darts backs-once backs-residual e
 
       cancelled : (x : ℕ) → x < darts → view (laidAll rec es) x ≤ cancel (view rec) loop x
-      cancelled x l = omega (arith, view-least J fits _ _ (laidAll rec es) backs-flow backs-agree x l, cancel-push F p x l)
+      cancelled x l = omega (arith, view-least J fits _ _ (laidAll rec es) backs-flow backs-agree x l, backs-push x l)
 
       pub takes-out : Lighter J rec (laidAll rec es)
       takes-out =
@@ -88,7 +95,7 @@ module _ (J : Job) (fits : T (arrayFits (J .rows) (J .columns))) (rec : List ℕ
             bytes = backs-agree .bytes;
             begun = agrees-starts J fits _ _ (laidAll rec es) backs-flow backs-agree;
             less = λ x l. omega (arith, cancelled x l);
-            falls = omega (arith, sum-le darts (view (laidAll rec es)) (cancel (view rec) loop) cancelled, cancel-total F p);
+            falls = omega (arith, sum-le darts (view (laidAll rec es)) (cancel (view rec) loop) cancelled, rw (net-darts J) at (cancel-total F p));
             kept = laid-kept rec es (same-darts (map rev loop) es e backs-darts);
           }
 

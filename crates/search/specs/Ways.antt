@@ -8,10 +8,10 @@ use lib.Dec.{T, eqb}
 use lib.ListN.{length, getD}
 use Rattle.sums.specs.Counting.{when, total}
 use Rattle.sums.specs.Totals.{total-append}
-use Rattle.flow.specs.Network.{times, times-none, Path, here, along}
+use Rattle.flow.specs.Network.{times, times-none, Path, here}
 use Rattle.model.specs.Job.{Job}
 use Rattle.channel.specs.Map.{spots, darts, rev, moves, laid}
-use Rattle.channel.specs.Map.Network.{net}
+use Rattle.channel.specs.Map.Network.{net, path-along}
 use Rattle.search.specs.Laid.{laidAll, laid-last}
 use Rattle.search.specs.Spread.{dartTo, Spread}
 
@@ -61,7 +61,7 @@ module _ {J : Job} {rec : List ℕ} {start : ℕ} {t₀ t q f w : List ℕ} {n :
   part last =
       record {
         le = omega arith;
-        path = along (slot-dart (getD q j 0) k (s .spot j lj) lk) (slot-tail (getD q j 0) k lk) may refl (here refl);
+        path = path-along J (slot-dart (getD q j 0) k (s .spot j lj) lk) (slot-tail (getD q j 0) k lk) may refl (here refl);
         later = later;
       }
     where
@@ -74,7 +74,7 @@ module _ {J : Job} {rec : List ℕ} {start : ℕ} {t₀ t q f w : List ℕ} {n :
       let tail : dartTo q f w i / 8 ≡ getD q (getD f i 0) 0 = slot-tail (getD q (getD f i 0) 0) (getD w i 0) (c .slot) in
       record {
         le = omega (arith, h .le, c .falls);
-        path = along (slot-dart (getD q (getD f i 0) 0) (getD w i 0) (s .spot (getD f i 0) lp) (c .slot)) tail (c .may)
+        path = path-along J (slot-dart (getD q (getD f i 0) 0) (getD w i 0) (s .spot (getD f i 0) lp) (c .slot)) tail (c .may)
             (times-none ds (dartTo q f w i) (λ m. let (p, a, b, e) = h .later (dartTo q f w i) m in
             s .apart (getD f i 0) p (omega (arith, c .falls)) (omega arith) (sym tail ∙ e)))
             (subst (λ (x : ℕ). Path (net J) (λ d. T (moves J rec d)) ds x end) (sym (c .leads)) (h .path));

@@ -24,7 +24,7 @@ use Rattle.model.proofs.Listed.{may-enters}
 use Rattle.channel.specs.Map.{darts, rev, rowOf, columnOf, stepOf, isLinkDart, outside, dartOf}
 use Rattle.channel.specs.Map.Steps.{slot-step}
 use Rattle.channel.specs.Map.Places.{chosen-cell}
-use Rattle.channel.specs.Map.Pushed.{turn-turn}
+use Rattle.channel.specs.Map.Network.Pushed.{turn-turn}
 use Rattle.channel.specs.Map.Entered.{Named, slot-entry, slot-none, comes-outside, comes-inside, head-slot, head-named, tail-named}
 use Rattle.pairing.specs.Answer.{lanes, lanes-in, Partner}
 use Rattle.pairing.specs.Lanes.{loadOf}

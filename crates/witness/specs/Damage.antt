@@ -1,22 +1,23 @@
 -- Every record is legal or it is not: the tests of its bytes are decided one by one, and then either an order of the spots excludes loops or a closed path
 -- of loaded darts is one. Assumes nothing.
-use mathlib.Core.Path.{refl}
+use mathlib.Core.Path.{refl, ap}
 use mathlib.Core.Logic.{_⊎_, inl, inr}
 use mathlib.Core.Bool.{Bool, true, false}
 use mathlib.Core.List.{List, _∷_}
-use Prim.Native.Nat.{ℕ, _/_, _≤_, _<_}
+use Prim.Native.Nat.{ℕ, _≤_, _<_}
+use native.Mathlib.Omega.{arith}
 use native.Mathlib.Decide.{map-dec, decLe}
 use lib.Dec.{T, ltb, ltb→lt, lt→ltb}
 use lib.ListN.{length}
-use Rattle.flow.specs.Network.{Path, path-map}
+use Rattle.flow.specs.Network.{head, Path, path-map}
 use Rattle.flow.specs.Cancel.{Loaded}
 use Rattle.model.specs.Job.{Job, arrayFits}
 use Rattle.model.specs.Links.{Place, Step}
 use Rattle.model.specs.Loads.{Feasible, Trail}
 use Rattle.model.specs.Record.{recordSize, jobOf, load, Legal}
-use Rattle.channel.specs.Map.{darts, rev, view}
-use Rattle.channel.specs.Map.Network.{net}
-use Rattle.channel.specs.Map.Loops.{ranked-loops, path-loop}
+use Rattle.channel.specs.Map.{view}
+use Rattle.channel.specs.Map.Network.{net, net-tail, net-head, dart-net}
+use Rattle.channel.specs.Map.Network.Loops.{ranked-loops, path-loop}
 use Rattle.channel.specs.Unused.{unusedClear}
 use Rattle.audit.specs.Feasible.{FeasibleRecord, decides-yes, decides-no}
 use Rattle.audit.specs.Laws.{numbersFit, cellFits, numbers-fit, unused-clear, cells-decide}
@@ -41,9 +42,18 @@ module _ (J : Job) (rec : List ℕ) where
       loaded : ℕ → Bool
       loaded d = ltb 0 (view rec d)
 
-      by : ((d : ℕ) → d < darts → T (loaded d) → reachCount (net J) loaded (rev d / 8) < reachCount (net J) loaded (d / 8)) ⊎ Ring (net J) loaded
+      by : ((d : ℕ) → d < net J .darts → T (loaded d) → reachCount (net J) loaded (head (net J) d) < reachCount (net J) loaded (net J .tail d))
+          ⊎ Ring (net J) loaded
           → LoopFree ⊎ LoadedRing
-      by (inl f) = inl (ranked-loops J fits rec feasible (reachCount (net J) loaded) (λ d l h. f d l (lt→ltb 0 (view rec d) h)))
+      by (inl f) =
+          inl (ranked-loops J fits rec feasible (reachCount (net J) loaded)
+          (λ d l h.
+          omega (
+            arith,
+            f d (dart-net J l) (lt→ltb 0 (view rec d) h),
+            ap (reachCount (net J) loaded) (net-head J d),
+            ap (reachCount (net J) loaded) (net-tail J d),
+          )))
       by (inr (u, d, ds, p)) = inr (u, d, ds, path-map (λ x l m t. ltb→lt 0 (view rec x) t) p)
 
 -- ---- the tests

@@ -1,16 +1,17 @@
 -- The search for one wire more, as mathematics: what moves reach from the unwired pins either holds a spot outside, and then a path leads there and is laid,
 -- or it is the smallest near side. Assumes nothing.
-use mathlib.Core.Path.{refl, subst, _∙_}
+use mathlib.Core.Path.{refl, sym, subst, _∙_}
 use mathlib.Core.Logic.{_⊎_, inl, inr}
 use mathlib.Core.Bool.{Bool, true, false, _&&_}
 use mathlib.Core.List.{List}
-use Prim.Native.Nat.{ℕ, _/_, _<_}
+use Prim.Native.Nat.{ℕ, _<_}
 use native.Mathlib.Omega.{arith}
 use lib.Dec.{T, ltb, ltb→lt, lt→ltb}
 use Rattle.sums.specs.Tests.{and-left, and-right, and-both}
+use Rattle.flow.specs.Network.{head}
 use Rattle.model.specs.Job.{Job}
-use Rattle.channel.specs.Map.{spots, darts, rev, want, outside, starts, moves}
-use Rattle.channel.specs.Map.Network.{net}
+use Rattle.channel.specs.Map.{spots, want, outside, starts, moves}
+use Rattle.channel.specs.Map.Network.{net, net-tail, net-head, net-dart, dart-net, unstarted-at}
 use Rattle.search.specs.Laid.{laidAll}
 use Rattle.search.specs.OneMore.{OneMore, moves-path, lays-one}
 use Rattle.search.specs.NoMore.{Reached, from, onto, ClosedUnderMoves, NoneOutside}
@@ -35,7 +36,7 @@ module _ (J : Job) (rec : List ℕ) (H : Held J rec) where
 
   walk-reached : {u v : ℕ} → Reached J rec u → Walk (net J) moving u v → Reached J rec v
   walk-reached r (start e) = subst (Reached J rec) e r
-  walk-reached r (step-on d k l t e) = onto (walk-reached r k) l refl t e
+  walk-reached r (step-on d k l t e) = onto (walk-reached r k) (net-dart J l) (sym (net-tail J d)) t (sym (net-head J d) ∙ e)
 
   -- no move leads from an unwired pin to the outside: what they lead to
   pub record NoWay : Type 0 where
@@ -73,7 +74,7 @@ module _ (J : Job) (rec : List ℕ) (H : Held J rec) where
   lay v w o =
       let (ds, p) = walk-path (net J) moving (w .walk) in
       let M : OneMore J rec (laidAll rec ds) (w .pin) =
-      lays-one J (H .fits) rec (H .feasible) (H .caps) (H .long) (H .bytes) (w .pin) v ds (record { node = w .spot; short = w .unwired })
+      lays-one J (H .fits) rec (H .feasible) (H .caps) (H .long) (H .bytes) (w .pin) v ds (unstarted-at J (w .spot) (w .unwired))
       (moves-path J rec p) o ds (λ x. refl) in
       let K : Held J (laidAll rec ds) =
       record { fits = H .fits; caps = H .caps; long = omega (arith, H .long, M .kept .size); bytes = M .bytes; feasible = M .feasible } in
@@ -87,7 +88,7 @@ module _ (J : Job) (rec : List ℕ) (H : Held J rec) where
   reach : Closure (net J) moving open-pin Led
   reach = closure (net J) moving Led led open-pin first
     where
-      led : (d : ℕ) → d < darts → Led (d / 8) → T (moving d) → Led (rev d / 8)
+      led : (d : ℕ) → d < net J .darts → Led (net J .tail d) → T (moving d) → Led (head (net J) d)
       led d l w t = record { pin = w .pin; spot = w .spot; unwired = w .unwired; walk = step-on d (w .walk) l t refl }
 
       first : (u : ℕ) → T (open-pin u) → Led u
@@ -116,7 +117,8 @@ module _ (J : Job) (rec : List ℕ) (H : Held J rec) where
           inr (record {
             set = R;
             unwired = λ u l h. reach .holds u (and-both (ltb u spots) (ltb (starts J rec u) (want J u)) (lt→ltb u spots l) (lt→ltb (starts J rec u) (want J u) h));
-            closed = reach .shut;
+            closed = λ d l t m.
+                subst (λ (x : ℕ). T (R x)) (net-head J d) (reach .shut d (dart-net J l) (subst (λ (x : ℕ). T (R x)) (sym (net-tail J d)) t) m);
             inside = f;
             reached = λ u t. let w : Led u = reach .only u t in walk-reached (from (w .spot) (w .unwired)) (w .walk);
           })

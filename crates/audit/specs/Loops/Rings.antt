@@ -10,11 +10,12 @@ use native.Mathlib.Omega.{arith}
 use lib.ListN.{getD}
 use Rattle.sums.specs.Counting.{total}
 use Rattle.sums.specs.Sums.{when-other}
-use Rattle.flow.specs.Network.{times, Path, here, along}
+use Rattle.flow.specs.Network.{times, Path, here}
 use Rattle.flow.specs.Cancel.{Loaded}
 use Rattle.model.specs.Job.{Job}
 use Rattle.channel.specs.Map.{spots, darts, rev, view}
-use Rattle.channel.specs.Map.Network.{net}
+use Rattle.channel.specs.Map.Numbers.{slot-dart, tail-spot}
+use Rattle.channel.specs.Map.Network.{net, path-along}
 use Rattle.channel.specs.Map.Origins.{originOf, Begins, leaves, goesOn, loaded-begins, loaded-slot}
 use Rattle.audit.specs.Loops.{ringDarts, Closed}
 use Rattle.audit.specs.Loops.Dfs.{Edge, Dfs, Placed}
@@ -26,7 +27,7 @@ loaded-edge : (rec : List ℕ) (d : ℕ) → d < darts → 0 < view rec d → Ed
 loaded-edge rec d ld l =
     let e : d ≡ 8 * (d / 8) + d % 8 = omega arith in
     record {
-      spot = omega arith;
+      spot = tail-spot d ld;
       slot = loaded-slot rec d l;
       laden = subst (λ (x : ℕ). 0 < view rec x) e l;
       leads = ap (λ (x : ℕ). rev x / 8) (sym e);
@@ -38,15 +39,15 @@ module _ {rec fin st sl : List ℕ} {m : ℕ} (s : Dfs rec fin st sl 0 m) (all :
   origin-done i u l e lu = seen-done s refl u lu (subst (λ (x : ℕ). getD fin x 0 ≢ 0) e (all i l (omega arith)))
 
   tail-done : (d : ℕ) → d < darts → Begins rec d → 2 ≤ getD fin (d / 8) 0
-  tail-done d ld (leaves i l e) = origin-done i (d / 8) l e (omega arith)
+  tail-done d ld (leaves i l e) = origin-done i (d / 8) l e (tail-spot d ld)
   tail-done d ld (goesOn f) =
       let c = f .dart in
-      let lc : c / 8 < spots = omega (arith, f .dart<) in
+      let lc : c / 8 < spots = tail-spot c (f .dart<) in
       subst (λ (x : ℕ). 2 ≤ getD fin x 0) (f .ends)
       (s .falls (c / 8) lc (origin-done (f .byte) (c / 8) (f .byte<) (f .leaves) lc) (c % 8) (rev c / 8) (loaded-edge rec c (f .dart<) (f .laden)) .0)
 
   pub all-fall : (d : ℕ) → d < darts → 0 < view rec d → getD fin (rev d / 8) 0 < getD fin (d / 8) 0
-  all-fall d ld l = s .falls (d / 8) (omega arith) (tail-done d ld (loaded-begins rec d ld l)) (d % 8) (rev d / 8) (loaded-edge rec d ld l) .1
+  all-fall d ld l = s .falls (d / 8) (tail-spot d ld) (tail-done d ld (loaded-begins rec d ld l)) (d % 8) (rev d / 8) (loaded-edge rec d ld l) .1
 
 module _ {rec fin st sl : List ℕ} {n m : ℕ} (s : Dfs rec fin st sl n m) {x : ℕ} (back : Edge rec (getD st (n - 1) 0) (getD sl (n - 1) 0) x) where
   last : (i : ℕ) → i + 1 ≡ n → Edge rec (getD st i 0) (getD sl i 0) x
@@ -83,7 +84,7 @@ module _ {rec fin st sl : List ℕ} {n m : ℕ} (s : Dfs rec fin st sl n m) {x :
   climb J (suc c) j u e a b =
       let (v, g) = edge-at j (omega arith) in
       let p : u ≡ getD st j 0 = a (omega arith) in
-      along {d = 8 * getD st j 0 + getD sl j 0} {u = u} (omega (arith, g .spot, g .slot)) (omega (arith, g .slot)) (g .laden)
+      path-along J {d = 8 * getD st j 0 + getD sl j 0} {u = u} (slot-dart _ _ (g .spot) (omega (arith, g .slot))) (omega (arith, g .slot)) (g .laden)
       (not-again c (suc j) j (omega arith) (omega arith))
       (climb J c (suc j) (rev (8 * getD st j 0 + getD sl j 0) / 8) (omega arith)
       (λ l. rw add-one at (s .link j (omega arith) .leads)) (λ l. last j (omega arith) .leads))
@@ -93,7 +94,7 @@ module _ {rec fin st sl : List ℕ} {n m : ℕ} (s : Dfs rec fin st sl n m) {x :
       record {
         any = l;
         within = omega (arith, s .count);
-        darts< = λ i li. let (v, g) = edge-at i li in omega (arith, g .spot, g .slot);
+        darts< = λ i li. let (v, g) = edge-at i li in slot-dart _ _ (g .spot) (omega (arith, g .slot));
         path = λ J. subst (λ (y : ℕ). Path (net J) (Loaded (view rec)) (ringDarts st sl j (n - j)) (getD st j 0) y) (sym e)
             (climb J (n - j) j (getD st j 0) (omega arith) (λ q. refl) (λ q. absurd (omega arith)));
       }

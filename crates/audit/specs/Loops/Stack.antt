@@ -11,14 +11,14 @@ use borrow.Author.Count.{below-more}
 use lib.ListN.{length, getD, set, length-set}
 use lib.Seq.{getD-set-same, getD-set-other}
 use Rattle.channel.specs.Map.{spots}
-use Rattle.channel.specs.Map.Back.{rev<}
+use Rattle.channel.specs.Map.Numbers.{slot-dart, head-spot}
 use Rattle.audit.specs.Loops.{Room}
 use Rattle.audit.specs.Loops.Dfs.{Edge, Cleared, unseen, Dfs}
 use Rattle.audit.specs.Loops.Marks.{same-or, after, blanks-le, unseen-less, unseen-same}
 
 -- an edge leads to a spot
 pub edge-node : {rec : List ℕ} {u k v : ℕ} → Edge rec u k v → v < spots
-edge-node {u = u} {k = k} e = omega (arith, rev< (8 * u + k) (omega arith), e .leads)
+edge-node {u = u} {k = k} e = subst (λ (x : ℕ). x < spots) (e .leads) (head-spot (8 * u + k) (slot-dart u k (e .spot) (omega (arith, e .slot))))
 
 -- every edge of u leads to a spot that is done
 abbrev pub Out : List ℕ → List ℕ → ℕ → Type 0

@@ -15,7 +15,7 @@ use Rattle.model.specs.Links.{Place, Step}
 use Rattle.model.specs.Loads.{Feasible, Trail}
 use Rattle.model.specs.Record.{load}
 use Rattle.channel.specs.Map.{view}
-use Rattle.channel.specs.Map.Loops.{ranked-loops, path-loop}
+use Rattle.channel.specs.Map.Network.Loops.{ranked-loops, path-loop}
 use Rattle.channel.specs.Map.Network.{net}
 use Rattle.audit.specs.Loops.{ringDarts, Closed, Answer, free, ring, LoopStands}
 use Rattle.audit.specs.declared.loops.Found.{Found}

@@ -64,10 +64,12 @@ rev-mid d l m = by (ltb (ahead d) 2688) (ltb (ahead d) 107712) (less? (ahead d) 
     by false false k (most n) = absurd (omega arith)
 
 pub rev-over : (d r : ℕ) → r + 2688 ≡ ahead d → r < darts → rev d ≡ r
+unfolding darts
 rev-over d r e l = omega (arith, rev-mid d (omega arith) (omega arith))
 
 -- either the row leads over, or the dart is its own way back
 pub rev-ways : (d : ℕ) → ((rev d + 2688 ≡ ahead d) × (rev d < darts)) ⊎ (rev d ≡ d)
+unfolding darts
 rev-ways d = by (ltb (ahead d) 2688) (ltb (ahead d) 107712) (less? (ahead d) 2688) (less? (ahead d) 107712)
   where
     by : (a b : Bool) → Less (ahead d) 2688 a → Less (ahead d) 107712 b → ((rev d + 2688 ≡ ahead d) × (rev d < darts)) ⊎ (rev d ≡ d)

@@ -49,7 +49,7 @@ step-grid d g = record { row< = omega (arith, grid-at (ownerCell d) g); column< 
 -- the dart at the cell y and the row i, whose link the cell (r, c) of the grid owns
 pub dart-at : (d y i r c : ℕ) → (d ≡ 64 * y + i) × (i < 64) × (y + ownerOf i ≡ 41 + 40 * r + c) × (r < 40) × (c < 40) → T (carries (codeOf i))
     → (d < darts) × T (isLinkDart d) × (stepOf d ≡ record { link = link (getD kinds (kindOf i) northSide) r c; forth = eqb (signOf i) 0 })
-unfolding isLinkDart stepOf
+unfolding isLinkDart stepOf darts
 dart-at d y i r c (e, l, o, a, b) t =
     let m : d % 64 ≡ i = omega arith in
     let x : ownerCell d ≡ 41 + 40 * r + c = omega (arith, owner-law d, ap ownerOf m) in (

@@ -14,7 +14,7 @@ use Rattle.model.specs.Links.{Compass, north, east, south, west, compassCode, p
 use Rattle.model.specs.Links.{LinkKind, northSide, westSide, corner, spoke, leg, link, beside, pinAt, behindOf, aheadOf}
 use Rattle.model.specs.Links.{Step, head, tail, isEntered, around}
 use Rattle.model.specs.Near.{spot, entryOf, exitOf, exit}
-use Rattle.channel.specs.Map.{inGrid, rowOf, columnOf, ahead, rev, outside, turns, owners, turnOf, ownerOf, backRow, dartOf, seatOf, EndsAt}
+use Rattle.channel.specs.Map.{darts, inGrid, rowOf, columnOf, ahead, rev, outside, turns, owners, turnOf, ownerOf, backRow, dartOf, seatOf, EndsAt}
 use Rattle.channel.specs.Map.Back.{grid-at, rev-over}
 use Rattle.channel.specs.Map.Darts.{cell-row, cell-column}
 
@@ -92,7 +92,7 @@ leaves J (leg west) false (suc r) (suc c) t = leaves-by (41 + 40 * r + c) 36 (om
 
 -- the spot that a dart at the row i leads to, in the cell z
 pub rev-spot : (d i z : ℕ) → (d % 64 ≡ i) × (64 * z + backRow i + 2688 ≡ d + turnOf i) × (z < 1641) → rev d / 8 ≡ 8 * z + backRow i / 8
-unfolding backRow ahead
+unfolding backRow ahead darts
 rev-spot d i z (m, e, l) =
     let r : rev d ≡ 64 * z + (i + turnOf i) % 64 = rev-over d (64 * z + (i + turnOf i) % 64) (omega (arith, ap turnOf m)) (omega arith) in
     omega arith

@@ -28,7 +28,7 @@ use Rattle.channel.specs.Map.Ends.{leaves}
 use Rattle.channel.specs.Map.Spots.{held-grid, spot-inside}
 use Rattle.channel.specs.Map.Steps.{slot-step, link-tail, link-head}
 use Rattle.channel.specs.Map.Places.{side-kind, pin-by}
-use Rattle.channel.specs.Map.Pushed.{grid-turn, turn-turn}
+use Rattle.channel.specs.Map.Network.Pushed.{grid-turn, turn-turn}
 
 abbrev way : LinkKind → Bool → ℕ → ℕ → Step
 way k f r c = record { link = link k r c; forth = f }

@@ -37,7 +37,7 @@ originOf rec i = elim (eqb (getD rec (3968 + i) 0) 0) [ true ↦ spots | false �
 module _ (rec : List ℕ) (i : ℕ) where
   -- as a program reads it
   pub origin-none : getD rec (3968 + i) 0 ≡ 0 → 13128 ≡ originOf rec i
-  unfolding originOf
+  unfolding originOf spots
   origin-none e = sym (if-true (eqb (getD rec (3968 + i) 0) 0) spots _ (eq-eqb _ _ e))
 
   pub origin-at : getD rec (3968 + i) 0 ≢ 0 → (j o : ℕ) → j ≡ seatOf (i / 1600) (ltb (getD rec (3968 + i) 0) 32) → o ≡ ownerOf j

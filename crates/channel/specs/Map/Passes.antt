@@ -16,7 +16,7 @@ use Rattle.channel.specs.Map.Ends.{rev-spot}
 -- the place that a dart of a cell and a row passes
 passed-at : (d r c i : ℕ) → d ≡ 64 * (41 + 40 * r + c) + i → i < 64 → r < 40 → c < 40 → T (isPassage (codeOf i))
     → (d < darts) × T (isPassDart d) × (passedOf d ≡ at (elim (eqb (codeOf i) 5) [ true ↦ centre | false ↦ missing ]) r c)
-unfolding isPassDart passedOf
+unfolding isPassDart passedOf darts
 passed-at d r c i e l a b t =
     let m : d % 64 ≡ i = omega arith in
     let x : d / 64 ≡ 41 + 40 * r + c = omega arith in (

@@ -136,6 +136,7 @@ three : (a b c : Bool) → T (a && (b && c)) → T a × T b × T c
 three a b c t = let u : T (b && c) = and-right a (b && c) t in (and-left a (b && c) t, and-left b c u, and-right b c u)
 
 pass-on : (e : ℕ) → e < darts → T (isPassage (codeOf (e % 64))) → Passes e (rev e)
+unfolding darts
 pass-on e l t =
     let i = e % 64 in
     let (a, b, c) = three (eqb (turnOf i) 2696) (eqb (codeOf (i + 8)) (codeOf i + 6)) (leb i 52) (pass-row i (row< e) t) in

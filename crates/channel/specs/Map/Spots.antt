@@ -209,6 +209,7 @@ module _ (J : Job) where
       counted x = W (exit x) + when (countsTwice (x .kind)) (W (entry x))
 
       spot-has : (k r c : ℕ) → k < 8 → r < 40 → c < 40 → 0 < W (spot k r c) → T (has k r c)
+      unfolding spots
       spot-has k r c a b e p =
           by (spot-at (spot k r c) (only (spot k r c) (omega arith) p))
         where
@@ -246,6 +247,7 @@ module _ (J : Job) where
           tile k l = when-full (isOpen J r c) (W (spot (suc (suc k)) r c)) (spot-has (suc (suc k)) r c l a b)
 
       pub sum-spots : sum spots W ≡ total (places J) counted
+      unfolding spots
       sum-spots =
           sum-rows 1641 8 W
           ∙ sum-append 41 1600 cellSum

@@ -28,7 +28,7 @@ module _ (J : Job) where
       (r, c, and-right (inGrid (u / 8)) (isChosen J r c) g, omega (arith, grid-cell (u / 8) (and-left (inGrid (u / 8)) (isChosen J r c) g)))
 
   pub pin-spot : T (arrayFits (J .rows) (J .columns)) → (r c : ℕ) → T (isChosen J r c) → exit (at pin r c) < spots
-  unfolding exitOf
+  unfolding exitOf spots
   pin-spot fits r c t = let (a, b) = held-grid J fits pin r c t in omega arith
 
   -- ---- where a wire may start

@@ -128,6 +128,7 @@ module _ (J : Job) (fits : T (arrayFits (J .rows) (J .columns))) where
   sum-darts : (F : ℕ → ℕ) → ((d : ℕ) → d < darts → 0 < F d → IsSpot J (d / 8))
       → sum darts F
       ≡ total (places J) (λ x. sum 8 (λ i. F (8 * exit x + i)) + when (countsTwice (x .kind)) (sum 8 (λ i. F (8 * entry x + i))))
+  unfolding darts spots
   sum-darts F only =
       sum-rows 13128 8 F
       ∙ sum-cong 13128 _ _ (λ u l. sum-cong 8 _ _ (λ i m. ap F (omega arith)))

@@ -4,6 +4,7 @@ use Prim.Native.Nat.{_-_, _<_}
 use native.Mathlib.Omega.{arith}
 use denote.Ref.{now}
 use lib.ListN.{getD, length-set}
+use Rattle.channel.specs.Map.Numbers.{spots-is}
 use Rattle.channel.specs.Map.{spots}
 use Rattle.audit.specs.Loops.Marks.{unseen-less}
 use Rattle.audit.specs.Loops.Turns.{turn-pop, turn-next, turn-hit, new-spot, turn-push}
@@ -41,7 +42,7 @@ add-fin : tie.Need-add-fin
 add-fin c = search needs
 
 cast-fin : tie.Need-cast-fin
-cast-fin c = search needs
+cast-fin c = search (needs, spots-is)
 
 mul-fin : tie.Need-mul-fin
 mul-fin c = omega (arith, top (c .before .before .before .before .before .before .before .before .before))
@@ -97,19 +98,19 @@ slice-write-sl-2 : tie.Need-slice-write-sl-2
 slice-write-sl-2 c = search needs
 
 mul-head-of : tie.Need-mul-head-of
-mul-head-of c = omega (arith, top (c .before .before .before .before .before .before .before .before .before))
+mul-head-of c = omega (arith, spots-is, top (c .before .before .before .before .before .before .before .before .before))
 
 add-head-of : tie.Need-add-head-of
-add-head-of c = omega (arith, top (c .before .before .before .before .before .before .before .before .before), c .if1 .left)
+add-head-of c = omega (arith, spots-is, top (c .before .before .before .before .before .before .before .before .before), c .if1 .left)
 
 head-of-requires : tie.Need-head-of-requires
-head-of-requires c κs = omega (arith, top (c .before .before .before .before .before .before .before .before .before), c .if1 .left)
+head-of-requires c κs = omega (arith, spots-is, top (c .before .before .before .before .before .before .before .before .before), c .if1 .left)
 
 mul-if3 : tie.Need-mul-if3
 mul-if3 c = search needs
 
 slice-read-if3 : tie.Need-slice-read-if3
-slice-read-if3 c = search needs
+slice-read-if3 c = search (needs, spots-is)
 
 same-length-4 : tie.Need-same-length-4
 same-length-4 c = search needs
@@ -129,7 +130,7 @@ mul-fin-2 : tie.Need-mul-fin-2
 mul-fin-2 c = search needs
 
 slice-write-fin-2 : tie.Need-slice-write-fin-2
-slice-write-fin-2 c = search needs
+slice-write-fin-2 c = search (needs, spots-is)
 
 cast-st : tie.Need-cast-st
 cast-st c = search needs

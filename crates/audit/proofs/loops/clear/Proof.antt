@@ -6,6 +6,7 @@ use mathlib.Core.Path.{_≡_, refl, _∙_}
 use native.Mathlib.Omega.{arith}
 use lib.ListN.{length, getD, set, length-set}
 use lib.Seq.{getD-set-same, getD-set-other}
+use Rattle.channel.specs.Map.Numbers.{spots-is}
 use Rattle.channel.specs.Map.{spots}
 use Rattle.audit.proofs.loops.clear.Statement.{statement}
 use Rattle.audit.proofs.loops.clear.Tie as tie
@@ -23,28 +24,28 @@ mul-fin : tie.Need-mul-fin Inv-loop μ-loop
 mul-fin c = omega arith
 
 slice-write-fin : tie.Need-slice-write-fin Inv-loop μ-loop
-slice-write-fin c = omega arith
+slice-write-fin c = omega (arith, spots-is)
 
 add-i : tie.Need-add-i Inv-loop μ-loop
 add-i c = omega arith
 
 loop-less : tie.Need-loop-less Inv-loop μ-loop
-loop-less c = omega arith
+loop-less c = omega (arith, spots-is)
 
 loop-again : tie.Need-loop-again Inv-loop μ-loop
 loop-again c =
     let l = c .before .loop in (
-      omega arith,
+      omega (arith, spots-is),
       simp length-set (l .inv .1),
       below-more (λ j. getD (set (l .fin) (l .i) 0) j 0 ≡ 0) (l .i)
-          (λ j lj. getD-set-other (l .fin) (l .i) j 0 0 (λ e. omega arith) ∙ l .inv .2 j lj) (getD-set-same (l .fin) (l .i) 0 0 (omega arith)),
+          (λ j lj. getD-set-other (l .fin) (l .i) j 0 0 (λ e. omega arith) ∙ l .inv .2 j lj) (getD-set-same (l .fin) (l .i) 0 0 (omega (arith, spots-is))),
     )
 
 same-length : tie.Need-same-length Inv-loop μ-loop
 same-length c = c .before .loop .inv .1
 
 returns : tie.Need-returns Inv-loop μ-loop
-returns c = record { all = λ i l. c .before .loop .inv .2 i (omega arith) }
+returns c = record { all = λ i l. c .before .loop .inv .2 i (omega (arith, spots-is)) }
 
 pub clear-spec : {M : Type 1} → statement M
 clear-spec =

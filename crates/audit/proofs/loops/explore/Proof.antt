@@ -2,6 +2,7 @@
 use borrow.Author.Needs.{needs}
 use mathlib.Core.Path.{_∙_}
 use lib.ListN.{length-set}
+use Rattle.channel.specs.Map.Numbers.{spots-is}
 use Rattle.audit.specs.Loops.Turns.{search-seen, search-leaf, dfs-root}
 use Rattle.audit.proofs.loops.explore.Statement.{statement}
 use Rattle.audit.proofs.loops.explore.Tie as tie
@@ -24,7 +25,7 @@ add-fin : tie.Need-add-fin
 add-fin c = search needs
 
 cast-fin : tie.Need-cast-fin
-cast-fin c = search needs
+cast-fin c = search (needs, spots-is)
 
 mul-fin : tie.Need-mul-fin
 mul-fin c = search needs
@@ -51,7 +52,7 @@ slice-write-fin-2 : tie.Need-slice-write-fin-2
 slice-write-fin-2 c = search needs
 
 cast-st : tie.Need-cast-st
-cast-st c = search needs
+cast-st c = search (needs, spots-is)
 
 slice-write-st : tie.Need-slice-write-st
 slice-write-st c = search needs

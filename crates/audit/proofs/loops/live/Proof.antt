@@ -5,19 +5,20 @@ use mathlib.Core.Path.{sym, _∙_}
 use Prim.Native.Nat.{_+_, _*_}
 use native.Mathlib.Omega.{arith}
 use denote.Ref.{now}
+use Rattle.channel.specs.Map.Numbers.{spots-is}
 use Rattle.channel.specs.Map.{view}
 use Rattle.audit.specs.Loops.Dfs.{live, dead}
 use Rattle.audit.proofs.loops.live.Statement.{statement}
 use Rattle.audit.proofs.loops.live.Tie as tie
 
 mul-d : tie.Need-mul-d
-mul-d c = search needs
+mul-d c = search (needs, spots-is)
 
 add-d : tie.Need-add-d
-add-d c = search needs
+add-d c = search (needs, spots-is)
 
 is-loaded-requires : tie.Need-is-loaded-requires
-is-loaded-requires c κs = search needs
+is-loaded-requires c κs = search (needs, spots-is)
 
 returns : tie.Need-returns
 returns c =
@@ -29,13 +30,13 @@ returns c =
     )))
 
 head-of-requires : tie.Need-head-of-requires
-head-of-requires c κs = search needs
+head-of-requires c κs = search (needs, spots-is)
 
 mul-if2 : tie.Need-mul-if2
 mul-if2 c = search needs
 
 shared-slice-read-if2 : tie.Need-shared-slice-read-if2
-shared-slice-read-if2 c = search needs
+shared-slice-read-if2 c = search (needs, spots-is)
 
 returns-2 : tie.Need-returns-2
 returns-2 c = dead (λ v e. rw (← e .leads, ← c .before .before .head-of .ensures .0) (c .if2 .taken))

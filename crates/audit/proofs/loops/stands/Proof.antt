@@ -1,5 +1,6 @@
 -- `loops::stands` meets its contract: the order of the marks excludes a loop, and a ring is one. Assumes nothing.
 use borrow.Author.Needs.{needs}
+use Rattle.channel.specs.Map.Numbers.{spots-is}
 use Rattle.audit.specs.Loops.Stands.{no-loop, a-loop}
 use Rattle.audit.proofs.loops.stands.Statement.{statement}
 use Rattle.audit.proofs.loops.stands.Tie as tie
@@ -14,7 +15,7 @@ slice-aggregate-find-3 : tie.Need-slice-aggregate-find-3
 slice-aggregate-find-3 c = search needs
 
 find-requires : tie.Need-find-requires
-find-requires c κs = search needs
+find-requires c κs = search (needs, spots-is)
 
 enum-told : tie.Need-enum-told
 enum-told c = search needs

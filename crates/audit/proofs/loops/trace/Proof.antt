@@ -1,6 +1,7 @@
 -- `loops::trace` meets its contract: a load byte of 0 has no spot, and from that of any other the search goes on. Assumes nothing.
 use borrow.Author.Needs.{needs}
 use native.Mathlib.Omega.{arith}
+use Rattle.channel.specs.Map.Numbers.{spots-is}
 use Rattle.audit.specs.Loops.Turns.{trace-none, trace-from}
 use Rattle.audit.proofs.loops.trace.Statement.{statement}
 use Rattle.audit.proofs.loops.trace.Tie as tie
@@ -9,10 +10,10 @@ origin-requires : tie.Need-origin-requires
 origin-requires c κs = search needs
 
 returns : tie.Need-returns
-returns c = let s = c .before .before .before .before .before .before in trace-none (s .pre .0) (s .args .i) (omega (arith, c .if1 .taken, c .before .origin .ensures))
+returns c = let s = c .before .before .before .before .before .before in trace-none (s .pre .0) (s .args .i) (omega (arith, spots-is, c .if1 .taken, c .before .origin .ensures))
 
 explore-requires : tie.Need-explore-requires
-explore-requires c κs = search needs
+explore-requires c κs = search (needs, spots-is)
 
 same-length : tie.Need-same-length
 same-length c = search needs
@@ -24,7 +25,7 @@ same-length-3 : tie.Need-same-length-3
 same-length-3 c = search needs
 
 returns-2 : tie.Need-returns-2
-returns-2 c = let s = c .before .before .before .before .before .before .before .before .before .before .before .before .before .before .before .before in trace-from (s .pre .0) (s .args .i) (c .before .before .before .before .before .before .before .before .before .before .before .origin .ensures) (omega (arith, c .before .before .before .before .before .before .before .before .before .before .if1 .left)) (c .before .before .before .before .before .before .explore .ensures)
+returns-2 c = let s = c .before .before .before .before .before .before .before .before .before .before .before .before .before .before .before .before in trace-from (s .pre .0) (s .args .i) (c .before .before .before .before .before .before .before .before .before .before .before .origin .ensures) (omega (arith, spots-is, c .before .before .before .before .before .before .before .before .before .before .if1 .left)) (c .before .before .before .before .before .before .explore .ensures)
 
 pub trace-spec : {M : Type 1} → statement M
 trace-spec =

@@ -5,6 +5,7 @@ use Prim.Native.Nat.{_%_, _<_}
 use native.Mathlib.Omega.{arith}
 use Rattle.model.specs.Record.{jobOf}
 use Rattle.channel.specs.Map.{codeOf}
+use Rattle.channel.specs.Map.Numbers.{is-dart}
 use Rattle.channel.specs.Map.Caps.{from-three}
 use Rattle.channel.specs.Map.Moving.{none-moves, centre-back-moves, missing-back-moves, link-back-moves, high-code}
 use Rattle.channel.proofs.moves.can_move.Statement.{statement}
@@ -55,7 +56,7 @@ load-against-requires c κs = search needs
 returns : tie.Need-returns
 returns c =
     let s = c .before .before .before .before in
-    none-moves (jobOf (s .args .job .now)) (s .args .loads .now) (s .args .d) (s .pre .2) (sym (c .before .code-of .ensures) ∙ c .match .keys1)
+    none-moves (jobOf (s .args .job .now)) (s .args .loads .now) (s .args .d) (is-dart (s .pre .2)) (sym (c .before .code-of .ensures) ∙ c .match .keys1)
 
 returns-2 : tie.Need-returns-2
 returns-2 c = search needs
@@ -84,14 +85,14 @@ returns-9 c = search needs
 returns-10 : tie.Need-returns-10
 returns-10 c =
     let s = c .before .before .before .before .before in
-    centre-back-moves (jobOf (s .args .job .now)) (s .args .loads .now) (s .args .d) (s .pre .2)
+    centre-back-moves (jobOf (s .args .job .now)) (s .args .loads .now) (s .args .d) (is-dart (s .pre .2))
     (sym (c .before .before .code-of .ensures) ∙ c .before .match .keys10) _
     (c .centre-back .ensures)
 
 returns-11 : tie.Need-returns-11
 returns-11 c =
     let s = c .before .before .before .before .before in
-    missing-back-moves (jobOf (s .args .job .now)) (s .args .loads .now) (s .args .d) (s .pre .2)
+    missing-back-moves (jobOf (s .args .job .now)) (s .args .loads .now) (s .args .d) (is-dart (s .pre .2))
     (sym (c .before .before .code-of .ensures) ∙ c .before .match .keys11) _
     (c .missing-back .ensures)
 
@@ -106,7 +107,7 @@ returns-12 c =
     (λ q. o .0 .0 .0 .0 .0 .0 .1 (e ∙ q))
     (λ q. o .0 .0 .0 .0 .0 .1 (e ∙ q)) (λ q. o .0 .0 .0 .0 .1 (e ∙ q)) (λ q. o .0 .0 .0 .1 (e ∙ q)) (λ q. o .0 .0 .1 (e ∙ q)) (λ q. o .0 .1 (e ∙ q))
     (λ q. o .1 (e ∙ q)) in
-    link-back-moves (jobOf (s .args .job .now)) (s .args .loads .now) (s .args .d) (s .pre .2) h (λ q. n .0 .1 (e ∙ q)) (λ q. n .1 (e ∙ q)) _
+    link-back-moves (jobOf (s .args .job .now)) (s .args .loads .now) (s .args .d) (is-dart (s .pre .2)) h (λ q. n .0 .1 (e ∙ q)) (λ q. n .1 (e ∙ q)) _
     (c .load-against .ensures .0)
 
 pub can-move-spec : {M : Type 1} → statement M

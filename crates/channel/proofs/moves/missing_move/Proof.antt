@@ -3,6 +3,7 @@ use borrow.Author.Needs.{needs}
 use mathlib.Core.Path.{sym, _∙_}
 use native.Mathlib.Omega.{arith}
 use Rattle.model.specs.Record.{jobOf}
+use Rattle.channel.specs.Map.Numbers.{is-dart}
 use Rattle.channel.specs.Map.Moving.{missing-shut, missing-open, grid-of}
 use Rattle.channel.proofs.moves.missing_move.Statement.{statement}
 use Rattle.channel.proofs.moves.missing_move.Tie as tie
@@ -20,14 +21,14 @@ extra-requires c κs = search needs
 returns : tie.Need-returns
 returns c =
     let s = c .before .before .before .before .before .before in
-    missing-open (jobOf (s .args .job .now)) (s .args .loads .now) (s .args .d) (s .pre .2) (s .pre .3)
+    missing-open (jobOf (s .args .job .now)) (s .args .loads .now) (s .args .d) (is-dart (s .pre .2)) (s .pre .3)
     (sym (c .before .before .before .missing-at .ensures) ∙ c .before .before .if1 .taken) _ _
     (c .before .through-missing .ensures .0) (c .extra .ensures .0)
 
 returns-2 : tie.Need-returns-2
 returns-2 c =
     let s = c .before .before .before .before in
-    missing-shut (jobOf (s .args .job .now)) (s .args .loads .now) (s .args .d) (s .pre .2) (s .pre .3) (sym (c .before .missing-at .ensures) ∙ c .if1 .left)
+    missing-shut (jobOf (s .args .job .now)) (s .args .loads .now) (s .args .d) (is-dart (s .pre .2)) (s .pre .3) (sym (c .before .missing-at .ensures) ∙ c .if1 .left)
 
 pub missing-move-spec : {M : Type 1} → statement M
 missing-move-spec =

@@ -3,6 +3,7 @@ use borrow.Author.Needs.{needs}
 use Prim.Native.Nat.{_%_}
 use native.Mathlib.Omega.{arith}
 use Rattle.model.specs.Record.{jobOf}
+use Rattle.channel.specs.Map.Numbers.{is-dart}
 use Rattle.channel.specs.Map.Caps.{seven-kind}
 use Rattle.channel.specs.Map.Moving.{chosen-moves, missing-moves, idle-moves}
 use Rattle.channel.proofs.moves.pin_move.Statement.{statement}
@@ -22,7 +23,7 @@ leg-way-requires c κs =
 returns : tie.Need-returns
 returns c =
     let s = c .before .before .before .before .before .before in
-    chosen-moves (jobOf (s .args .job .now)) (s .args .loads .now) (s .args .d) (s .pre .2) (s .pre .3) _ _ _ (c .before .before .before .leg-mark .ensures)
+    chosen-moves (jobOf (s .args .job .now)) (s .args .loads .now) (s .args .d) (is-dart (s .pre .2)) (s .pre .3) _ _ _ (c .before .before .before .leg-mark .ensures)
     (c .before .before .if1 .taken) (c .before .load-along .ensures .0) (c .leg-way .ensures)
 
 load-against-requires : tie.Need-load-against-requires
@@ -36,14 +37,14 @@ leg-way-requires-2 c κs =
 returns-2 : tie.Need-returns-2
 returns-2 c =
     let s = c .before .before .before .before .before .before .before in
-    missing-moves (jobOf (s .args .job .now)) (s .args .loads .now) (s .args .d) (s .pre .2) (s .pre .3) _ _ _
+    missing-moves (jobOf (s .args .job .now)) (s .args .loads .now) (s .args .d) (is-dart (s .pre .2)) (s .pre .3) _ _ _
     (c .before .before .before .before .leg-mark .ensures)
     (c .before .before .if2 .taken) (c .before .load-against .ensures .0) (c .leg-way2 .ensures)
 
 returns-3 : tie.Need-returns-3
 returns-3 c =
     let s = c .before .before .before .before .before in
-    idle-moves (jobOf (s .args .job .now)) (s .args .loads .now) (s .args .d) (s .pre .2) (s .pre .3) _ (c .before .before .leg-mark .ensures)
+    idle-moves (jobOf (s .args .job .now)) (s .args .loads .now) (s .args .d) (is-dart (s .pre .2)) (s .pre .3) _ (c .before .before .leg-mark .ensures)
     (c .before .if1 .left) (c .if2 .left)
 
 pub pin-move-spec : {M : Type 1} → statement M

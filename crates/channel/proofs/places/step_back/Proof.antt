@@ -4,16 +4,17 @@ use mathlib.Core.Path.{_≡_, sym, ap, subst, _∙_}
 use Prim.Native.Nat.{ℕ, _<_}
 use lib.Dec.{T}
 use Rattle.model.specs.Links.{turn}
-use Rattle.channel.specs.Map.{darts, rev, stepOf, isLinkDart, dartOf}
+use Rattle.channel.specs.Map.{rev, stepOf, isLinkDart, dartOf}
+use Rattle.channel.specs.Map.Numbers.{is-dart, dart-below}
 use Rattle.channel.specs.Map.Entered.{fromExit, exit-entry, exit-twin, exit-same, back-exit, back-range}
 use Rattle.channel.proofs.places.step_back.Statement.{statement}
 use Rattle.channel.proofs.places.step_back.Tie as tie
 
 -- what `fromExit` gives of the way back
-back-to : (d b r : ℕ) → (d < darts) × T (isLinkDart d) → b ≡ rev d → r ≡ fromExit b → (r ≡ dartOf (turn (stepOf d))) × (r < darts)
+back-to : (d b r : ℕ) → (d < 105024) × T (isLinkDart d) → b ≡ rev d → r ≡ fromExit b → (r ≡ dartOf (turn (stepOf d))) × (r < 105024)
 back-to d b r (l, t) e f =
-    let q : r ≡ dartOf (turn (stepOf d)) = f ∙ ap fromExit e ∙ back-exit d l t in
-    (q, subst (λ (n : ℕ). n < darts) (sym q) (back-range d t))
+    let q : r ≡ dartOf (turn (stepOf d)) = f ∙ ap fromExit e ∙ back-exit d (is-dart l) t in
+    (q, subst (λ (n : ℕ). n < 105024) (sym q) (dart-below (back-range d t)))
 
 reverse-requires : tie.Need-reverse-requires
 reverse-requires c κs = search needs

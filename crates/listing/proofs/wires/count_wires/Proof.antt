@@ -6,7 +6,7 @@ use denote.Ref.{now}
 use Rattle.sums.specs.Counting.{sum}
 use Rattle.model.specs.Record.{jobOf}
 use Rattle.channel.specs.Map.{starts}
-use Rattle.channel.specs.Map.Flows.{starts-count}
+use Rattle.channel.specs.Map.Network.Flows.{starts-count}
 use Rattle.listing.specs.Counts.{starts-one, starts-more}
 use Rattle.listing.proofs.wires.count_wires.Statement.{statement}
 use Rattle.listing.proofs.wires.count_wires.Tie as tie

@@ -1,6 +1,7 @@
 -- `next::is_open` meets its contract. Assumes nothing.
 use borrow.Author.Needs.{needs}
 use mathlib.Core.Path.{sym, _∙_}
+use Rattle.channel.specs.Map.Numbers.{spots-is}
 use Rattle.search.specs.Answers.{yes-not, no-not}
 use Rattle.search.specs.Marks.{is-marked}
 use Rattle.search.specs.Pins.{open-pin, no-pin}
@@ -9,13 +10,13 @@ use Rattle.search.proofs.next.is_open.Statement.{statement}
 use Rattle.search.proofs.next.is_open.Tie as tie
 
 is-start-requires : tie.Need-is-start-requires
-is-start-requires c κs = search needs
+is-start-requires c κs = search (needs, spots-is)
 
 returns : tie.Need-returns
 returns c = no-pin (λ h. absurd (no-not (c .before .is-start .ensures) (c .if1 .taken) (start-unwired _ _ _ h .0)))
 
 wire-starts-requires : tie.Need-wire-starts-requires
-wire-starts-requires c κs = search needs
+wire-starts-requires c κs = search (needs, spots-is)
 
 returns-2 : tie.Need-returns-2
 returns-2 c = no-pin (λ h. absurd (c .if2 .taken (c .before .wire-starts .ensures ∙ start-unwired _ _ _ h .1)))

@@ -4,6 +4,7 @@ use Prim.Native.Nat.{_<_}
 use native.Mathlib.Omega.{arith}
 use denote.Ref.{now}
 use lib.ListN.{length}
+use Rattle.channel.specs.Map.Numbers.{spots-is}
 use Rattle.channel.specs.Map.{spots}
 use Rattle.search.specs.Answers.{yes, no, yes-not, no-not}
 use Rattle.search.specs.Marks.{mark-less}
@@ -12,22 +13,22 @@ use Rattle.search.proofs.reach.attempt.Statement.{statement}
 use Rattle.search.proofs.reach.attempt.Tie as tie
 
 mul-d : tie.Need-mul-d
-mul-d c = search needs
+mul-d c = search (needs, spots-is)
 
 add-d : tie.Need-add-d
-add-d c = search needs
+add-d c = search (needs, spots-is)
 
 head-of-requires : tie.Need-head-of-requires
-head-of-requires c κs = search needs
+head-of-requires c κs = search (needs, spots-is)
 
 slice-read-if1 : tie.Need-slice-read-if1
-slice-read-if1 c = search needs
+slice-read-if1 c = search (needs, spots-is)
 
 returns : tie.Need-returns
 returns c = old (λ m. rw (← c .before .before .head-of .ensures .0) (c .if1 .taken))
 
 can-move-requires : tie.Need-can-move-requires
-can-move-requires c κs = search needs
+can-move-requires c κs = search (needs, spots-is)
 
 returns-2 : tie.Need-returns-2
 returns-2 c = old (λ m. absurd (no-not (c .before .can-move .ensures) (c .if2 .taken) m))
@@ -41,7 +42,7 @@ returns-3 c =
     (rw (← c .before .before .before .before .before .before .head-of .ensures .0) (yes (c .before .is-outside .ensures) (c .if3 .taken)))
 
 slice-write-marks : tie.Need-slice-write-marks
-slice-write-marks c = search needs
+slice-write-marks c = search (needs, spots-is)
 
 cast-queue : tie.Need-cast-queue
 cast-queue c = search needs
@@ -56,8 +57,8 @@ room c =
     let c13 = c6 .before .before .before .before .before .before .before in
     let s = c13 in
     let v = c6 .head-of in
-    let l : v .result < length (now (s .args .marks)) = omega (arith, v .ensures .1, s .pre .0 .room .marks) in
-    omega (arith, s .pre .0 .count, mark-less (now (s .args .marks)) (v .result) (v .ensures .1) l (c .before .before .before .before .if1 .left))
+    let l : v .result < length (now (s .args .marks)) = omega (arith, spots-is, v .ensures .1, s .pre .0 .room .marks) in
+    omega (arith, s .pre .0 .count, mark-less (now (s .args .marks)) (v .result) (omega (arith, spots-is, v .ensures .1)) l (c .before .before .before .before .if1 .left))
 
 slice-write-queue : tie.Need-slice-write-queue
 slice-write-queue c =
@@ -65,7 +66,7 @@ slice-write-queue c =
     omega (arith, room c, c13 .pre .0 .room .queue)
 
 cast-parent : tie.Need-cast-parent
-cast-parent c = search needs
+cast-parent c = search (needs, spots-is)
 
 mul-parent : tie.Need-mul-parent
 mul-parent c = search needs
@@ -101,7 +102,7 @@ same-length-4 c = search needs
 returns-4 : tie.Need-returns-4
 returns-4 c =
     let v = c .before .before .before .before .before .before .head-of in
-    new (v .result) (v .ensures .1) (v .ensures .0) (yes-not (c .before .before .before .can-move .ensures) (c .before .before .if2 .left))
+    new (v .result) (omega (arith, spots-is, v .ensures .1)) (v .ensures .0) (yes-not (c .before .before .before .can-move .ensures) (c .before .before .if2 .left))
     (no (c .before .is-outside .ensures) (c .if3 .left)) (c .before .before .before .before .if1 .left)
 
 pub attempt-spec : {M : Type 1} → statement M

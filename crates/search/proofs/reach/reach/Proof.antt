@@ -7,6 +7,7 @@ use native.Mathlib.Omega.{arith}
 use denote.Ref.{now}
 use lib.ListN.{length-set}
 use Rattle.model.specs.Record.{jobOf}
+use Rattle.channel.specs.Map.Numbers.{spots-is}
 use Rattle.channel.specs.Map.{spots}
 use Rattle.search.specs.Spread.{Alike}
 use Rattle.search.specs.Steps.{Front}
@@ -28,7 +29,7 @@ slice-write-marks c =
     omega (arith, c6 .pre .1 .marks, c6 .pre .2 .spot)
 
 cast-queue : tie.Need-cast-queue Inv-loop μ-loop
-cast-queue c = omega (arith, c .before .before .before .before .before .before .pre .2 .spot)
+cast-queue c = omega (arith, spots-is, c .before .before .before .before .before .before .pre .2 .spot)
 
 slice-write-queue : tie.Need-slice-write-queue Inv-loop μ-loop
 slice-write-queue c = omega (arith, c .before .before .before .before .before .before .pre .1 .queue)

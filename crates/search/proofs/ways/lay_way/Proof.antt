@@ -6,6 +6,7 @@ use Prim.Native.Nat.{ℕ, _≤_, _<_}
 use native.Mathlib.Omega.{arith}
 use denote.Ref.{now}
 use lib.ListN.{length, getD}
+use Rattle.channel.specs.Map.Numbers.{spots-is}
 use Rattle.channel.specs.Map.{spots}
 use Rattle.search.specs.Ways.{LaidTo, laid-first, laid-back}
 use Rattle.search.proofs.ways.lay_way.Statement.{statement}
@@ -27,22 +28,22 @@ shared-slice-read-lay c = omega (arith, c .before .before .before .before .befor
 cast-lay : tie.Need-cast-lay Inv-loop μ-loop
 cast-lay c =
     let c6 = c .before .before .before .before .before .before in
-    omega (arith, c6 .pre .spot (c6 .args .j) (omega arith))
+    omega (arith, spots-is, c6 .pre .spot (c6 .args .j) (omega arith))
 
 mul-lay-2 : tie.Need-mul-lay-2 Inv-loop μ-loop
 mul-lay-2 c =
     let c6 = c .before .before .before .before .before .before in
-    omega (arith, c6 .pre .spot (c6 .args .j) (omega arith))
+    omega (arith, spots-is, c6 .pre .spot (c6 .args .j) (omega arith))
 
 add-lay : tie.Need-add-lay Inv-loop μ-loop
 add-lay c =
     let c6 = c .before .before .before .before .before .before in
-    omega (arith, c6 .pre .spot (c6 .args .j) (omega arith), c6 .pre .slot)
+    omega (arith, spots-is, c6 .pre .spot (c6 .args .j) (omega arith), c6 .pre .slot)
 
 lay-requires : tie.Need-lay-requires Inv-loop μ-loop
 lay-requires c κs =
     let c6 = c .before .before .before .before .before .before in
-    omega (arith, c6 .pre .spot (c6 .args .j) (omega arith), c6 .pre .slot, c6 .pre .whole)
+    omega (arith, spots-is, c6 .pre .spot (c6 .args .j) (omega arith), c6 .pre .slot, c6 .pre .whole)
 
 loop-holds : tie.Need-loop-holds Inv-loop μ-loop
 loop-holds c = (omega arith, refl, λ rec r. r)
@@ -95,20 +96,20 @@ shared-slice-read-lay-2 c =
     omega (arith, falls (c .before .before .before .before), c15 .pre .queue, c5 .loop .inv .0)
 
 cast-lay-2 : tie.Need-cast-lay-2 Inv-loop μ-loop
-cast-lay-2 c = omega (arith, spot< (c .before .before .before .before))
+cast-lay-2 c = omega (arith, spots-is, spot< (c .before .before .before .before))
 
 mul-lay-4 : tie.Need-mul-lay-4 Inv-loop μ-loop
-mul-lay-4 c = omega (arith, spot< (c .before .before .before .before))
+mul-lay-4 c = omega (arith, spots-is, spot< (c .before .before .before .before))
 
 add-lay-2 : tie.Need-add-lay-2 Inv-loop μ-loop
-add-lay-2 c = omega (arith, spot< (c .before .before .before .before), slot< (c .before .before .before .before))
+add-lay-2 c = omega (arith, spots-is, spot< (c .before .before .before .before), slot< (c .before .before .before .before))
 
 lay-requires-2 : tie.Need-lay-requires-2 Inv-loop μ-loop
 lay-requires-2 c κs =
     let c5 = c .before .before .before .before .before in
     let c8 = c5 .before .before .before in
     let c15 = c8 .before .before .before .before .before .before .before in
-    omega (arith, spot< (c .before .before .before .before), slot< (c .before .before .before .before), c5 .loop .inv .1, c8 .lay .kept .0, c15 .pre .whole)
+    omega (arith, spots-is, spot< (c .before .before .before .before), slot< (c .before .before .before .before), c5 .loop .inv .1, c8 .lay .kept .0, c15 .pre .whole)
 
 loop-less : tie.Need-loop-less Inv-loop μ-loop
 loop-less c = falls (c .before .before .before .before .before .before .before)

@@ -29,8 +29,8 @@ use Rattle.channel.specs.Map.Network.{net}
 use Rattle.channel.specs.Map.Steps.{place-pass}
 use Rattle.channel.specs.Map.Stores.{one-way, grid?, Lay, nothing, bumps, lay?, loads-bumped, byte-other, load-other}
 use Rattle.channel.specs.Map.Carry.{view-link, Shut, shut, link-shut, link-limit, pass-limit}
-use Rattle.channel.specs.Map.Pushed.{grid-turn, turn-turn, push-plain, push-apart, push-own}
-use Rattle.channel.specs.Map.InOut.{Quiet, side-out, side-back, exit-out, exit-back, entry-out, entry-back}
+use Rattle.channel.specs.Map.Network.Pushed.{grid-turn, turn-turn, push-plain, push-apart, push-own}
+use Rattle.channel.specs.Map.Network.InOut.{Quiet, side-out, side-back, exit-out, exit-back, entry-out, entry-back}
 use Rattle.channel.specs.Map.Places.{compass<, five, side-kind, side-cell, tile-cell, chosen-cell, missing-cell, open-tile, kind-inside, tile-inside, want-kind, start-cell, missing-want, missing-chosen, leg-shut, slot-link, slots-total}
 pub use Rattle.channel.specs.Map.Stores.{laid-length, laid-other, laid-rest, laid-job}
 
@@ -95,8 +95,9 @@ along? s t e = go (s .forth) (t .forth)
 module _ (J : Job) (fits : T (arrayFits (J .rows) (J .columns))) where
   -- One move stores one push.
   pub lay-agrees : (g : ℕ → ℕ) (rec : List ℕ) → recordSize ≤ length rec → Agrees g rec → Apart (net J) g
-      → ((d : ℕ) → d < darts → T (not (net J .free d)) → g d ≤ net J .cap d) → ((d : ℕ) → d < darts → g d < 30)
+      → ((d : ℕ) → d < net J .darts → T (not (net J .free d)) → g d ≤ net J .cap d) → ((d : ℕ) → d < darts → g d < 30)
       → (d : ℕ) → d < darts → Residual (net J) g d → Agrees (push (net J) g (d ∷ [])) (laid rec d)
+  unfolding net
   lay-agrees g rec long a p w small d l res = go (laid rec d) (lay? rec d)
     where
       h : ℕ → ℕ
@@ -156,10 +157,11 @@ module _ (J : Job) (fits : T (arrayFits (J .rows) (J .columns))) (g s : ℕ → 
   -- ---- links
 
   none : (d : ℕ) → d < darts → Shut J d → g d ≡ 0
+  unfolding net
   none d l z = omega (arith, F .load .within d l (z .unfree), z .cap0)
 
   quiet : Quiet g
-  quiet d l m n = none d l (shut J d m n)
+  quiet = record { none = λ d l m n. none d l (shut J d m n) }
 
   dart-none : (t : Step) → OnGrid t → T (not (may J t)) → g (dartOf t) ≡ 0
   dart-none t o n =
@@ -173,6 +175,7 @@ module _ (J : Job) (fits : T (arrayFits (J .rows) (J .columns))) (g s : ℕ → 
       by (inr z) = z
 
   load-limit : (t : Step) (k : ℕ) → limit J (t .link) ≡ some k → f t ≤ k
+  unfolding net
   load-limit t k e = by (grid? rec t)
     where
       by : OnGrid t ⊎ (f t ≡ 0) → f t ≤ k
@@ -192,6 +195,7 @@ module _ (J : Job) (fits : T (arrayFits (J .rows) (J .columns))) (g s : ℕ → 
   -- ---- places
 
   still : (u : ℕ) → u < spots → T (not (outside J u)) → want J u ≡ 0 → out (net J) g u ≡ out (net J) (back (net J) g) u
+  unfolding net
   still u l i w = omega (arith, F .load .balanced u l i, F .load .wanted u l)
 
   module _ (x : Place) (t : T (isPlace J x)) where
@@ -233,6 +237,7 @@ module _ (J : Job) (fits : T (arrayFits (J .rows) (J .columns))) (g s : ℕ → 
 
   -- n, e, s, w
   side-even : (d : Compass) (r c : ℕ) → T (isOpen J r c) → arrivals f (at (side d) r c) ≡ departures f (at (side d) r c)
+  unfolding darts spots
   side-even d r c t =
       omega (
         arith,
@@ -268,6 +273,7 @@ module _ (J : Job) (fits : T (arrayFits (J .rows) (J .columns))) (g s : ℕ → 
     slots k h = subst (λ (v : ℕ). T (isLinkDart (8 * v + k))) e (slot-link J fits x t k (omega arith) .1)
 
     low : u + 1 < spots
+    unfolding darts spots
     low = omega (arith, slot-link J fits x t 0 (omega arith) .0)
 
     -- what goes through it
@@ -286,6 +292,7 @@ module _ (J : Job) (fits : T (arrayFits (J .rows) (J .columns))) (g s : ℕ → 
         ∙ (ap (λ (v : ℕ). sum 4 (λ k. g (dartOf (turn (stepOf (8 * v + k)))))) e ∙ sym through)
 
     off : sum (length (around x)) (λ k. g (8 * exit x + k)) ≡ g (8 * u + 4) + s (u + 1)
+    unfolding net
     off =
         ap (λ (v : ℕ). sum v (λ k. g (8 * exit x + k))) q
         ∙ (ap (λ (v : ℕ). sum 4 (λ k. g (8 * v + k))) e
@@ -330,10 +337,11 @@ module _ (J : Job) (fits : T (arrayFits (J .rows) (J .columns))) (g s : ℕ → 
 
   -- what is wanted nowhere is started nowhere
   unstarted : (u : ℕ) → u < spots → want J u ≡ 0 → s u ≡ 0
+  unfolding net
   unstarted u l w = omega (arith, F .load .wanted u l)
 
   even : (k : PlaceKind) (r c : ℕ) → T (isPlace J (at k r c)) → T (isEntered J (at k r c)) → arrivals f (at k r c) ≡ departures f (at k r c)
-  unfolding exitOf
+  unfolding exitOf spots
   even pin r c t e = absurd e
   even missing r c t e =
       let (p, q) = missing-cell J fits r c t in
@@ -348,7 +356,7 @@ module _ (J : Job) (fits : T (arrayFits (J .rows) (J .columns))) (g s : ℕ → 
   even (side d) r c t e = side-even d r c t
 
   passes : (k : PlaceKind) (r c m : ℕ) → T (isPlace J (at k r c)) → pass J (at k r c) ≡ some m → arrivals f (at k r c) ≤ m
-  unfolding exitOf entryOf isNone
+  unfolding net exitOf entryOf isNone
   passes pin r c m t e = absurd (subst (λ (o : Option ℕ). T (isNone o)) e tt)
   passes missing r c m t e =
       let (l, q, p) = place-pass J fits (at missing r c) t m e in
@@ -373,7 +381,7 @@ module _ (J : Job) (fits : T (arrayFits (J .rows) (J .columns))) (g s : ℕ → 
   passes (side d) r c m t e = absurd (subst (λ (o : Option ℕ). T (isNone o)) e tt)
 
   pin-once : (r c : ℕ) → T (isChosen J r c) → departures f (at pin r c) ≤ 1
-  unfolding exitOf want
+  unfolding net exitOf want spots
   pin-once r c t =
       let (p, q) = chosen-cell J fits r c t in
       omega (arith, pin-starts r c t, F .load .wanted (exit (at pin r c)) (omega arith), one (isStart J (exit (at pin r c))))
@@ -397,7 +405,7 @@ module _ (J : Job) (fits : T (arrayFits (J .rows) (J .columns))) where
       }
 
   pub agrees-starts : (g s : ℕ → ℕ) (rec : List ℕ) → Flow (net J) g s → Agrees g rec → (u : ℕ) → u < spots → starts J rec u ≡ s u
-  unfolding starts want
+  unfolding net starts want
   agrees-starts g s rec F a u l = go (isStart J u) (λ t. t) (F .load .wanted u l)
     where
       go : (b : Bool) → (T b → T (isStart J u)) → s u ≤ when b 1 → when b (departures (load rec) (at pin (rowOf (u / 8)) (columnOf (u / 8)))) ≡ s u

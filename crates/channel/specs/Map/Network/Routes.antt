@@ -93,6 +93,7 @@ module _ (J : Job) (fits : T (arrayFits (J .rows) (J .columns))) where
   StandsAt x u = (T (isPlace J x) × (exit x ≡ u)) ⊎ ((x ≡ theOutside) × T (outside J u))
 
   leads-step : {ds : List ℕ} {u : ℕ} (d : ℕ) → d < darts → d / 8 ≡ u → Leads ds (rev d / 8) → Leads (d ∷ ds) u
+  unfolding net
   leads-step d l e (v, c, o) = (v, step l e c, o)
 
   -- on from the entry of a place, by its passage if it has one
@@ -126,7 +127,7 @@ module _ (J : Job) (fits : T (arrayFits (J .rows) (J .columns))) where
           (r w (inr (f, o)))
 
   pub route-walk : Route J → Walk (net J)
-  unfolding exitOf
+  unfolding net exitOf spots
   route-walk p =
       let x = at pin (p .row) (p .column) in
       let (v, c, o) = chain-leads x (p .steps) (exit x) (p .chain) (inl (p .chosen, refl)) in
@@ -270,4 +271,5 @@ module _ (J : Job) (fits : T (arrayFits (J .rows) (J .columns))) where
         )
 
   pub routes-fit : (rs : List (Route J)) → Together J rs → Fits (net J) (map route-walk rs)
+  unfolding net
   routes-fit rs F = record { within = carried-le rs F; wanted = started-le rs F }

@@ -26,7 +26,7 @@ use Rattle.channel.specs.Map.Network.{net}
 use Rattle.channel.specs.Map.Steps.{link-tail, link-head, place-pass, pass-ends}
 use Rattle.channel.specs.Map.Stores.{grid?}
 use Rattle.channel.specs.Map.Carry.{view-link, view-pass}
-use Rattle.channel.specs.Map.Pushed.{turn-turn}
+use Rattle.channel.specs.Map.Network.Pushed.{turn-turn}
 use Rattle.channel.specs.Map.Places.{compass<, tile-cell, chosen-cell, missing-cell, open-tile, kind-inside, tile-inside, pin-by, leg-shut, spoke-shut}
 
 -- ---- the place of a spot
@@ -312,6 +312,7 @@ module _ (J : Job) (fits : T (arrayFits (J .rows) (J .columns))) (rec : List ℕ
       (stepOf d, ss, (a ∙ ap (placeAt J) e, h, subst (λ (x : Place). Trail J f x ss y) (sym b) w))
 
   path-trail : {ds : List ℕ} {u v : ℕ} → Path (net J) (Loaded (view rec)) ds u v → Trails (placeAt J u) (placeAt J v)
+  unfolding net
   path-trail (here e) = ([], ap (placeAt J) e)
   path-trail (along {d = d} {u = u} {v = v} l e p n r) = by (sort d p) (path-trail r)
     where
@@ -322,6 +323,7 @@ module _ (J : Job) (fits : T (arrayFits (J .rows) (J .columns))) (rec : List ℕ
   -- behind a dart that passes a place comes one along a link
   pass-begins : (d u : ℕ) {ds : List ℕ} → d < darts → d / 8 ≡ u → T (isPassDart d) → 0 < arrivals f (passedOf d)
       → Path (net J) (Loaded (view rec)) ds (rev d / 8) u → Begins (placeAt J u) (placeAt J u)
+  unfolding net
   pass-begins d u l e t h (here q) = absurd (omega (arith, pass-next d, pass-ends d l t))
   pass-begins d u l e t h (along {d = c} k q p n r) = by (sort c p)
     where
@@ -336,6 +338,7 @@ module _ (J : Job) (fits : T (arrayFits (J .rows) (J .columns))) (rec : List ℕ
 
   pub path-loop : (u d : ℕ) (ds : List ℕ) → Path (net J) (Loaded (view rec)) (d ∷ ds) u u
       → (x : Place) × (s : Step) × (ss : List Step) × Trail J (load rec) x (s ∷ ss) x
+  unfolding net
   path-loop u d ds (along l e p n r) = let (s, ss, w) = by (sort d p) in (placeAt J u, s, ss, w)
     where
       by : Sort d → Begins (placeAt J u) (placeAt J u)

@@ -31,7 +31,7 @@ use Rattle.channel.specs.Map.Carried.{turn-turn, loaded-may, passed-le}
 use Rattle.channel.specs.Map.Network.{net}
 
 pub move-residual : (J : Job) (rec : List ℕ) (d : ℕ) → T (moves J rec d) → Residual (net J) (view rec) d
-unfolding moves
+unfolding net moves
 move-residual J rec d =
     or-by (ltb (view rec d) (cap J d)) _ (λ t. room (ltb→lt (view rec d) (cap J d) t))
     (or-by (ltb 0 (view rec (rev d))) _ (λ t. undo (ltb→lt 0 (view rec (rev d)) t))
@@ -142,6 +142,7 @@ module _ (J : Job) (fits : T (arrayFits (J .rows) (J .columns))) (rec : List ℕ
   leads-from d l (through t p) = (passedOf d, p, inl (sym (pass-ends d l t .0)))
 
   pub move-spot : (d : ℕ) → d < darts → IsSpot J (d / 8) → T (moves J rec d) → IsSpot J (rev d / 8) ⊎ T (outside J (rev d / 8))
+  unfolding net
   move-spot d l x t = by (move-residual J rec d t)
     where
       by : Residual (net J) (view rec) d → IsSpot J (rev d / 8) ⊎ T (outside J (rev d / 8))
@@ -267,10 +268,11 @@ module _ (J : Job) (fits : T (arrayFits (J .rows) (J .columns))) (rec : List ℕ
             detour d l (free-link J d f) (free-may J d f) g q (free-ends J (stepOf d) (free-unlimited J d f)) i
 
     residual : (d : ℕ) → d < darts → In (d / 8) → Residual (net J) (view rec) d → In (rev d / 8)
-    unfolding moves
+    unfolding net moves
     residual d l t (undo p) = undone d l t p
     residual d l t (room p) = closed d l t (or-left (ltb (view rec d) (cap J d)) _ (lt→ltb (view rec d) (cap J d) p))
     residual d l t (unlimited f) = freed d l t f
 
     pub closed-residual : Closed (net J) (view rec) S
+    unfolding net
     closed-residual = record { moves = residual }

@@ -148,11 +148,13 @@ module _ (J : Job) (fits : T (arrayFits (J .rows) (J .columns))) (rec : List ℕ
   slot-cell u k l = omega arith
 
   out-view : (u : ℕ) → u < spots → out (net J) (view rec) u ≡ sum 8 (λ k. goes rec (u % 8 * 8 + k) (u / 8))
+  unfolding net darts spots
   out-view u l =
       out-slots (net J) 8 refl (λ d. refl) (view rec) u l
       ∙ sum-cong 8 _ _ (λ k h. view-goes rec (u * 8 + k) ∙ ap₂ (goes rec) (slot-row u k h) (slot-cell u k h))
 
   out-back : (u : ℕ) → u < spots → out (net J) (back (net J) (view rec)) u ≡ sum 8 (λ k. comes rec (u % 8 * 8 + k) (u / 8))
+  unfolding net darts spots
   out-back u l =
       out-slots (net J) 8 refl (λ d. refl) (back (net J) (view rec)) u l
       ∙ sum-cong 8 _ _ (λ k h. view-comes (u * 8 + k) (omega arith) rec ∙ ap₂ (comes rec) (slot-row u k h) (slot-cell u k h))
@@ -171,7 +173,7 @@ module _ (J : Job) (fits : T (arrayFits (J .rows) (J .columns))) (rec : List ℕ
       )
 
   pub feasible-flow : Flow (net J) (view rec) (starts J rec)
-  unfolding cap free want starts isStart outside
+  unfolding net cap free want starts isStart outside
   feasible-flow =
       record {
         load = record {

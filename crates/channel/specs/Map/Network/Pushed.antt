@@ -55,7 +55,7 @@ module _ (J : Job) (g : ℕ → ℕ) (p : Apart (net J) g) (d : ℕ) (l : d < da
   h = push (net J) g (d ∷ [])
 
   push-else : (x : ℕ) → x < darts → x ≢ d → x ≢ rev d → h x ≡ g x
-  unfolding total
+  unfolding net total
   push-else x k m n = omega (arith, p x k, when-other d x 1 (λ r. m (sym r)), when-other d (rev x) 1 (λ r. n (sym (rev-rev x k) ∙ ap rev (sym r))))
 
   -- a dart with no byte on the grid is no link dart, nor is its way back
@@ -97,6 +97,7 @@ module _ (J : Job) (g : ℕ → ℕ) (p : Apart (net J) g) (d : ℕ) (l : d < da
 
     -- its own carries one more, net, along the dart's step
     pub push-own : Own (dartOf σ) (dartOf (turn σ))
+    unfolding net
     push-own = go (carries (codeOf (d % 64))) (λ t. t) (λ t. t) (carries (codeOf (backRow (d % 64)))) (λ t. t) (λ t. t)
       where
         y : ℕ

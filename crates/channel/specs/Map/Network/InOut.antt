@@ -68,12 +68,12 @@ module _ (d e : ℕ) (q : e / 64 ≡ d / 64) (t : T (twin (e % 64) (d % 64))) wh
 
 -- ---- loads that are only where something may be
 
-abbrev pub Quiet : (ℕ → ℕ) → Type 0
-Quiet g = (d : ℕ) → d < darts → T (not (isLinkDart d)) → T (not (isPassDart d)) → g d ≡ 0
+pub record Quiet (g : ℕ → ℕ) : Type 0 where
+  pub none : (d : ℕ) → d < darts → T (not (isLinkDart d)) → T (not (isPassDart d)) → g d ≡ 0
 
 module _ (g : ℕ → ℕ) (quiet : Quiet g) where
   idle-none : (d : ℕ) → d < darts → T (idle (d % 64)) → g d ≡ 0
-  idle-none d l t = quiet d l (idle-link d t) (idle-pass d t)
+  idle-none d l t = quiet .none d l (idle-link d t) (idle-pass d t)
 
   idle-at : (d i : ℕ) → d % 64 ≡ i → T (idle i) → d < darts → g d ≡ 0
   idle-at d i e t l = idle-none d l (subst (λ (x : ℕ). T (idle x)) (sym e) t)
@@ -112,6 +112,7 @@ module _ (g : ℕ → ℕ) (quiet : Quiet g) where
 
   module _ (J : Job) where
     out-eight : (f : ℕ → ℕ) (u : ℕ) → u < spots → out (net J) f u ≡ sum 8 (λ k. f (8 * u + k))
+    unfolding net darts spots
     out-eight f u l = out-slots (net J) 8 (λ i. 105024) (λ d i. d / 8) f u l ∙ sum-cong 8 _ _ (λ k h. ap f (omega arith))
 
     -- n, e, s, w: the kind is 2 + j
@@ -123,7 +124,7 @@ module _ (g : ℕ → ℕ) (quiet : Quiet g) where
       test k p t = all-at 4 (λ i. p (16 + 8 * i + k)) t j b
 
       pub side-out : out (net J) g u ≡ sum 5 (λ k. g (8 * u + k))
-      unfolding sum all codeOf codes carries isPassage idle
+      unfolding sum all codeOf codes carries isPassage idle darts spots
       side-out =
           omega (
             arith,
@@ -135,12 +136,13 @@ module _ (g : ℕ → ℕ) (quiet : Quiet g) where
 
       mirror : (k h : ℕ) → k < 8 → h < 5 → T (all 4 (λ i. mirrors (16 + 8 * i + k) (16 + 8 * i + h)))
           → g (rev (8 * u + k)) ≡ g (dartOf (turn (stepOf (8 * u + h))))
+      unfolding darts spots
       mirror k h l n t =
           mirror-at (8 * u + h) (8 * u + k) _ _ (row k l) (row h (omega arith)) (omega arith) (all-at 4 (λ i. mirrors (16 + 8 * i + k) (16 + 8 * i + h)) t j b)
           (omega arith) (slots h n)
 
       pub side-back : out (net J) (back (net J) g) u ≡ sum 5 (λ k. g (dartOf (turn (stepOf (8 * u + k)))))
-      unfolding sum all mirrors twin still backRow turnOf turns kindOf links ownerOf owners signOf signs codeOf codes carries isStored isPassage idle
+      unfolding net sum all mirrors twin still backRow turnOf turns kindOf links ownerOf owners signOf signs codeOf codes carries isStored isPassage idle darts spots
       side-back =
           omega (
             arith,
@@ -167,15 +169,19 @@ module _ (g : ℕ → ℕ) (quiet : Quiet g) where
       pair-test k p t = all-at 2 (λ i. p (48 * i + k)) t j b
 
       entry-idle : (k : ℕ) → k < 8 → T (all 2 (λ i. idle (48 * i + k))) → g (8 * u + k) ≡ 0
+      unfolding darts spots
       entry-idle k l t = idle-at (8 * u + k) _ (entry-row k l) (pair-test k idle t) (omega arith)
 
       exit-idle : (k : ℕ) → k < 8 → T (all 2 (λ i. idle (48 * i + (8 + k)))) → g (8 * (u + 1) + k) ≡ 0
+      unfolding darts spots
       exit-idle k l t = idle-at (8 * (u + 1) + k) _ (exit-row k l) (pair-test (8 + k) idle t) (omega arith)
 
       entry-still : (k : ℕ) → k < 8 → T (all 2 (λ i. still (48 * i + k))) → g (rev (8 * u + k)) ≡ 0
+      unfolding darts spots
       entry-still k l t = still-at (8 * u + k) _ (entry-row k l) (pair-test k still t) (omega arith)
 
       exit-still : (k : ℕ) → k < 8 → T (all 2 (λ i. still (48 * i + (8 + k)))) → g (rev (8 * (u + 1) + k)) ≡ 0
+      unfolding darts spots
       exit-still k l t = still-at (8 * (u + 1) + k) _ (exit-row k l) (pair-test (8 + k) still t) (omega arith)
 
       pub exit-out : out (net J) g (u + 1) ≡ sum 4 (λ k. g (8 * (u + 1) + k))
@@ -207,29 +213,31 @@ module _ (g : ℕ → ℕ) (quiet : Quiet g) where
 
       -- the dart between the two, and its way back
       between : rev (8 * u + 4) ≡ 8 * (u + 1) + 4
-      unfolding all ahead turnOf turns
+      unfolding all ahead turnOf turns darts spots
       between =
           rev-over (8 * u + 4) (8 * (u + 1) + 4)
           (omega (arith, ap turnOf (entry-row 4 (omega arith)), eqb→eq (turnOf (48 * j + 4)) 2696 (pair-test 4 (λ i. eqb (turnOf i) 2696) tt))) (omega arith)
 
       between-back : rev (8 * (u + 1) + 4) ≡ 8 * u + 4
-      unfolding all ahead turnOf turns
+      unfolding all ahead turnOf turns darts spots
       between-back =
           rev-over (8 * (u + 1) + 4) (8 * u + 4)
           (omega (arith, ap turnOf (exit-row 4 (omega arith)), eqb→eq (turnOf (48 * j + 12)) 2680 (pair-test 12 (λ i. eqb (turnOf i) 2680) tt))) (omega arith)
 
       exit-quiet : (k : ℕ) → k < 4 → T (all 2 (λ i. idle (backRow (48 * i + (8 + k))))) → g (rev (8 * (u + 1) + k)) ≡ 0
+      unfolding darts spots
       exit-quiet k l t =
           quiet-at (8 * (u + 1) + k) _ (exit-row k (omega arith)) (pair-test (8 + k) (λ i. idle (backRow i)) t) (omega arith) (slots k l)
 
       entry-mirror : (k : ℕ) → k < 4 → T (all 2 (λ i. mirrors (48 * i + k) (48 * i + (8 + k))))
           → g (rev (8 * u + k)) ≡ g (dartOf (turn (stepOf (8 * (u + 1) + k))))
+      unfolding darts spots
       entry-mirror k l t =
           mirror-at (8 * (u + 1) + k) (8 * u + k) _ _ (entry-row k (omega arith)) (exit-row k (omega arith)) (omega arith)
           (all-at 2 (λ i. mirrors (48 * i + k) (48 * i + (8 + k))) t j b) (omega arith) (slots k l)
 
       pub exit-back : out (net J) (back (net J) g) (u + 1) ≡ g (8 * u + 4)
-      unfolding sum all still backRow turnOf turns codeOf codes carries isPassage idle
+      unfolding net sum all still backRow turnOf turns codeOf codes carries isPassage idle
       exit-back =
           omega (
             arith,
@@ -245,7 +253,7 @@ module _ (g : ℕ → ℕ) (quiet : Quiet g) where
           )
 
       pub entry-back : out (net J) (back (net J) g) u ≡ sum 4 (λ k. g (dartOf (turn (stepOf (8 * (u + 1) + k)))))
-      unfolding sum all mirrors twin still backRow turnOf turns kindOf links ownerOf owners signOf signs codeOf codes carries isStored isPassage idle
+      unfolding net sum all mirrors twin still backRow turnOf turns kindOf links ownerOf owners signOf signs codeOf codes carries isStored isPassage idle
       entry-back =
           omega (
             arith,

@@ -19,16 +19,16 @@ use Rattle.model.specs.Near.{size, exitOf, exit}
 use Rattle.model.specs.Loads.{arrivals, Feasible}
 use Rattle.model.specs.Record.{load}
 use Rattle.channel.specs.Map.{codes, codeOf}
-use Rattle.channel.specs.Map.{darts, inGrid, rowOf, columnOf, ownerCell, rev, stepOf, carries, isPassage, isLinkDart, isPassDart, passedOf}
+use Rattle.channel.specs.Map.{spots, darts, inGrid, rowOf, columnOf, ownerCell, rev, stepOf, carries, isPassage, isLinkDart, isPassDart, passedOf}
 use Rattle.channel.specs.Map.{cap, free, outside, view, starts}
 use Rattle.channel.specs.Map.Back.{rev<, rev-rev, link-stored}
 use Rattle.channel.specs.Map.Darts.{step-grid, step-dart}
 use Rattle.channel.specs.Map.Passes.{passage-row, pass-ends}
 use Rattle.channel.specs.Map.Limits.{free-link}
 use Rattle.channel.specs.Map.Network.{net}
-use Rattle.channel.specs.Map.Flows.{feasible-flow}
+use Rattle.channel.specs.Map.Network.Flows.{feasible-flow}
 use Rattle.channel.specs.Map.Places.{kind-inside}
-use Rattle.channel.specs.Map.Agree.{Agrees, agrees-feasible, agrees-starts}
+use Rattle.channel.specs.Map.Network.Agree.{Agrees, agrees-feasible, agrees-starts}
 
 -- ---- the darts of an entry
 
@@ -138,7 +138,7 @@ module _ (J : Job) (fits : T (arrayFits (J .rows) (J .columns))) (g s : ℕ → 
 
   -- a dart neither along a link nor through a place
   shut : (x : ℕ) → x < darts → (T (isLinkDart x) → ⊥) → (T (isPassDart x) → ⊥) → g x ≡ 0
-  unfolding cap
+  unfolding net cap
   shut x l m n =
       omega (
         arith,
@@ -149,7 +149,7 @@ module _ (J : Job) (fits : T (arrayFits (J .rows) (J .columns))) (g s : ℕ → 
 
   -- a dart through a place: what comes to the entry goes along it
   pass-least : (d : ℕ) → d < darts → T (isPassDart d) → view rec d ≤ g d
-  unfolding out
+  unfolding net out darts spots
   pass-least d l t =
       omega (
         arith,

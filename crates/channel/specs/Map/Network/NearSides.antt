@@ -25,7 +25,7 @@ use Rattle.channel.specs.Map.Spots.{spot-front, spot-inside}
 use Rattle.channel.specs.Map.Sums.{sum-links, sum-passes, sum-starts}
 
 -- the set holds only entries and exits of places
-abbrev pub OfPlaces : Job → (ℕ → Bool) → Type 0
+abbrev OfPlaces : Job → (ℕ → Bool) → Type 0
 OfPlaces J S = (i : ℕ) → T (S i) → (x : Place) × T (isPlace J x) × ((i ≡ entry x) ⊎ (i ≡ exit x))
 
 -- conditions taken in another order, one of them in other words
@@ -51,7 +51,7 @@ module _ (J : Job) (fits : T (arrayFits (J .rows) (J .columns))) (S : ℕ → Bo
     zero-far t = omega (arith, spot-front J 0 (of 0 t))
 
     link-leaves : (d : ℕ) → d < darts → T (isLinkDart d) → T (may J (stepOf d)) → netLeaves (net J) S d ≡ crosses (stepOf d)
-    unfolding EndsAt
+    unfolding net EndsAt
     link-leaves d l t m =
         ap₂ (λ (a b : Bool). a && not b) (ap S (sym (link-tail J fits d l t m .0))) (by (link-head J fits d l t m))
       where
@@ -65,6 +65,7 @@ module _ (J : Job) (fits : T (arrayFits (J .rows) (J .columns))) (S : ℕ → Bo
             (λ u. absurd (zero-far (subst (λ (x : Place). T (S (entry x))) e u)))
 
     pass-leaves : (d : ℕ) → d < darts → T (isPassDart d) → netLeaves (net J) S d ≡ splits J S (passedOf d)
+    unfolding net
     pass-leaves d l t =
         let (e, f) = pass-ends d l t in
         ap₂ (λ (a b : Bool). a && not b) (ap S (sym e)) (ap S (sym f))
@@ -72,6 +73,7 @@ module _ (J : Job) (fits : T (arrayFits (J .rows) (J .columns))) (S : ℕ → Bo
   -- ---- near sides
 
   pub near-net : Near J S → NetNear (net J) S
+  unfolding net
   near-net near =
       record {
         inside = λ u l t. not-T (outside J u) (λ o. outside-far (near .within) u o t);
@@ -86,6 +88,7 @@ module _ (J : Job) (fits : T (arrayFits (J .rows) (J .columns))) (S : ℕ → Bo
           free-unlimited J d f k e
 
   pub net-near : OfPlaces J S → NetNear (net J) S → Near J S
+  unfolding net
   net-near of near = record { within = of; limited = kept }
     where
       kept : (s : Step) → T (leaves J S s) → (k : ℕ) × (limit J (s .link) ≡ some k)
@@ -107,7 +110,7 @@ module _ (J : Job) (fits : T (arrayFits (J .rows) (J .columns))) (S : ℕ → Bo
   placeTerm x = when (splits J S x) (size (pass J x))
 
   far-sum : over (net J) (λ u. not (S u)) (want J) ≡ count (places J) (farPin J S)
-  unfolding want
+  unfolding net want
   far-sum =
       sum-cong spots _ _ (λ u l. when-when (not (S u)) (isStart J u) 1)
       ∙ sum-starts J fits (λ u. when (not (S u)) 1)
@@ -129,7 +132,7 @@ module _ (J : Job) (fits : T (arrayFits (J .rows) (J .columns))) (S : ℕ → Bo
       (λ t. pass-leaves of d l (and-left (isPassDart d) (isPlace J x) t)))
 
   pub near-cut : OfPlaces J S → nearSum J S ≡ cut (net J) S
-  unfolding nearSum stepTerm placeTerm
+  unfolding net nearSum stepTerm placeTerm
   near-cut of =
       omega (
         arith,
