@@ -39,6 +39,7 @@ pub mod Caps
 pub mod Moving
 pub mod Laying
 pub mod Origins
+pub mod Fresh
 pub mod Laden
 use mathlib.Core.Bool.{Bool, true, false, not, _&&_, _||_}
 use mathlib.Core.List.{List, [], _∷_}
