@@ -31,6 +31,7 @@ pub mod Caps
 pub mod Moving
 pub mod Laying
 pub mod Origins
+pub mod Fresh
 pub mod Laden
 use mathlib.Core.Path.{_≡_}
 use mathlib.Core.Logic.{_⊎_}

@@ -7,6 +7,7 @@ ghost use Rattle.sums.specs.Counting.{when};
 ghost use Rattle.model.specs.Links.{pin, missing, centre, at};
 ghost use Rattle.model.specs.Loads.{arrivals, departures};
 ghost use Rattle.model.specs.Record.{forthPart, backPart, load};
+ghost use Rattle.channel.specs.Map.Fresh.{isFresh, SameRun};
 ghost use Rattle.channel.specs.Map.Origins.{originOf};
 ghost use Rattle.channel.specs.Map.{inGrid, rowOf, columnOf, ownerCell, stepOf, carries, isPassDart, passedOf, view, opposed, address};
 use crate::header::in_grid;
@@ -204,4 +205,27 @@ pub fn origin(rec: &[u8], i: usize) -> usize
     }
     let j = seat_of(i / 1600, b < 32);
     8 * (41 + i % 1600 - owner_of(j)) + j / 8
+}
+
+// Whether wires go along the i-th link in a direction in which none went by the old loads.
+pub fn is_fresh(old: &[u8], rec: &[u8], i: usize) -> bool
+    requires { ⌜ (32768 ≤ length (now old)) × (32768 ≤ length (now rec)) × (i < 22400) ⌝ }
+    ensures { λ b. ⌜ b ≡ isFresh (now (old .entry)) (now (rec .entry)) i ⌝ }
+{
+    let a = wide(old[3968 + i]);
+    let b = wide(rec[3968 + i]);
+    ((0 < forth(b)) & (forth(a) == 0)) | ((0 < back(b)) & (back(a) == 0))
+}
+
+// Whether the k-th 64 load bytes are the same in both. The loop has no way out, so that it can be made one of vectors.
+pub fn same_run(old: &[u8], rec: &[u8], k: usize) -> bool
+    requires { ⌜ (32768 ≤ length (now old)) × (32768 ≤ length (now rec)) × (k < 350) ⌝ }
+    ensures { λ b. ⌜ SameRun (now (old .entry)) (now (rec .entry)) k b ⌝ }
+{
+    let at = 3968 + 64 * k;
+    let mut same = true;
+    for j in 0..64 {
+        same = same & (old[at + j] == rec[at + j]);
+    }
+    same
 }

@@ -14,7 +14,7 @@ use Rattle.sums.specs.Tests.{and-right, if-so, so, below, below-at}
 use Rattle.model.specs.Links.{Compass, north, east, south, west, centre, missing, at, linkCode, spoke, leg, Step, come}
 use Rattle.model.specs.Loads.{arrivals}
 use Rattle.model.specs.Near.{spot, entryOf, entry}
-use Rattle.model.specs.Record.{loadPlane, cell, forthPart, backPart, load}
+use Rattle.model.specs.Record.{loadPlane, forthPart, backPart, load}
 use Rattle.channel.specs.Map.{spots, darts, inGrid, rowOf, columnOf, rev, ownerCell, stepOf, carries, isPassage, isLinkDart, isPassDart, passedOf, view, turns, owners, codes, turnOf, ownerOf, codeOf, backRow, seatOf, dartOf}
 use Rattle.channel.specs.Map.Back.{grid-at}
 use Rattle.channel.specs.Map.Bools.{if-true, if-false}
@@ -47,41 +47,58 @@ module _ (rec : List ℕ) (i : ℕ) where
 
 -- ---- along a link
 
+-- how many wires a byte has along its link's positive way, or the other
+abbrev pub wayPart : Bool → ℕ → ℕ
+wayPart f b = elim f [ true ↦ forthPart b | false ↦ backPart b ]
+
 -- the wires of a byte go the way that its load goes
-byte-way : (b : ℕ) (f : Bool) → 0 < elim f [ true ↦ forthPart b | false ↦ backPart b ] → (b ≢ 0) × (ltb b 32 ≡ f)
+byte-way : (b : ℕ) (f : Bool) → 0 < wayPart f b → (b ≢ 0) × (ltb b 32 ≡ f)
 byte-way b true l = (λ e. omega arith, lt-ltb b 32 (omega arith))
 byte-way b false l = (λ e. omega arith, le-ltb b 32 (omega arith))
 
-module _ (rec : List ℕ) where
-  step-origin : (s : Step) → OnGrid s → 0 < load rec s → (i : ℕ) × (i < 22400) × (originOf rec i ≡ dartOf s / 8)
-  unfolding load dartOf
-  step-origin s g l =
+-- which load byte a step's link has
+pub stepByte : Step → ℕ
+stepByte s = 1600 * linkCode (s .link .kind) + (40 * s .link .row + s .link .column)
+
+module _ (s : Step) (g : OnGrid s) where
+  pub step-byte< : stepByte s < 22400
+  unfolding stepByte
+  step-byte< = omega (arith, kind-code (s .link .kind) .0, g .row<, g .column<)
+
+  -- the load of a step is in that byte
+  pub step-load : (rec : List ℕ) → load rec s ≡ wayPart (s .forth) (getD rec (3968 + stepByte s) 0)
+  unfolding stepByte load
+  step-load rec =
+      let p : 768 + 1600 * loadPlane (s .link .kind) + 40 * s .link .row + s .link .column ≡ 3968 + stepByte s = omega arith in
+      ap (wayPart (s .forth))
+      (sym (cell-on rec (loadPlane (s .link .kind)) (s .link .row) (s .link .column) (g .row<) (g .column<)) ∙ ap (λ (a : ℕ). getD rec a 0) p)
+
+  pub step-origin : (rec : List ℕ) → 0 < load rec s → originOf rec (stepByte s) ≡ dartOf s / 8
+  unfolding stepByte dartOf
+  step-origin rec l =
       let n = linkCode (s .link .kind) in
       let x = 40 * s .link .row + s .link .column in
-      let i = 1600 * n + x in
+      let i = stepByte s in
       let h : n < 14 = kind-code (s .link .kind) .0 in
       let k : i / 1600 ≡ n = omega (arith, g .row<, g .column<) in
       let m : i % 1600 ≡ x = omega (arith, g .row<, g .column<) in
-      let p : 768 + 1600 * loadPlane (s .link .kind) + 40 * s .link .row + s .link .column ≡ 3968 + i = omega arith in
-      let e : getD rec (3968 + i) 0 ≡ cell rec (loadPlane (s .link .kind)) (s .link .row) (s .link .column) =
-      subst (λ (a : ℕ). getD rec a 0 ≡ cell rec (loadPlane (s .link .kind)) (s .link .row) (s .link .column)) p
-      (cell-on rec (loadPlane (s .link .kind)) (s .link .row) (s .link .column) (g .row<) (g .column<)) in
-      let (z, w) = byte-way _ (s .forth) l in
-      let j : seatOf n (s .forth) ≡ seatOf (i / 1600) (ltb (getD rec (3968 + i) 0) 32) = rw (k, e, w) in (
-        i,
-        omega (arith, g .row<, g .column<),
-        sym (origin-at rec i (λ q. z (sym e ∙ q)) (seatOf n (s .forth)) (ownerOf (seatOf n (s .forth))) j refl) ∙ rw m (whole x (seatOf n (s .forth)) (ownerOf (seatOf n (s .forth))) (s .link .row) (s .link .column) refl),
-      )
+      let (z, w) = byte-way (getD rec (3968 + i) 0) (s .forth) (subst (λ (a : ℕ). 0 < a) (step-load rec) l) in
+      let j : seatOf n (s .forth) ≡ seatOf (i / 1600) (ltb (getD rec (3968 + i) 0) 32) = rw (k, w) in
+      sym (origin-at rec i z (seatOf n (s .forth)) (ownerOf (seatOf n (s .forth))) j refl)
+      ∙ rw m (whole x (seatOf n (s .forth)) (ownerOf (seatOf n (s .forth))) (s .link .row) (s .link .column) refl)
     where
       whole : (x j o r c : ℕ) → x ≡ 40 * r + c → 8 * (41 + x - o) + j / 8 ≡ (64 * (41 + 40 * r + c - o) + j) / 8
       whole x j o r c e = omega arith
 
+module _ (rec : List ℕ) where
   link-origin : (d : ℕ) → d < darts → T (isLinkDart d) → 0 < view rec d → (i : ℕ) × (i < 22400) × (originOf rec i ≡ d / 8)
   unfolding isLinkDart
   link-origin d l t w =
-      let g = step-grid d (and-right (carries (codeOf (d % 64))) (inGrid (ownerCell d)) t) in
-      let (i, li, e) = step-origin (stepOf d) g (omega (arith, view-link rec d t)) in
-      (i, li, e ∙ ap (λ (x : ℕ). x / 8) (step-dart d l t))
+      let g = step-grid d (and-right (carries (codeOf (d % 64))) (inGrid (ownerCell d)) t) in (
+        stepByte (stepOf d),
+        step-byte< (stepOf d) g,
+        step-origin (stepOf d) g rec (omega (arith, view-link rec d t)) ∙ ap (λ (x : ℕ). x / 8) (step-dart d l t),
+      )
 
 -- ---- through a place
 

@@ -127,6 +127,10 @@ pass-next d = by (eqb (codeOf (d % 64)) 5)
 
 -- ---- loaded darts
 
+-- every loaded dart from a spot of this rank or more falls, to a spot of this rank or more
+abbrev pub FallsFrom : ℕ → List ℕ → (ℕ → ℕ) → Type 0
+FallsFrom least rec rank = (d : ℕ) → d < darts → 0 < view rec d → least ≤ rank (d / 8) → (least ≤ rank (rev d / 8)) × (rank (rev d / 8) < rank (d / 8))
+
 module _ (J : Job) (fits : T (arrayFits (J .rows) (J .columns))) (rec : List ℕ) (feasible : Feasible J (load rec)) where
   abbrev f : Step → ℕ
   f = load rec
@@ -138,14 +142,14 @@ module _ (J : Job) (fits : T (arrayFits (J .rows) (J .columns))) (rec : List ℕ
       by true p q = feasible .against s n (p tt)
       by false p q = feasible .nowhere s n (q tt)
 
-  loaded-may : (s : Step) → 0 < f s → T (may J s)
+  pub loaded-may : (s : Step) → 0 < f s → T (may J s)
   loaded-may s h = by (may J s) (unloaded s)
     where
       by : (b : Bool) → (T (not b) → f s ≡ 0) → T b
       by true z = tt
       by false z = absurd (omega (arith, z tt))
 
-  loaded-grid : (s : Step) → 0 < f s → OnGrid s
+  pub loaded-grid : (s : Step) → 0 < f s → OnGrid s
   loaded-grid s h = by (grid? rec s)
     where
       by : OnGrid s ⊎ (f s ≡ 0) → OnGrid s
@@ -177,61 +181,70 @@ module _ (J : Job) (fits : T (arrayFits (J .rows) (J .columns))) (rec : List ℕ
 
   -- ---- an order along loaded darts
 
-  module _ (rank : ℕ → ℕ) (falls : (d : ℕ) → d < darts → 0 < view rec d → rank (rev d / 8) < rank (d / 8)) where
-    passed : (x : Place) (k : ℕ) → T (isPlace J x) → pass J x ≡ some k → 0 < arrivals f x → rank (exit x) ≤ rank (entry x)
-    passed x k t e h =
+  module _ (least : ℕ) (rank : ℕ → ℕ) (falls : FallsFrom least rec rank) where
+    -- from the spot u to the spot v it does not rise
+    abbrev Lower : ℕ → ℕ → Type 0
+    Lower u v = least ≤ rank u → (least ≤ rank v) × (rank v ≤ rank u)
+
+    passed : (x : Place) (k : ℕ) → T (isPlace J x) → pass J x ≡ some k → 0 < arrivals f x → Lower (entry x) (exit x)
+    passed x k t e h b =
         let (l, q, p) = place-pass J fits x t k e in
-        let (a, b) = pass-ends (8 * entry x + 4) l q in
+        let (m, n) = pass-ends (8 * entry x + 4) l q in
         let w : 0 < view rec (8 * entry x + 4) = omega (arith, view-pass rec (8 * entry x + 4) q, ap (arrivals f) p) in
-        omega (arith, falls (8 * entry x + 4) l w, ap rank (sym (ap entry p) ∙ a), ap rank (sym (ap exit p) ∙ b))
+        let y : rank (entry x) ≡ rank ((8 * entry x + 4) / 8) = ap rank (sym (ap entry p) ∙ m) in
+        omega (arith, falls (8 * entry x + 4) l w (omega arith), ap rank (sym (ap exit p) ∙ n))
 
-    -- it falls through a place that wires pass
-    through : (k : PlaceKind) (r c : ℕ) → T (isPlace J (at k r c)) → 0 < arrivals f (at k r c) → rank (exit (at k r c)) ≤ rank (entry (at k r c))
+    -- it does not rise through a place that wires pass
+    through : (k : PlaceKind) (r c : ℕ) → T (isPlace J (at k r c)) → 0 < arrivals f (at k r c) → Lower (entry (at k r c)) (exit (at k r c))
     unfolding entryOf exitOf
-    through pin r c t h = omega arith
-    through missing r c t h = passed (at missing r c) (J .E) t refl h
-    through centre r c t h = passed (at centre r c) (centreLimit (J .O) (J .D)) t refl h
-    through PlaceKind.outside r c t h = absurd t
-    through nowhere r c t h = absurd t
-    through (side d) r c t h = omega arith
+    through pin r c t h b = omega arith
+    through missing r c t h b = passed (at missing r c) (J .E) t refl h b
+    through centre r c t h b = passed (at centre r c) (centreLimit (J .O) (J .D)) t refl h b
+    through PlaceKind.outside r c t h b = absurd t
+    through nowhere r c t h b = absurd t
+    through (side d) r c t h b = omega arith
 
-    -- from the exit of one place to the exit of the next
-    abbrev Falls : Step → Type 0
-    Falls s = 0 < f s → T (isPlace J (head J s)) → rank (exit (head J s)) < rank (exit (tail J s))
+    -- it falls from the exit of one place to the exit of another
+    abbrev Falls : Place → Place → Type 0
+    Falls x y = least ≤ rank (exit x) → (least ≤ rank (exit y)) × (rank (exit y) < rank (exit x))
 
-    dart-falls : (d : ℕ) → d < darts → T (isLinkDart d) → Falls (stepOf d)
-    dart-falls d l t h p = by (link-head J fits d l t (loaded-may (stepOf d) h))
+    abbrev StepFalls : Step → Type 0
+    StepFalls s = 0 < f s → T (isPlace J (head J s)) → Falls (tail J s) (head J s)
+
+    dart-falls : (d : ℕ) → d < darts → T (isLinkDart d) → StepFalls (stepOf d)
+    dart-falls d l t h p b = by (link-head J fits d l t (loaded-may (stepOf d) h))
       where
         s : Step
         s = stepOf d
 
         by : (T (isPlace J (head J s)) × (entry (head J s) ≡ rev d / 8)) ⊎ ((head J s ≡ theOutside) × T (outside J (rev d / 8)))
-            → rank (exit (head J s)) < rank (exit (tail J s))
+            → (least ≤ rank (exit (head J s))) × (rank (exit (head J s)) < rank (exit (tail J s)))
         by (inr (q, o)) = absurd (subst (λ (x : Place). T (isPlace J x)) q p)
         by (inl (q, e)) =
-            omega (
-              arith,
-              falls d l (omega (arith, view-link rec d t)),
-              ap rank e,
-              ap rank (link-tail J fits d l t (loaded-may s h) .0),
-              through (head J s .kind) (head J s .row) (head J s .column) p (omega (arith, step-arrives s p)),
-            )
+            let z : rank (exit (tail J s)) ≡ rank (d / 8) = ap rank (link-tail J fits d l t (loaded-may s h) .0) in
+            let y : rank (entry (head J s)) ≡ rank (rev d / 8) = ap rank e in
+            let (g, r) = falls d l (omega (arith, view-link rec d t)) (omega arith) in
+            omega (arith, through (head J s .kind) (head J s .row) (head J s .column) p (omega (arith, step-arrives s p)) (omega arith))
 
-    step-falls : (s : Step) → Falls s
-    step-falls s h = let (l, t, e) = dart-step s (loaded-grid s h) in subst Falls e (dart-falls (dartOf s) l t) h
+    step-falls : (s : Step) → StepFalls s
+    step-falls s h = let (l, t, e) = dart-step s (loaded-grid s h) in subst StepFalls e (dart-falls (dartOf s) l t) h
 
-    trail-falls : (s : Step) (ss : List Step) (x y : Place) → Trail J f x (s ∷ ss) y → T (isPlace J y) → rank (exit y) < rank (exit x)
-    trail-falls s [] x y (e, h, q) p =
-        subst₂ (λ (a b : Place). rank (exit b) < rank (exit a)) e q (step-falls s h (subst (λ (z : Place). T (isPlace J z)) (sym q) p))
-    trail-falls s (t ∷ ts) x y (e, h, r) p =
+    pub trail-falls : (s : Step) (ss : List Step) (x y : Place) → Trail J f x (s ∷ ss) y → T (isPlace J y) → Falls x y
+    trail-falls s [] x y (e, h, q) p b = subst₂ Falls e q (step-falls s h (subst (λ (z : Place). T (isPlace J z)) (sym q) p)) b
+    trail-falls s (t ∷ ts) x y (e, h, r) p b =
         let q : T (isPlace J (head J s)) = subst (λ (z : Place). T (isPlace J z)) (r .0) (may-leaves J t (loaded-may t (r .1))) in
-        omega (arith, trail-falls t ts (head J s) y r p, step-falls s h q, ap (λ (z : Place). rank (exit z)) e)
+        let z : rank (exit (tail J s)) ≡ rank (exit x) = ap (λ (z : Place). rank (exit z)) e in
+        let (g, m) = step-falls s h q (omega arith) in
+        omega (arith, trail-falls t ts (head J s) y r p g)
+
+  -- a trail begins at a place
+  pub trail-place : (s : Step) (ss : List Step) (x y : Place) → Trail J f x (s ∷ ss) y → T (isPlace J x)
+  trail-place s ss x y t = subst (λ (z : Place). T (isPlace J z)) (t .0) (may-leaves J s (loaded-may s (t .1)))
 
   pub ranked-loops : (rank : ℕ → ℕ) → ((d : ℕ) → d < darts → 0 < view rec d → rank (rev d / 8) < rank (d / 8))
       → (x : Place) (s : Step) (ss : List Step) → Trail J (load rec) x (s ∷ ss) x → ⊥
   ranked-loops rank falls x s ss t =
-      let p : T (isPlace J x) = subst (λ (z : Place). T (isPlace J z)) (t .0) (may-leaves J s (loaded-may s (t .1))) in
-      omega (arith, trail-falls rank falls s ss x x t p)
+      omega (arith, trail-falls 0 rank (λ d l w b. omega (arith, falls d l w)) s ss x x t (trail-place s ss x x t) (omega arith))
 
   -- ---- a closed path
 
