@@ -8,14 +8,15 @@ use native.Mathlib.Omega.{arith}
 use Rattle.sums.specs.Counting.{when, sum}
 use Rattle.model.specs.Record.{jobOf, Legal}
 use Rattle.channel.specs.Map.{isStart, starts}
+use Rattle.channel.specs.Map.Numbers.{is-spot}
 use Rattle.channel.specs.Map.Starts.{want-start}
-use Rattle.channel.specs.Map.Network.Flows.{feasible-flow}
+use Rattle.channel.specs.Map.Network.Flows.{starts-wanted}
 
 pub starts-one : (rec : List ℕ) → Legal rec → (u : ℕ) → u < 13128 → starts (jobOf rec) rec u ≤ 1
 starts-one rec g u l =
     omega (
       arith,
-      feasible-flow (jobOf rec) (g .values .array) rec (g .sound .feasible) .load .wanted u l,
+      starts-wanted (jobOf rec) (g .values .array) rec (g .sound .feasible) u (is-spot l),
       want-start (jobOf rec) u,
       one (isStart (jobOf rec) u),
     )

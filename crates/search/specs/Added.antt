@@ -38,8 +38,8 @@ zeros-at (suc n) zero = refl
 zeros-at (suc n) (suc u) = zeros-at n u
 
 -- marks that begin at 0 are cleared
-pub zeros-cleared : Cleared (replicate spots 0)
-zeros-cleared = record { all = λ u l. zeros-at spots u }
+pub zeros-cleared : (n : ℕ) → Cleared (replicate n 0)
+zeros-cleared n = record { all = λ u l. zeros-at n u }
 
 -- what the search for the next wire leaves, if nothing was marked when it began
 pub answered-extended : {J : Job} {rec t rec′ t′ : List ℕ} {y : Next} → Cleared t → Answered J AnySpot rec t rec′ t′ y → Extended J rec rec′ y

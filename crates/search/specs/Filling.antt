@@ -15,7 +15,7 @@ use Rattle.model.specs.Near.{Smallest}
 use Rattle.model.specs.Record.{load}
 use Rattle.model.specs.Wires.{wireCount}
 use Rattle.channel.specs.Map.{spots, want, starts}
-use Rattle.channel.specs.Map.Network.Flows.{feasible-flow}
+use Rattle.channel.specs.Map.Network.Flows.{starts-wanted}
 use Rattle.search.specs.OneMore.{OneMore}
 use Rattle.search.specs.NoMore.{reached-smallest, reached-greatest}
 use Rattle.search.specs.Marks.{marked, marked-spot, marked-byte}
@@ -59,7 +59,7 @@ module _ {J : Job} {rec rec′ : List ℕ} {u : ℕ} (H : Held J rec) (l : u < s
         arith,
         sum-cong spots (starts J rec′) (more (starts J rec) u) (M .begun),
         sum-more spots u (starts J rec) l,
-        sum-le spots (starts J rec′) (want J) (feasible-flow J (H .fits) rec′ (M .feasible) .load .wanted),
+        sum-le spots (starts J rec′) (want J) (starts-wanted J (H .fits) rec′ (M .feasible)),
       )
 
 module _ {J : Job} {rec rec′ t : List ℕ} {b : Bool} (F : Filling J rec rec′ t b) {rec″ t″ : List ℕ} {y : Next} (r : Answered J AnySpot rec′ t rec″ t″ y) where

@@ -21,7 +21,7 @@ use Rattle.model.specs.Loads.{Feasible}
 use Rattle.model.specs.Record.{recordSize, load}
 use Rattle.model.specs.Wires.{isWired, wireCount}
 use Rattle.channel.specs.Map.{spots, outside, view, starts, moves}
-use Rattle.channel.specs.Map.Network.{net, net-outside, net-dart, node-spot, unstarted-spot}
+use Rattle.channel.specs.Map.Network.{net, net-outside, net-dart, unstarted-spot}
 use Rattle.channel.specs.Map.Starts.{wanted-pin, pin-spot}
 use Rattle.channel.specs.Map.Network.Flows.{feasible-flow, pin-starts, starts-count}
 use Rattle.channel.specs.Map.Network.Moves.{move-residual}

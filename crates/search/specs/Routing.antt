@@ -22,7 +22,7 @@ use Rattle.model.specs.Calls.{wiredIn, wiresIn, nearBytes, Shown, none-short, s
 use Rattle.wire.specs.Held.{sound-holds}
 use Rattle.channel.specs.Map.{spots, isStart, want, starts}
 use Rattle.channel.specs.Map.Starts.{pin-spot, want-start}
-use Rattle.channel.specs.Map.Network.Flows.{feasible-flow, pin-starts, starts-count, want-count}
+use Rattle.channel.specs.Map.Network.Flows.{pin-starts, starts-wanted, starts-count, want-count}
 use Rattle.search.specs.Marks.{marked, is-marked}
 use Rattle.search.specs.Pins.{Held}
 use Rattle.search.specs.Loose.{Loosened, Freed}
@@ -66,7 +66,7 @@ wires-few : {J : Job} {rec : List ℕ} → Held J rec → wireCount J (load rec)
 wires-few {J} {rec} H =
     omega (
       arith,
-      sum-le spots (starts J rec) (want J) (feasible-flow J (H .fits) rec (H .feasible) .load .wanted),
+      sum-le spots (starts J rec) (want J) (starts-wanted J (H .fits) rec (H .feasible)),
       want-count J (H .fits),
       starts-count J (H .fits) rec (H .feasible),
     )
@@ -88,7 +88,7 @@ unwired-count {J} {rec} H =
       arith,
       sum-add spots (λ u. want J u - starts J rec u) (starts J rec),
       sum-cong spots (λ u. want J u - starts J rec u + starts J rec u) (want J)
-          (λ u l. omega (arith, feasible-flow J (H .fits) rec (H .feasible) .load .wanted u l)),
+          (λ u l. omega (arith, starts-wanted J (H .fits) rec (H .feasible) u l)),
       want-count J (H .fits),
       starts-count J (H .fits) rec (H .feasible),
     )

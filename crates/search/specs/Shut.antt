@@ -16,7 +16,7 @@ use Rattle.flow.specs.Flow.{Unstarted}
 use Rattle.flow.specs.Residual.{Residual}
 use Rattle.model.specs.Job.{Job}
 use Rattle.channel.specs.Map.{spots, darts, rev, isStart, view, starts, moves}
-use Rattle.channel.specs.Map.Numbers.{head-spot}
+use Rattle.channel.specs.Map.Numbers.{slot-dart, head-spot}
 use Rattle.channel.specs.Map.Network.{net, unstarted-at}
 use Rattle.channel.specs.Map.Starts.{want-start}
 use Rattle.search.specs.Laid.{laidAll}
@@ -74,7 +74,7 @@ module _ {J : Job} {rec : List ℕ} {start : ℕ} {t₀ t q f w : List ℕ} {n :
       (λ e. subst (λ (x : ℕ). Reached J rec x) (sym (s .first) ∙ ap (λ (x : ℕ). getD q x 0) (sym e)) (from ls u))
       (λ p. let c = s .came i p li in
       onto (queue-reached ls u m (getD f i 0) (omega (arith, c .falls)) (omega (arith, c .falls)))
-      (omega (arith, c .slot, s .spot (getD f i 0) (omega (arith, c .falls)))) (omega (arith, c .slot)) (c .may) (c .leads))
+      (slot-dart _ _ (s .spot (getD f i 0) (omega (arith, c .falls))) (c .slot)) (omega (arith, c .slot)) (c .may) (c .leads))
       (eq-zero-or-pos i)
 
   reached-more : start < spots → Unwired J rec start → AllReached J rec t₀ → AllReached J rec t

@@ -10,7 +10,8 @@ use Rattle.sums.specs.Counting.{when, total}
 use Rattle.sums.specs.Totals.{total-append}
 use Rattle.flow.specs.Network.{times, times-none, Path, here}
 use Rattle.model.specs.Job.{Job}
-use Rattle.channel.specs.Map.{spots, darts, rev, moves, laid}
+use Rattle.channel.specs.Map.{spots, rev, moves, laid}
+use Rattle.channel.specs.Map.Numbers.{slot-dart}
 use Rattle.channel.specs.Map.Network.{net, path-along}
 use Rattle.search.specs.Laid.{laidAll, laid-last}
 use Rattle.search.specs.Spread.{dartTo, Spread}
@@ -52,9 +53,6 @@ module _ {J : Job} {rec : List ℕ} {start : ℕ} {t₀ t q f w : List ℕ} {n :
 
   slot-tail : (u m : ℕ) → m < 8 → (8 * u + m) / 8 ≡ u
   slot-tail u m l = omega arith
-
-  slot-dart : (u m : ℕ) → u < spots → m < 8 → 8 * u + m < darts
-  slot-dart u m l h = omega arith
 
   part : {i : ℕ} {ds : List ℕ} → Walked q f w j k i ds → Part i ds
   unfolding total

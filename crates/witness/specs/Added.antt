@@ -21,6 +21,7 @@ use Rattle.model.specs.Calls.{OneMore as Added, wiresIn}
 use Rattle.model.proofs.RecordOf.{length-record}
 use Rattle.model.proofs.LegalRecord.{legal-record}
 use Rattle.channel.specs.Map.Places.{chosen-cell}
+use Rattle.channel.specs.Map.Network.{unstarted-at}
 use Rattle.search.specs.Laid.{BytesFit, SameButLoads}
 use Rattle.search.specs.OneMore.{OneMore, unstarted-pin, wires-more, pin-gains, pin-keeps}
 use Rattle.search.specs.NoMore.{reached-smallest, reached-greatest}
@@ -133,7 +134,7 @@ module _ (rec : List ℕ) (g : Legal rec) where
       legal = kept-legal rec′ (M .kept) (M .bytes) (M .feasible) (w .free)
 
       start : (r c : ℕ) × T (isChosen J r c) × (u ≡ exit (at pin r c))
-      start = unstarted-pin J fits rec feasible u (record { node = w .spot; short = w .unwired })
+      start = unstarted-pin J fits rec feasible u (unstarted-at J (w .spot) (w .unwired))
 
       r : ℕ
       r = start .0

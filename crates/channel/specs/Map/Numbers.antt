@@ -13,6 +13,10 @@ pub darts-is : darts ≡ 105024
 unfolding darts
 darts-is = refl
 
+pub is-spot : {u : ℕ} → u < 13128 → u < spots
+unfolding spots
+is-spot l = l
+
 pub is-dart : {d : ℕ} → d < 105024 → d < darts
 unfolding darts
 is-dart l = l

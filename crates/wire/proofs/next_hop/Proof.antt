@@ -2,13 +2,13 @@
 use borrow.Author.Needs.{needs}
 use mathlib.Core.Path.{sym, _∙_}
 use native.Mathlib.Omega.{arith}
-use Rattle.channel.specs.Map.Numbers.{spots-is}
+use Rattle.channel.specs.Map.Numbers.{darts-is}
 use Rattle.wire.specs.Walks.{out-ends, slot-five, lane-comes, answer-five, goes-next}
 use Rattle.wire.proofs.next_hop.Statement.{statement}
 use Rattle.wire.proofs.next_hop.Tie as tie
 
 head-of-requires : tie.Need-head-of-requires
-head-of-requires c κs = search (needs, spots-is)
+head-of-requires c κs = search (needs, darts-is)
 
 is-outside-requires : tie.Need-is-outside-requires
 is-outside-requires c κs = search needs
@@ -20,7 +20,7 @@ returns c =
     (sym (c .before .is-outside .ensures) ∙ c .if1 .taken)
 
 step-back-requires : tie.Need-step-back-requires
-step-back-requires c κs = search (needs, spots-is)
+step-back-requires c κs = search (needs, darts-is)
 
 mul-first : tie.Need-mul-first
 mul-first c = search needs

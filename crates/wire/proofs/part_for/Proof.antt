@@ -1,13 +1,13 @@
 -- `wire::part_for` meets its contract: the place or the rim side, by its spot. Assumes nothing.
 use borrow.Author.Needs.{needs}
 use mathlib.Core.Path.{sym, _∙_}
-use Rattle.channel.specs.Map.Numbers.{spots-is}
+use Rattle.channel.specs.Map.Numbers.{darts-is}
 use Rattle.wire.specs.Walks.{part-out, place-grid, part-to}
 use Rattle.wire.proofs.part_for.Statement.{statement}
 use Rattle.wire.proofs.part_for.Tie as tie
 
 head-of-requires : tie.Need-head-of-requires
-head-of-requires c κs = search (needs, spots-is)
+head-of-requires c κs = search (needs, darts-is)
 
 is-outside-requires : tie.Need-is-outside-requires
 is-outside-requires c κs = search needs

@@ -189,6 +189,11 @@ module _ (J : Job) (fits : T (arrayFits (J .rows) (J .columns))) (rec : List ℕ
           let pinned = isChosen J (rowOf (u / 8)) (columnOf (u / 8)) in
           and-right (inGrid (u / 8)) pinned (and-right (eqb (u % 8) 1) (inGrid (u / 8) && pinned) t)
 
+  -- no more starts at a spot than is wanted there
+  pub starts-wanted : (u : ℕ) → u < spots → starts J rec u ≤ want J u
+  unfolding net
+  starts-wanted = feasible-flow .load .wanted
+
   -- what leaves a chosen pin
   wired-one : (r c : ℕ) → T (isChosen J r c) → departures (load rec) (at pin r c) ≡ when (isWired J (load rec) r c) 1
   unfolding isWired

@@ -5,7 +5,8 @@ use native.Mathlib.Omega.{arith}
 use denote.Ref.{now}
 use Rattle.sums.specs.Counting.{sum}
 use Rattle.model.specs.Record.{jobOf}
-use Rattle.channel.specs.Map.{starts}
+use Rattle.channel.specs.Map.{spots, starts}
+use Rattle.channel.specs.Map.Numbers.{spots-is}
 use Rattle.channel.specs.Map.Network.Flows.{starts-count}
 use Rattle.listing.specs.Counts.{starts-one, starts-more}
 use Rattle.listing.proofs.wires.count_wires.Statement.{statement}
@@ -50,7 +51,7 @@ returns c =
     let s = c .before .before .before in
     let rec = now (s .args .rec) in
     let l = c .before .loop in
-    let e : l .u ≡ 13128 = omega arith in
+    let e : l .u ≡ spots = omega (arith, spots-is) in
     l .inv .2 ∙ (ap (λ (k : ℕ). sum k (starts (jobOf rec) rec)) e
     ∙ starts-count (jobOf rec) (s .pre .values .array) rec (s .pre .sound .feasible))
 

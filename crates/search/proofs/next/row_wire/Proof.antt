@@ -6,6 +6,7 @@ use native.Mathlib.Omega.{arith}
 use denote.Ref.{now}
 use lib.ListN.{length}
 use Rattle.model.specs.Record.{jobOf}
+use Rattle.channel.specs.Map.Numbers.{is-spot}
 use Rattle.search.specs.Spread.{Alike}
 use Rattle.search.specs.Queue.{alike-refl, alike-then, alike-room}
 use Rattle.search.specs.Pins.{InRow, Passed, nothing}
@@ -36,7 +37,7 @@ wire-from-requires c κs =
     let c7 = c .before .before .before .before .before .before .before in
     let l = c7 .loop .inv in
     let p = c7 .before .before .before .before .before .before .before .before .pre in
-    (whole-still (l .1) (p .0), alike-room (p .1) (l .2), held-still (l .1) (p .2), dead-still (l .1) _ (l .3 .dead), c .before .before .before .before .before .pin-exit .ensures .1)
+    (whole-still (l .1) (p .0), alike-room (p .1) (l .2), held-still (l .1) (p .2), dead-still (l .1) _ (l .3 .dead), is-spot (c .before .before .before .before .before .pin-exit .ensures .1))
 
 same-length : tie.Need-same-length Inv-loop μ-loop
 same-length c = c .before .before .before .before .before .before .before .before .before .before .before .wire-from .kept .1 .0 ∙ ap length (c .before .before .before .before .before .before .before .before .before .before .before .before .before .before .before .before .before .before .before .loop .inv .1)
@@ -56,7 +57,7 @@ same-length-5 c = c .before .before .before .before .before .before .before .bef
 returns : tie.Need-returns Inv-loop μ-loop
 returns c =
     let c11 = c .before .before .before .before .before .before .before .before .before .before .before in
-    laid-from (tested-still (c11 .before .before .before .before .before .before .before .before .loop .inv .1) (c11 .wire-from .ensures)) (c .if1 .taken) (c11 .before .before .before .before .before .before .pin-exit .ensures .1)
+    laid-from (tested-still (c11 .before .before .before .before .before .before .before .before .loop .inv .1) (c11 .wire-from .ensures)) (c .if1 .taken) (is-spot (c11 .before .before .before .before .before .before .pin-exit .ensures .1))
 
 add-c : tie.Need-add-c Inv-loop μ-loop
 add-c c = search needs

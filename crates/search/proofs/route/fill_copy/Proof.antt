@@ -2,6 +2,7 @@
 -- Assumes nothing.
 use mathlib.Core.Path.{refl}
 use borrow.Author.Needs.{needs}
+use Rattle.channel.specs.Map.Numbers.{spots-is}
 use Rattle.search.specs.Routing.{copied-front, copy-held, routed-whole, routed-short}
 use Rattle.search.proofs.route.fill_copy.Statement.{statement}
 use Rattle.search.proofs.route.fill_copy.Tie as tie
@@ -16,7 +17,7 @@ lay-all-requires : tie.Need-lay-all-requires
 lay-all-requires c κs =
     let c4 = c .before .before .before .before in
     let p = c4 .before .before .before .before .before .pre in
-    (record { asked = search needs; loads = search needs }, search needs, copy-held (p .0) (copied-front (p .0) _ (p .1) (c4 .copy .ensures)))
+    (record { asked = search needs; loads = search needs }, search (needs, spots-is), copy-held (p .0) (copied-front (p .0) _ (p .1) (c4 .copy .ensures)))
 
 untangle-requires : tie.Need-untangle-requires
 untangle-requires c κs = record { job = _; held = c .before .before .before .before .lay-all .ensures .more .held }
@@ -40,7 +41,7 @@ slice-aggregate-show : tie.Need-slice-aggregate-show
 slice-aggregate-show c = search needs
 
 show-requires : tie.Need-show-requires
-show-requires c κs = search needs
+show-requires c κs = search (needs, spots-is)
 
 same-length-2 : tie.Need-same-length-2
 same-length-2 c = search needs

@@ -2,19 +2,20 @@
 use borrow.Author.Needs.{needs}
 use mathlib.Core.Path.{sym, _∙_}
 use native.Mathlib.Omega.{arith}
+use Rattle.channel.specs.Map.Numbers.{spots-is}
 use Rattle.search.specs.Answers.{yes-not, no-not}
 use Rattle.search.specs.Routing.{lacks-no-pin, lacks-no-wire, lacks-one}
 use Rattle.search.proofs.route.lacks.Statement.{statement}
 use Rattle.search.proofs.route.lacks.Tie as tie
 
 is-start-requires : tie.Need-is-start-requires
-is-start-requires c κs = search needs
+is-start-requires c κs = search (needs, spots-is)
 
 returns : tie.Need-returns
 returns c = (lacks-no-pin _ _ _ (no-not (c .before .is-start .ensures) (c .if1 .taken)), omega arith)
 
 wire-starts-requires : tie.Need-wire-starts-requires
-wire-starts-requires c κs = search needs
+wire-starts-requires c κs = search (needs, spots-is)
 
 returns-2 : tie.Need-returns-2
 returns-2 c = (lacks-no-wire _ _ _ (λ z. c .if2 .taken (c .before .wire-starts .ensures ∙ z)), omega arith)

@@ -1,5 +1,6 @@
 -- `step::extend` meets its contract: with no mark at the beginning, what is marked at the end is reached. Assumes nothing.
 use borrow.Author.Needs.{needs}
+use Rattle.channel.specs.Map.Numbers.{spots-is}
 use Rattle.search.specs.Filling.{cleared-dead}
 use Rattle.search.specs.Added.{zeros-cleared, answered-extended}
 use Rattle.search.proofs.step.extend.Statement.{statement}
@@ -20,13 +21,13 @@ slice-aggregate-next-wire-4 c = search needs
 next-wire-requires : tie.Need-next-wire-requires
 next-wire-requires c κs =
     let p = c .before .before .before .before .before .before .before .pre in
-    (p .0, record { marks = search needs; queue = search needs; parents = search needs; slots = search needs }, p .1, cleared-dead zeros-cleared)
+    (p .0, record { marks = search (needs, spots-is); queue = search (needs, spots-is); parents = search (needs, spots-is); slots = search (needs, spots-is) }, p .1, cleared-dead (zeros-cleared 13128))
 
 same-length : tie.Need-same-length
 same-length c = search needs
 
 returns : tie.Need-returns
-returns c = answered-extended zeros-cleared (c .before .before .before .before .before .before .next-wire .ensures)
+returns c = answered-extended (zeros-cleared 13128) (c .before .before .before .before .before .before .next-wire .ensures)
 
 pub extend-spec : {M : Type 1} → statement M
 extend-spec =

@@ -6,7 +6,7 @@ use Prim.Native.Nat.{_+_, _-_, _*_, _≤_, _<_}
 use native.Mathlib.Omega.{arith}
 use denote.Ref.{now}
 use lib.ListN.{length, getD}
-use Rattle.channel.specs.Map.Numbers.{spots-is}
+use Rattle.channel.specs.Map.Numbers.{darts-is}
 use Rattle.channel.specs.Map.{darts, rev, laid}
 use Rattle.search.specs.Laid.{laidAll}
 use Rattle.audit.specs.Loops.{ringDarts}
@@ -46,10 +46,10 @@ dart< : (c : tie.In-loop Inv-loop μ-loop)
 dart< c = c .before .before .before .before .before .pre .0 .darts< (c .before .loop .i) (c .loop-test .taken)
 
 mul-reverse : tie.Need-mul-reverse Inv-loop μ-loop
-mul-reverse c = omega (arith, spots-is, dart< (c .before .before .before))
+mul-reverse c = omega (arith, darts-is, dart< (c .before .before .before))
 
 add-reverse : tie.Need-add-reverse Inv-loop μ-loop
-add-reverse c = omega (arith, spots-is, dart< (c .before .before .before))
+add-reverse c = omega (arith, darts-is, dart< (c .before .before .before))
 
 reverse-requires : tie.Need-reverse-requires Inv-loop μ-loop
 reverse-requires c κs = omega (arith, darts-is, dart< (c .before .before .before))

@@ -1,5 +1,6 @@
 -- `untangle::untangle` meets its contract: loads that fall along an order of the spots have no loop. Assumes nothing.
 use borrow.Author.Needs.{needs}
+use Rattle.channel.specs.Map.Numbers.{spots-is}
 use Rattle.search.specs.Rings.{untangled-freed}
 use Rattle.search.proofs.untangle.untangle.Statement.{statement}
 use Rattle.search.proofs.untangle.untangle.Tie as tie
@@ -14,7 +15,13 @@ slice-aggregate-take-rings-out-3 : tie.Need-slice-aggregate-take-rings-out-3
 slice-aggregate-take-rings-out-3 c = search needs
 
 take-rings-out-requires : tie.Need-take-rings-out-requires
-take-rings-out-requires c κs = search needs
+take-rings-out-requires c κs =
+    let p = c .before .before .before .before .before .pre in
+    record {
+      room = record { whole = p .held .long; marks = search (needs, spots-is); stack = search (needs, spots-is); slots = search (needs, spots-is) };
+      job = p .job;
+      held = p .held;
+    }
 
 same-length : tie.Need-same-length
 same-length c = search needs
