@@ -5,6 +5,7 @@ pub mod Marks
 pub mod Stack
 pub mod Rings
 pub mod Turns
+pub mod Fresh
 pub mod Stands
 use mathlib.Core.Path.{_≡_}
 use mathlib.Core.Bool.{Bool, true, false}
@@ -19,7 +20,10 @@ use Rattle.model.specs.Links.{Place, Step}
 use Rattle.model.specs.Loads.{Feasible, Trail}
 use Rattle.model.specs.Record.{load}
 use Rattle.channel.specs.Map.{spots, darts, rev, view}
+use Rattle.channel.specs.Map.Fresh.{isFresh}
+use Rattle.channel.specs.Map.Loops.{FallsFrom}
 use Rattle.channel.specs.Map.Network.{net}
+use Rattle.channel.specs.Map.Origins.{originOf}
 use Rattle.audit.specs.declared.loops.Found.{Found}
 use Rattle.audit.specs.declared.loops.Found.the-variants.{Free, Ring}
 
@@ -45,6 +49,15 @@ pub record Closed (rec st sl : List ℕ) (j n : ℕ) : Type 0 where
 pub data Answer (rec fin st sl : List ℕ) : Found → Type 0 where
   free : ((d : ℕ) → d < darts → 0 < view rec d → getD fin (rev d / 8) 0 < getD fin (d / 8) 0) → Answer rec fin st sl Free
   ring : {j n : ℕ} → Closed rec st sl j n → Answer rec fin st sl (Ring j n)
+
+-- Along fin every loaded dart from a spot of 2 or more falls, to a spot of 2 or more, and the wires of fresh links leave such spots.
+pub record Settled (old rec fin : List ℕ) : Type 0 where
+  pub falls : FallsFrom 2 rec (λ u. getD fin u 0)
+  pub fresh : (i : ℕ) → i < 22400 → T (isFresh old rec i) → originOf rec i < spots → 2 ≤ getD fin (originOf rec i) 0
+
+pub data FreshAnswer (old rec fin st sl : List ℕ) : Found → Type 0 where
+  settled : Settled old rec fin → FreshAnswer old rec fin st sl Free
+  loop : {j n : ℕ} → Closed rec st sl j n → FreshAnswer old rec fin st sl (Ring j n)
 
 -- b says whether a loop stands, for every job with feasible loads
 pub record LoopStands (rec : List ℕ) (b : Bool) : Type 0 where

@@ -1,10 +1,10 @@
 // Closed chains of loaded links. A depth-first search with its own stack, from the spots that the wires of the load bytes leave, says that there is none,
 // with an order along which every loaded dart falls, or gives one. It works on what is lent to it.
-ghost use Prim.Native.Nat.{_≤_, _<_};
+ghost use Prim.Native.Nat.{_+_, _*_, _≤_, _<_};
 ghost use lib.ListN.{length, set};
 ghost use Rattle.channel.specs.Map.{spots};
-ghost use Rattle.audit.specs.Loops.{Room, Answer, LoopStands};
-ghost use Rattle.audit.specs.Loops.Dfs.{Cleared, Live, Scanned, Placed, Dfs, Turned, Searched, Traced};
+ghost use Rattle.audit.specs.Loops.{Room, Answer, FreshAnswer, LoopStands};
+ghost use Rattle.audit.specs.Loops.Dfs.{Cleared, Live, Scanned, Placed, Dfs, Turned, Searched, Traced, FreshTraced};
 
 // No closed chain; or the spots of one in st, and its slots in sl, from the first number to before the second.
 pub enum Found {
@@ -168,6 +168,76 @@ pub fn find(rec: &[u8], fin: &mut [u16], st: &mut [u16], sl: &mut [u8]) -> Found
     let mut m = 0;
     for i in 0..22400 {
         match trace(rec, fin, st, sl, i, m) {
+            Search::Over(a) => {
+                m = a;
+            }
+            Search::Ring(a, b) => {
+                return Found::Ring(a, b);
+            }
+        }
+    }
+    Found::Free
+}
+
+// All that the wires of the i-th load byte lead to if its link is fresh, with m done.
+fn trace_fresh(
+    old: &[u8],
+    rec: &[u8],
+    fin: &mut [u16],
+    st: &mut [u16],
+    sl: &mut [u8],
+    i: usize,
+    m: usize,
+) -> Search
+    requires { ⌜ Dfs (now rec) (now fin) (now st) (now sl) 0 m × (32768 ≤ length (now old)) × (i < 22400) ⌝ }
+    ensures { λ s. ⌜ FreshTraced (now (old .entry)) (now (rec .entry)) i (i + 1) (now (fin .entry)) (now (fin .exit)) (now (st .exit)) (now (sl .exit)) s ⌝ }
+{
+    if !channel::is_fresh(old, rec, i) {
+        return Search::Over(m);
+    }
+    trace(rec, fin, st, sl, i, m)
+}
+
+// All that the wires of the k-th 64 load bytes lead to on fresh links, with m0 done.
+fn trace_run(
+    old: &[u8],
+    rec: &[u8],
+    fin: &mut [u16],
+    st: &mut [u16],
+    sl: &mut [u8],
+    k: usize,
+    m0: usize,
+) -> Search
+    requires { ⌜ Dfs (now rec) (now fin) (now st) (now sl) 0 m0 × (32768 ≤ length (now old)) × (k < 350) ⌝ }
+    ensures { λ s. ⌜ FreshTraced (now (old .entry)) (now (rec .entry)) (64 * k) (64 * k + 64) (now (fin .entry)) (now (fin .exit)) (now (st .exit)) (now (sl .exit)) s ⌝ }
+{
+    if channel::same_run(old, rec, k) {
+        return Search::Over(m0);
+    }
+    let mut m = m0;
+    for i in 64 * k..64 * k + 64 {
+        match trace_fresh(old, rec, fin, st, sl, i, m) {
+            Search::Over(a) => {
+                m = a;
+            }
+            Search::Ring(a, b) => {
+                return Search::Ring(a, b);
+            }
+        }
+    }
+    Search::Over(m)
+}
+
+// Says that no chain of loaded darts behind the fresh links is closed, with fin as the order along which they fall; or gives one. With no closed chain in
+// the old loads there is then none at all.
+pub fn find_fresh(old: &[u8], rec: &[u8], fin: &mut [u16], st: &mut [u16], sl: &mut [u8]) -> Found
+    requires { ⌜ Room (now rec) (now fin) (now st) (now sl) × (32768 ≤ length (now old)) ⌝ }
+    ensures { λ f. ⌜ FreshAnswer (now (old .entry)) (now (rec .entry)) (now (fin .exit)) (now (st .exit)) (now (sl .exit)) f ⌝ }
+{
+    clear(fin);
+    let mut m = 0;
+    for k in 0..350 {
+        match trace_run(old, rec, fin, st, sl, k, m) {
             Search::Over(a) => {
                 m = a;
             }

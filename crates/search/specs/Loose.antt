@@ -1,14 +1,14 @@
 -- What taking loops out keeps and answers. Assumes nothing.
 use mathlib.Core.Path.{_≡_}
 use mathlib.Core.List.{List}
-use Prim.Native.Nat.{ℕ, _+_, _*_, _/_, _≤_, _<_}
+use Prim.Native.Nat.{ℕ, _+_, _*_, _≤_, _<_}
 use lib.ListN.{length, getD}
 use Rattle.model.specs.Job.{Job}
 use Rattle.model.specs.Loads.{Feasible, Sound}
 use Rattle.model.specs.Record.{load}
-use Rattle.channel.specs.Map.{spots, darts, rev, view, starts}
+use Rattle.channel.specs.Map.{spots, darts, view, starts}
 use Rattle.search.specs.Laid.{BytesFit, SameButLoads}
-use Rattle.audit.specs.Loops.{Room}
+use Rattle.audit.specs.Loops.{Room, Settled}
 use Rattle.search.specs.Pins.{Held}
 
 -- rec′ has the wires of rec's pins, and no more load anywhere
@@ -27,22 +27,24 @@ pub record Ringed (rec st sl : List ℕ) (n : ℕ) : Type 0 where
   pub darts< : (i : ℕ) → i < n → 8 * getD st i 0 + getD sl i 0 < darts
 
 -- what is lent to the untangling, and that the loads are those of some job
-pub record Tangled (rec fin st sl : List ℕ) : Type 0 where
+pub record Tangled (old rec fin st sl : List ℕ) : Type 0 where
+  pub before : 32768 ≤ length old
   pub room : Room rec fin st sl
   pub job : Job
   pub held : Held job rec
 
--- for every job of which the loads are feasible they still are, with the same starts; and every loaded dart falls along fin
-pub record Untangled (rec rec′ fin : List ℕ) : Type 0 where
+-- for every job of which the loads are feasible they still are, with the same starts; and loaded darts behind fresh links fall along fin
+pub record Untangled (old rec rec′ fin : List ℕ) : Type 0 where
   pub loose : (J : Job) → Held J rec → Loosened J rec rec′
-  pub falls : (d : ℕ) → d < darts → 0 < view rec′ d → getD fin (rev d / 8) 0 < getD fin (d / 8) 0
+  pub settled : Settled old rec′ fin
 
--- the loads are those of some job
-pub record Laden (rec : List ℕ) : Type 0 where
+-- the old loads are there, and the loads are those of some job
+pub record Laden (old rec : List ℕ) : Type 0 where
+  pub before : 32768 ≤ length old
   pub job : Job
   pub held : Held job rec
 
--- for every job of which the loads are feasible they are sound, with the same starts
-pub record Freed (rec rec′ : List ℕ) : Type 0 where
+-- for every job of which the loads are feasible they still are, with the same starts; and if the old ones are sound for it, so are these
+pub record Freed (old rec rec′ : List ℕ) : Type 0 where
   pub loose : (J : Job) → Held J rec → Loosened J rec rec′
-  pub sound : (J : Job) → Held J rec → Sound J (load rec′)
+  pub sound : (J : Job) → Held J rec → Sound J (load old) → Sound J (load rec′)

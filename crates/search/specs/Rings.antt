@@ -1,7 +1,7 @@
 -- Taking a ring out dart by dart, and one ring after the other: the total load falls each time. Assumes nothing.
 use mathlib.Core.Path.{_≡_, refl, sym, ap, subst, _∙_}
 use mathlib.Core.List.{List, [], _∷_, _++_, map}
-use Prim.Native.Nat.{ℕ, zero, suc, _+_, _-_, _*_, _/_, _≤_, _<_}
+use Prim.Native.Nat.{ℕ, zero, suc, _+_, _-_, _*_, _≤_, _<_}
 use native.Mathlib.Nat.{add-zero}
 use native.Mathlib.Omega.{arith}
 use lib.ListN.{getD}
@@ -11,13 +11,13 @@ use Rattle.flow.specs.Cancel.{Loaded}
 use Rattle.model.specs.Job.{Job}
 use Rattle.model.specs.Record.{load}
 use Rattle.model.specs.Wires.{wireCount}
-use Rattle.channel.specs.Map.{spots, darts, rev, view, starts, laid}
+use Rattle.channel.specs.Map.{spots, rev, view, starts, laid}
 use Rattle.channel.specs.Map.Network.{net}
 use Rattle.channel.specs.Map.Network.Flows.{starts-count}
-use Rattle.channel.specs.Map.Network.Loops.{ranked-loops}
+use Rattle.channel.specs.Map.Fresh.{fresh-loops}
 use Rattle.search.specs.Laid.{laidAll, laid-last}
 use Rattle.search.specs.Unlooped.{Lighter, takes-out}
-use Rattle.audit.specs.Loops.{ringDarts, Closed, Answer, free, ring}
+use Rattle.audit.specs.Loops.{ringDarts, Closed, Settled, FreshAnswer, settled, loop}
 use Rattle.search.specs.Pins.{Held}
 use Rattle.search.specs.Loose.{Loosened, Untangled, Freed}
 use Rattle.audit.specs.declared.loops.Found.{Found}
@@ -109,25 +109,27 @@ loose-wires {J} {rec} {rec′} H L =
       sum-cong spots (starts J rec′) (starts J rec) (L .begun),
     )
 
--- loads that fall along an order have no loop
-pub untangled-freed : {rec rec′ fin : List ℕ} → Untangled rec rec′ fin → Freed rec rec′
-untangled-freed {rec} {rec′} {fin} U =
+-- loads that fall along an order behind fresh links have no loop that is new
+pub untangled-freed : {old rec rec′ fin : List ℕ} → Untangled old rec rec′ fin → Freed old rec rec′
+untangled-freed {old} {rec} {rec′} {fin} U =
     record {
       loose = U .loose;
-      sound = λ J H. let f = U .loose J H .feasible in record { feasible = f; loops = ranked-loops J (H .fits) rec′ f (λ u. getD fin u 0) (U .falls) };
+      sound = λ J H S.
+          let f = U .loose J H .feasible in
+          record { feasible = f; loops = fresh-loops J (H .fits) old rec′ f (λ u. getD fin u 0) (U .settled .falls) (U .settled .fresh) (S .loops) };
     }
 
 -- ---- what a caller reads off the finder's answer
 
-module _ {rec fin st sl : List ℕ} {a : Found} (r : Answer rec fin st sl a) where
-  pub found-free : a ≡ Free → (d : ℕ) → d < darts → 0 < view rec d → getD fin (rev d / 8) 0 < getD fin (d / 8) 0
-  found-free e = by (subst (λ (x : Found). Answer rec fin st sl x) e r)
+module _ {old rec fin st sl : List ℕ} {a : Found} (r : FreshAnswer old rec fin st sl a) where
+  pub found-free : a ≡ Free → Settled old rec fin
+  found-free e = by (subst (λ (x : Found). FreshAnswer old rec fin st sl x) e r)
     where
-      by : Answer rec fin st sl Free → (d : ℕ) → d < darts → 0 < view rec d → getD fin (rev d / 8) 0 < getD fin (d / 8) 0
-      by (free f) = f
+      by : FreshAnswer old rec fin st sl Free → Settled old rec fin
+      by (settled f) = f
 
   pub found-ring : {j n : ℕ} → a ≡ Ring j n → Closed rec st sl j n
-  found-ring {j} {n} e = by (subst (λ (x : Found). Answer rec fin st sl x) e r)
+  found-ring {j} {n} e = by (subst (λ (x : Found). FreshAnswer old rec fin st sl x) e r)
     where
-      by : Answer rec fin st sl (Ring j n) → Closed rec st sl j n
-      by (ring c) = c
+      by : FreshAnswer old rec fin st sl (Ring j n) → Closed rec st sl j n
+      by (loop c) = c

@@ -136,7 +136,7 @@ pub copy-held : {rec loads : List ℕ} → Legal rec → loads ≡ front rec →
 copy-held {rec} legal q = subst (λ (x : List ℕ). Held (jobOf rec) x) (sym q) (front-held rec legal)
 
 module _ {rec : List ℕ} (legal : Legal rec) {loads loads′ loads″ t : List ℕ} (q : loads ≡ front rec)
-    (F : Filled (jobOf rec) loads loads′ t) (U : Freed loads′ loads″) {k : ℕ} (n : k ≡ unwiredCount (jobOf rec) loads″) {rec′ : List ℕ}
+    (F : Filled (jobOf rec) loads loads′ t) (U : Freed rec loads′ loads″) {k : ℕ} (n : k ≡ unwiredCount (jobOf rec) loads″) {rec′ : List ℕ}
     (back : rec′ ≡ over (front loads″) rec) where
   abbrev J : Job
   J = jobOf rec
@@ -158,7 +158,7 @@ module _ {rec : List ℕ} (legal : Legal rec) {loads loads′ loads″ t : List 
 
   greatest : Greatest J (wiresIn rec′)
   greatest =
-      let (rs, holds, together) = sound-holds J (load loads″) (U .sound J (F .more .held)) in
+      let (rs, holds, together) = sound-holds J (load loads″) (U .sound J (F .more .held) (legal .sound)) in
       subst (λ (g : ℕ). Greatest J g) (sym (wires ∙ same-wires)) (saturated-greatest (F .more .held) (F .full) rs together (holds .number ∙ same-wires))
 
   smallest : Smallest J (marked t) (wiresIn rec′)
@@ -173,7 +173,7 @@ module _ {rec : List ℕ} (legal : Legal rec) {loads loads′ loads″ t : List 
   routed : {near near′ : List ℕ} → Shown J (wiresIn rec′) near near′ → RoutedAll rec rec′ near near′ k
   routed s =
       record {
-        legal = subst Legal (sym put) (put-legal rec legal loads″ (M .kept) (M .held .bytes) (U .sound J (F .more .held)));
+        legal = subst Legal (sym put) (put-legal rec legal loads″ (M .kept) (M .held .bytes) (U .sound J (F .more .held) (legal .sound)));
         job = ap jobOf put ∙ put-job rec legal loads″ (M .kept);
         rest = (loads″, new-length rec legal loads″ (M .kept), put);
         kept = λ r c w.

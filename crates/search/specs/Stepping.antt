@@ -48,7 +48,7 @@ module _ {rec : List ℕ} (legal : Legal rec) {loads : List ℕ} (q : loads ≡ 
     step-full w = let (t, S) = was-none x w in full refl (none-fits rec legal t (subst (λ (z : List ℕ). Saturated (jobOf rec) z t) copied S))
 
     -- loops are taken out, and the bytes are copied back
-    pub step-added : {u : ℕ} {loads″ rec′ : List ℕ} → y ≡ Laid u → Freed loads′ loads″ → rec′ ≡ over (front loads″) rec → StepDid rec rec′ Added
+    pub step-added : {u : ℕ} {loads″ rec′ : List ℕ} → y ≡ Laid u → Freed rec loads′ loads″ → rec′ ≡ over (front loads″) rec → StepDid rec rec′ Added
     step-added {u} {loads″} w F back =
         let (l, h, M) = was-one x w in
         let H = extended-held w in
@@ -56,4 +56,4 @@ module _ {rec : List ℕ} (legal : Legal rec) {loads : List ℕ} (q : loads ≡ 
         let i : front loads″ ≡ loads″ = front-whole loads″ (new-length rec legal loads″ (N .kept)) in
         more
         (subst (λ (z : List ℕ). calls.OneMore rec z) (sym (back ∙ ap (λ (z : List ℕ). over z rec) i))
-        (wire-added rec legal loads″ u l (subst (λ (z : List ℕ). Unwired (jobOf rec) z u) copied h) N (F .sound (jobOf rec) H)))
+        (wire-added rec legal loads″ u l (subst (λ (z : List ℕ). Unwired (jobOf rec) z u) copied h) N (F .sound (jobOf rec) H (legal .sound))))

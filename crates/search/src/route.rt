@@ -95,7 +95,7 @@ fn fill_copy(rec: &[u8], loads: &mut [u8], near: &mut [u8]) -> usize
     let mut marks = [0u8; 13128];
     copy(rec, loads);
     lay_all(rec, loads, &mut marks);
-    untangle(loads);
+    untangle(rec, loads);
     let k = unwired(rec, loads);
     if k == 0 {
         return 0;

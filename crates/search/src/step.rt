@@ -35,7 +35,7 @@ pub fn step(rec: &mut [u8]) -> Progress
     copy(rec, &mut loads);
     match extend(rec, &mut loads) {
         Next::Laid(_) => {
-            untangle(&mut loads);
+            untangle(rec, &mut loads);
             copy(&loads, rec);
             Progress::Added
         }

@@ -1,4 +1,5 @@
-// Taking loops out: one move back along each dart of a closed path of loaded darts, until there is none.
+// Taking loops out: one move back along each dart of a closed path of loaded darts, until there is none. The paths are looked for behind the links that are
+// fresh, beside old loads that have no loop.
 ghost use mathlib.Core.Path.{_≡_};
 ghost use mathlib.Core.List.{map};
 ghost use Prim.Native.Nat.{_-_, _≤_};
@@ -7,7 +8,7 @@ ghost use Rattle.search.specs.Laid.{laidAll};
 ghost use Rattle.audit.specs.Loops.{ringDarts};
 ghost use Rattle.search.specs.Loose.{Ringed, Tangled, Untangled, Laden, Freed};
 use audit::loops::Found;
-use audit::loops::find;
+use audit::loops::find_fresh;
 use channel::lay;
 use channel::reverse;
 
@@ -26,12 +27,12 @@ fn take_out(loads: &mut [u8], st: &[u16], sl: &[u8], j: usize, n: usize)
 }
 
 // Every ring.
-fn take_rings_out(loads: &mut [u8], fin: &mut [u16], st: &mut [u16], sl: &mut [u8])
-    requires { ⌜ Tangled (now loads) (now fin) (now st) (now sl) ⌝ }
-    ensures { λ _. ⌜ Untangled (now (loads .entry)) (now (loads .exit)) (now (fin .exit)) ⌝ }
+fn take_rings_out(old: &[u8], loads: &mut [u8], fin: &mut [u16], st: &mut [u16], sl: &mut [u8])
+    requires { ⌜ Tangled (now old) (now loads) (now fin) (now st) (now sl) ⌝ }
+    ensures { λ _. ⌜ Untangled (now (old .entry)) (now (loads .entry)) (now (loads .exit)) (now (fin .exit)) ⌝ }
 {
     loop {
-        match find(loads, fin, st, sl) {
+        match find_fresh(old, loads, fin, st, sl) {
             Found::Free => {
                 return;
             }
@@ -42,13 +43,13 @@ fn take_rings_out(loads: &mut [u8], fin: &mut [u16], st: &mut [u16], sl: &mut [u
     }
 }
 
-// No loop stands any more.
-pub fn untangle(loads: &mut [u8])
-    requires { ⌜ Laden (now loads) ⌝ }
-    ensures { λ _. ⌜ Freed (now (loads .entry)) (now (loads .exit)) ⌝ }
+// No loop stands any more, if none stands in the old loads.
+pub fn untangle(old: &[u8], loads: &mut [u8])
+    requires { ⌜ Laden (now old) (now loads) ⌝ }
+    ensures { λ _. ⌜ Freed (now (old .entry)) (now (loads .entry)) (now (loads .exit)) ⌝ }
 {
     let mut fin = [0u16; 13128];
     let mut st = [0u16; 13128];
     let mut sl = [0u8; 13128];
-    take_rings_out(loads, &mut fin, &mut st, &mut sl);
+    take_rings_out(old, loads, &mut fin, &mut st, &mut sl);
 }

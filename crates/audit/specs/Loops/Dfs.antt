@@ -5,10 +5,11 @@ use mathlib.Core.Logic.{_≢_}
 use mathlib.Core.Bool.{Bool, true, false}
 use mathlib.Core.List.{List}
 use Prim.Native.Nat.{ℕ, _+_, _-_, _*_, _/_, _≤_, _<_}
-use lib.Dec.{eqb}
+use lib.Dec.{T, eqb}
 use lib.ListN.{getD}
 use Rattle.sums.specs.Counting.{when, sum}
 use Rattle.channel.specs.Map.{spots, rev, view}
+use Rattle.channel.specs.Map.Fresh.{isFresh}
 use Rattle.channel.specs.Map.Origins.{originOf}
 use Rattle.audit.specs.Loops.{Room, Closed}
 use Rattle.audit.specs.declared.loops.Turn.{Turn}
@@ -81,3 +82,12 @@ pub data Searched (rec fin fin' st' sl' : List ℕ) : Search → Type 0 where
 pub record Traced (rec : List ℕ) (i : ℕ) (fin fin' st' sl' : List ℕ) (s : Search) : Type 0 where
   pub search : Searched rec fin fin' st' sl' s
   pub seen : {m' : ℕ} → s ≡ Over m' → originOf rec i < spots → getD fin' (originOf rec i) 0 ≢ 0
+
+-- the spot of the i-th load byte is seen, if its link is fresh
+abbrev pub Begun : List ℕ → List ℕ → List ℕ → ℕ → Type 0
+Begun old rec fin i = T (isFresh old rec i) → originOf rec i < spots → getD fin (originOf rec i) 0 ≢ 0
+
+-- the search from the spots of the fresh links from the a-th to before the b-th: they are seen
+pub record FreshTraced (old rec : List ℕ) (a b : ℕ) (fin fin' st' sl' : List ℕ) (s : Search) : Type 0 where
+  pub search : Searched rec fin fin' st' sl' s
+  pub seen : {m' : ℕ} → s ≡ Over m' → (i : ℕ) → a ≤ i → i < b → Begun old rec fin' i

@@ -20,7 +20,7 @@ lay-all-requires c κs =
     (record { asked = search needs; loads = search needs }, search (needs, spots-is), copy-held (p .0) (copied-front (p .0) _ (p .1) (c4 .copy .ensures)))
 
 untangle-requires : tie.Need-untangle-requires
-untangle-requires c κs = record { job = _; held = c .before .before .before .before .lay-all .ensures .more .held }
+untangle-requires c κs = record { before = search needs; job = _; held = c .before .before .before .before .lay-all .ensures .more .held }
 
 unwired-requires : tie.Need-unwired-requires
 unwired-requires c κs = search needs

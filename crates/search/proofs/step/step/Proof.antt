@@ -23,7 +23,14 @@ slice-aggregate-untangle : tie.Need-slice-aggregate-untangle
 slice-aggregate-untangle c = search needs
 
 untangle-requires : tie.Need-untangle-requires
-untangle-requires c κs = record { job = _; held = extended-held (c .before .before .before .before .before .before .before .before .before .before .before .before .pre) (c .before .before .before .before .before .before .before .before .copy .ensures) (c .before .before .before .before .extend .ensures) (c .before .enum-told .given .1) }
+untangle-requires c κs =
+    let c5 = c .before .before .before .before .before in
+    let c9 = c5 .before .before .before .before in
+    record {
+      before = search needs;
+      job = _;
+      held = extended-held (c9 .before .before .before .before .pre) (c9 .copy .ensures) (c5 .extend .ensures) (c .before .before .enum-told .given .1);
+    }
 
 slice-aggregate-copy-2 : tie.Need-slice-aggregate-copy-2
 slice-aggregate-copy-2 c = search needs
@@ -39,7 +46,11 @@ same-length c = search needs
 
 returns : tie.Need-returns
 returns c =
-    step-added (c .before .before .before .before .before .before .before .before .before .before .before .before .before .before .before .before .before .before .before .pre) (c .before .before .before .before .before .before .before .before .before .before .before .before .before .before .before .copy .ensures) (c .before .before .before .before .before .before .before .before .before .before .before .extend .ensures) (c .before .before .before .before .before .before .before .before .enum-told .given .1) (c .before .before .before .before .before .before .untangle .ensures) (c .before .before .copy2 .ensures)
+    let c6 = c .before .before .before .before .before .before in
+    let c12 = c6 .before .before .before .before .before .before in
+    let c16 = c12 .before .before .before .before in
+    step-added (c16 .before .before .before .before .pre) (c16 .copy .ensures) (c12 .extend .ensures) (c6 .before .before .before .enum-told .given .1) (c6 .untangle .ensures)
+    (c .before .before .copy2 .ensures)
 
 same-length-2 : tie.Need-same-length-2
 same-length-2 c = search needs

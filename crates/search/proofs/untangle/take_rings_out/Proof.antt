@@ -12,26 +12,29 @@ use Rattle.search.proofs.untangle.take_rings_out.Statement.{statement}
 use Rattle.search.proofs.untangle.take_rings_out.Tie as tie
 
 abbrev Inv-loop : tie.InvT-loop
-Inv-loop loads₀ fin₀ st₀ sl₀ loads fin st sl =
+Inv-loop old loads₀ fin₀ st₀ sl₀ loads fin st sl =
     (length loads ≡ length loads₀) × (length fin ≡ length fin₀) × (length st ≡ length st₀) × (length sl ≡ length sl₀)
     × ((J : Job) → Held J loads₀ → Loosened J loads₀ loads)
 
 abbrev μ-loop : tie.MeasureT-loop
-μ-loop loads₀ fin₀ st₀ sl₀ loads fin st sl = totalLoad loads
+μ-loop old loads₀ fin₀ st₀ sl₀ loads fin st sl = totalLoad loads
 
 loop-holds : tie.Need-loop-holds Inv-loop μ-loop
 loop-holds c = (refl, refl, refl, refl, λ J H. loose-none H)
 
-find-requires : tie.Need-find-requires Inv-loop μ-loop
-find-requires c κs =
+find-fresh-requires : tie.Need-find-fresh-requires Inv-loop μ-loop
+find-fresh-requires c κs =
     let l = c .before .before .before .before .loop .inv in
-    let r = c .before .before .before .before .before .before .before .before .before .pre .room in
-    record {
-      whole = omega (arith, l .0, r .whole);
-      marks = omega (arith, l .1, r .marks);
-      stack = omega (arith, l .2, r .stack);
-      slots = omega (arith, l .3, r .slots);
-    }
+    let p = c .before .before .before .before .before .before .before .before .before .before .pre in
+    let r = p .room in (
+      record {
+        whole = omega (arith, l .0, r .whole);
+        marks = omega (arith, l .1, r .marks);
+        stack = omega (arith, l .2, r .stack);
+        slots = omega (arith, l .3, r .slots);
+      },
+      p .before,
+    )
 
 enum-told : tie.Need-enum-told Inv-loop μ-loop
 enum-told c = search needs
@@ -43,25 +46,25 @@ same-length-2 : tie.Need-same-length-2 Inv-loop μ-loop
 same-length-2 c =
     let c8 = c .before .before .before .before .before .before .before .before in
     let c13 = c8 .before .before .before .before .before in
-    c8 .find .kept .1 .0 ∙ c13 .loop .inv .1
+    c8 .find-fresh .kept .1 .1 .0 ∙ c13 .loop .inv .1
 
 same-length-3 : tie.Need-same-length-3 Inv-loop μ-loop
 same-length-3 c =
     let c8 = c .before .before .before .before .before .before .before .before in
     let c13 = c8 .before .before .before .before .before in
-    c8 .find .kept .1 .1 .0 ∙ c13 .loop .inv .2
+    c8 .find-fresh .kept .1 .1 .1 .0 ∙ c13 .loop .inv .2
 
 same-length-4 : tie.Need-same-length-4 Inv-loop μ-loop
 same-length-4 c =
     let c8 = c .before .before .before .before .before .before .before .before in
     let c13 = c8 .before .before .before .before .before in
-    c8 .find .kept .1 .1 .1 .0 ∙ c13 .loop .inv .3
+    c8 .find-fresh .kept .1 .1 .1 .1 .0 ∙ c13 .loop .inv .3
 
 returns : tie.Need-returns Inv-loop μ-loop
 returns c =
     let c8 = c .before .before .before .before .before .before .before .before in
     let c13 = c8 .before .before .before .before .before in
-    record { loose = c13 .loop .inv .4; falls = found-free (c8 .find .ensures) (c .enum-told .given .1) }
+    record { loose = c13 .loop .inv .4; settled = found-free (c8 .find-fresh .ensures) (c .enum-told .given .1) }
 
 enum-known-j : tie.Need-enum-known-j Inv-loop μ-loop
 enum-known-j c = search needs
@@ -70,11 +73,11 @@ take-out-requires : tie.Need-take-out-requires Inv-loop μ-loop
 take-out-requires c κs =
     let c12 = c .before .before .before .before .before .before .before .before .before .before .before .before in
     let c17 = c12 .before .before .before .before .before in
-    let c22 = c17 .before .before .before .before .before in
-    let C = found-ring (c12 .find .ensures) (c .before .before .before .before .j .given .1) in
+    let c23 = c17 .before .before .before .before .before .before in
+    let C = found-ring (c12 .find-fresh .ensures) (c .before .before .before .before .j .given .1) in
     let l = c17 .loop .inv in
-    let k = c12 .find .kept .1 .1 in
-    let r = c22 .pre .room in (
+    let k = c12 .find-fresh .kept .1 .1 .1 in
+    let r = c23 .pre .room in (
       record {
         whole = omega (arith, l .0, r .whole);
         stack = omega (arith, C .within, k .0, l .2, r .stack);
@@ -89,9 +92,9 @@ loop-less c =
     let c7 = c .before .before .before .before .before .before .before in
     let c15 = c7 .before .before .before .before .before .before .before .before in
     let c20 = c15 .before .before .before .before .before in
-    let c25 = c20 .before .before .before .before .before in
-    let p = c25 .pre in
-    let C = found-ring (c15 .find .ensures) (c7 .j .given .1) in
+    let c26 = c20 .before .before .before .before .before .before in
+    let p = c26 .pre in
+    let C = found-ring (c15 .find-fresh .ensures) (c7 .j .given .1) in
     ring-out (loose-held (p .held) (c20 .loop .inv .4 (p .job) (p .held))) C (c .before .before .take-out .ensures) .falls
 
 loop-again : tie.Need-loop-again Inv-loop μ-loop
@@ -100,8 +103,8 @@ loop-again c =
     let c15 = c7 .before .before .before .before .before .before .before .before in
     let c20 = c15 .before .before .before .before .before in
     let l = c20 .loop .inv in
-    let k = c15 .find .kept .1 in
-    let C = found-ring (c15 .find .ensures) (c7 .j .given .1) in (
+    let k = c15 .find-fresh .kept .1 .1 in
+    let C = found-ring (c15 .find-fresh .ensures) (c7 .j .given .1) in (
       c .before .before .take-out .kept .0 ∙ l .0,
       k .0 ∙ l .1,
       k .1 .0 ∙ l .2,
@@ -116,7 +119,7 @@ take-rings-out-spec =
     Inv-loop
     μ-loop
     loop-holds
-    find-requires
+    find-fresh-requires
     enum-told
     same-length
     same-length-2

@@ -1,4 +1,4 @@
--- `untangle::untangle` meets its contract: loads that fall along an order of the spots have no loop. Assumes nothing.
+-- `untangle::untangle` meets its contract: loads that fall along an order of the spots behind fresh links have no new loop. Assumes nothing.
 use borrow.Author.Needs.{needs}
 use Rattle.channel.specs.Map.Numbers.{spots-is}
 use Rattle.search.specs.Rings.{untangled-freed}
