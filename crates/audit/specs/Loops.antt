@@ -21,7 +21,7 @@ use Rattle.model.specs.Loads.{Feasible, Trail}
 use Rattle.model.specs.Record.{load}
 use Rattle.channel.specs.Map.{spots, darts, rev, view}
 use Rattle.channel.specs.Map.Fresh.{isFresh}
-use Rattle.channel.specs.Map.Loops.{FallsFrom}
+use Rattle.channel.specs.Map.Network.Loops.{FallsFrom}
 use Rattle.channel.specs.Map.Network.{net}
 use Rattle.channel.specs.Map.Origins.{originOf}
 use Rattle.audit.specs.declared.loops.Found.{Found}

@@ -46,7 +46,7 @@ use Rattle.model.specs.Job.{Job, isTile, isChosen}
 use Rattle.model.specs.Links.{PlaceKind, pin, missing, centre, nowhere, side, Place, at, theOutside, isPlace, northSide, link, linkCode, Step, turn, aheadOf, may, limit, pass}
 use Rattle.model.specs.Near.{entry, size}
 use Rattle.model.specs.Loads.{arrivals, departures}
-use Rattle.model.specs.Record.{kinds, load}
+use Rattle.model.specs.Record.{kinds, forthPart, backPart, load}
 
 -- ---- numbers
 
@@ -246,6 +246,10 @@ pub EndsAt : Job → Place → ℕ → Type 0
 EndsAt J x u = (T (isPlace J x) × (entry x ≡ u)) ⊎ ((x ≡ theOutside) × T (outside J u))
 
 -- ---- loads
+
+-- how many wires a byte has along its link's positive way, or the other
+pub wayPart : Bool → ℕ → ℕ
+wayPart f b = elim f [ true ↦ forthPart b | false ↦ backPart b ]
 
 -- how many wires go along a dart
 pub view : List ℕ → ℕ → ℕ

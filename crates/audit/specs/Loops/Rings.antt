@@ -36,7 +36,7 @@ loaded-edge rec d ld l =
 
 -- from a spot that is done loaded darts fall
 pub done-falls : {rec fin st sl : List ℕ} {n m : ℕ} → Dfs rec fin st sl n m → FallsFrom 2 rec (λ u. getD fin u 0)
-done-falls {rec} s d ld l b = s .falls (d / 8) (omega arith) b (d % 8) (rev d / 8) (loaded-edge rec d ld l)
+done-falls {rec} s = record { fall = λ d ld l b. s .falls (d / 8) (tail-spot d ld) b (d % 8) (rev d / 8) (loaded-edge rec d ld l) }
 
 -- the spots of the load bytes are seen, and none is on the stack
 module _ {rec fin st sl : List ℕ} {m : ℕ} (s : Dfs rec fin st sl 0 m) (all : (i : ℕ) → i < 22400 → originOf rec i < spots → getD fin (originOf rec i) 0 ≢ 0) where
@@ -49,10 +49,10 @@ module _ {rec fin st sl : List ℕ} {m : ℕ} (s : Dfs rec fin st sl 0 m) (all :
       let c = f .dart in
       let lc : c / 8 < spots = tail-spot c (f .dart<) in
       subst (λ (x : ℕ). 2 ≤ getD fin x 0) (f .ends)
-      (done-falls s c (f .dart<) (f .laden) (origin-done (f .byte) (c / 8) (f .byte<) (f .leaves) lc) .0)
+      (done-falls s .fall c (f .dart<) (f .laden) (origin-done (f .byte) (c / 8) (f .byte<) (f .leaves) lc) .0)
 
   pub all-fall : (d : ℕ) → d < darts → 0 < view rec d → getD fin (rev d / 8) 0 < getD fin (d / 8) 0
-  all-fall d ld l = done-falls s d ld l (tail-done d ld (loaded-begins rec d ld l)) .1
+  all-fall d ld l = done-falls s .fall d ld l (tail-done d ld (loaded-begins rec d ld l)) .1
 
 module _ {rec fin st sl : List ℕ} {n m : ℕ} (s : Dfs rec fin st sl n m) {x : ℕ} (back : Edge rec (getD st (n - 1) 0) (getD sl (n - 1) 0) x) where
   last : (i : ℕ) → i + 1 ≡ n → Edge rec (getD st i 0) (getD sl i 0) x

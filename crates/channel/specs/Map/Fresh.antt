@@ -16,10 +16,10 @@ use Rattle.model.specs.Links.{Place, isPlace, Step, head, tail, may}
 use Rattle.model.specs.Near.{exit}
 use Rattle.model.specs.Loads.{Feasible, Trail}
 use Rattle.model.specs.Record.{forthPart, backPart, load}
-use Rattle.channel.specs.Map.{spots, darts, dartOf}
+use Rattle.channel.specs.Map.{spots, darts, dartOf, wayPart}
 use Rattle.channel.specs.Map.Darts.{dart-step}
 use Rattle.channel.specs.Map.Network.Loops.{FallsFrom, loaded-may, loaded-grid, trail-falls, trail-place}
-use Rattle.channel.specs.Map.Origins.{originOf, wayPart, stepByte, step-byte<, step-load, step-origin}
+use Rattle.channel.specs.Map.Origins.{originOf, stepByte, step-byte<, step-load, step-origin}
 use Rattle.channel.specs.Map.Steps.{link-tail}
 
 -- ---- one byte
@@ -78,7 +78,7 @@ or-right true q t = tt
 or-right false q t = t
 
 way-gains : (f : Bool) (a b : ℕ) → 0 < wayPart f b → wayPart f a ≡ 0 → T (gains a b)
-unfolding gains
+unfolding gains wayPart
 way-gains true a b l e =
     or-left (ltb 0 (forthPart b) && eqb (forthPart a) 0) (ltb 0 (backPart b) && eqb (backPart a) 0)
     (and-both (ltb 0 (forthPart b)) (eqb (forthPart a) 0) (lt→ltb 0 (forthPart b) l) (so (eq-eqb (forthPart a) 0 e)))

@@ -15,7 +15,7 @@ use Rattle.model.specs.Links.{Compass, north, east, south, west, centre, missin
 use Rattle.model.specs.Loads.{arrivals}
 use Rattle.model.specs.Near.{spot, entryOf, entry}
 use Rattle.model.specs.Record.{loadPlane, forthPart, backPart, load}
-use Rattle.channel.specs.Map.{spots, darts, inGrid, rowOf, columnOf, rev, ownerCell, stepOf, carries, isPassage, isLinkDart, isPassDart, passedOf, view, turns, owners, codes, turnOf, ownerOf, codeOf, backRow, seatOf, dartOf}
+use Rattle.channel.specs.Map.{spots, darts, inGrid, rowOf, columnOf, rev, ownerCell, stepOf, carries, isPassage, isLinkDart, isPassDart, passedOf, view, turns, owners, codes, turnOf, ownerOf, codeOf, backRow, seatOf, dartOf, wayPart}
 use Rattle.channel.specs.Map.Back.{grid-at}
 use Rattle.channel.specs.Map.Bools.{if-true, if-false}
 use Rattle.channel.specs.Map.Carry.{view-link, view-pass}
@@ -47,12 +47,9 @@ module _ (rec : List ℕ) (i : ℕ) where
 
 -- ---- along a link
 
--- how many wires a byte has along its link's positive way, or the other
-abbrev pub wayPart : Bool → ℕ → ℕ
-wayPart f b = elim f [ true ↦ forthPart b | false ↦ backPart b ]
-
 -- the wires of a byte go the way that its load goes
 byte-way : (b : ℕ) (f : Bool) → 0 < wayPart f b → (b ≢ 0) × (ltb b 32 ≡ f)
+unfolding wayPart
 byte-way b true l = (λ e. omega arith, lt-ltb b 32 (omega arith))
 byte-way b false l = (λ e. omega arith, le-ltb b 32 (omega arith))
 
@@ -67,7 +64,7 @@ module _ (s : Step) (g : OnGrid s) where
 
   -- the load of a step is in that byte
   pub step-load : (rec : List ℕ) → load rec s ≡ wayPart (s .forth) (getD rec (3968 + stepByte s) 0)
-  unfolding stepByte load
+  unfolding stepByte load wayPart
   step-load rec =
       let p : 768 + 1600 * loadPlane (s .link .kind) + 40 * s .link .row + s .link .column ≡ 3968 + stepByte s = omega arith in
       ap (wayPart (s .forth))

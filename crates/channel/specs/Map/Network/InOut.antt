@@ -1,4 +1,4 @@
--- What goes out of a spot and comes into it, slot by slot. Round n, e, s, w the five links carry all of it; a missing pin and a centre have what comes on
+-- What goes out of a spot and comes into it, slot by slot. Round n, e, s, w the five links carry below of it; a missing pin and a centre have what comes on
 -- their entry, what leaves on their exit, and the dart between. All of it follows from the rows of the table. Assumes nothing.
 use mathlib.Core.Path.{_≡_, sym, ap, subst, _∙_}
 use mathlib.Core.Bool.{Bool, not, _&&_}
@@ -16,7 +16,7 @@ use Rattle.model.specs.Record.{kinds}
 use lib.ListN.{getD}
 use Rattle.channel.specs.Map.{turns, links, owners, signs, codes, turnOf, kindOf, ownerOf, signOf, codeOf, backRow, dartOf, idle}
 use Rattle.channel.specs.Map.{spots, darts, inGrid, rowOf, columnOf, ahead, rev, ownerCell, stepOf, carries, isStored, isPassage, isLinkDart, isPassDart}
-use Rattle.sums.specs.Tests.{below as all, below-at as all-at}
+use Rattle.sums.specs.Tests.{below, below-at}
 use Rattle.channel.specs.Map.Back.{rev<, rev-over, link-stored}
 use Rattle.channel.specs.Map.Network.{net}
 use Rattle.channel.specs.Map.Carry.{idle-link, idle-pass, back-link, back-idle}
@@ -120,11 +120,11 @@ module _ (g : ℕ → ℕ) (quiet : Quiet g) where
       row : (k : ℕ) → k < 8 → (8 * u + k) % 64 ≡ 16 + 8 * j + k
       row k l = omega arith
 
-      test : (k : ℕ) (p : ℕ → Bool) → T (all 4 (λ i. p (16 + 8 * i + k))) → T (p (16 + 8 * j + k))
-      test k p t = all-at 4 (λ i. p (16 + 8 * i + k)) t j b
+      test : (k : ℕ) (p : ℕ → Bool) → T (below 4 (λ i. p (16 + 8 * i + k))) → T (p (16 + 8 * j + k))
+      test k p t = below-at 4 (λ i. p (16 + 8 * i + k)) t j b
 
       pub side-out : out (net J) g u ≡ sum 5 (λ k. g (8 * u + k))
-      unfolding sum all codeOf codes carries isPassage idle darts spots
+      unfolding sum below codeOf codes carries isPassage idle darts spots
       side-out =
           omega (
             arith,
@@ -134,15 +134,15 @@ module _ (g : ℕ → ℕ) (quiet : Quiet g) where
             idle-at (8 * u + 7) _ (row 7 (omega arith)) (test 7 idle tt) (omega arith),
           )
 
-      mirror : (k h : ℕ) → k < 8 → h < 5 → T (all 4 (λ i. mirrors (16 + 8 * i + k) (16 + 8 * i + h)))
+      mirror : (k h : ℕ) → k < 8 → h < 5 → T (below 4 (λ i. mirrors (16 + 8 * i + k) (16 + 8 * i + h)))
           → g (rev (8 * u + k)) ≡ g (dartOf (turn (stepOf (8 * u + h))))
       unfolding darts spots
       mirror k h l n t =
-          mirror-at (8 * u + h) (8 * u + k) _ _ (row k l) (row h (omega arith)) (omega arith) (all-at 4 (λ i. mirrors (16 + 8 * i + k) (16 + 8 * i + h)) t j b)
+          mirror-at (8 * u + h) (8 * u + k) _ _ (row k l) (row h (omega arith)) (omega arith) (below-at 4 (λ i. mirrors (16 + 8 * i + k) (16 + 8 * i + h)) t j b)
           (omega arith) (slots h n)
 
       pub side-back : out (net J) (back (net J) g) u ≡ sum 5 (λ k. g (dartOf (turn (stepOf (8 * u + k)))))
-      unfolding net sum all mirrors twin still backRow turnOf turns kindOf links ownerOf owners signOf signs codeOf codes carries isStored isPassage idle darts spots
+      unfolding net sum below mirrors twin still backRow turnOf turns kindOf links ownerOf owners signOf signs codeOf codes carries isStored isPassage idle darts spots
       side-back =
           omega (
             arith,
@@ -165,27 +165,27 @@ module _ (g : ℕ → ℕ) (quiet : Quiet g) where
       exit-row : (k : ℕ) → k < 8 → (8 * (u + 1) + k) % 64 ≡ 48 * j + (8 + k)
       exit-row k l = omega arith
 
-      pair-test : (k : ℕ) (p : ℕ → Bool) → T (all 2 (λ i. p (48 * i + k))) → T (p (48 * j + k))
-      pair-test k p t = all-at 2 (λ i. p (48 * i + k)) t j b
+      pair-test : (k : ℕ) (p : ℕ → Bool) → T (below 2 (λ i. p (48 * i + k))) → T (p (48 * j + k))
+      pair-test k p t = below-at 2 (λ i. p (48 * i + k)) t j b
 
-      entry-idle : (k : ℕ) → k < 8 → T (all 2 (λ i. idle (48 * i + k))) → g (8 * u + k) ≡ 0
+      entry-idle : (k : ℕ) → k < 8 → T (below 2 (λ i. idle (48 * i + k))) → g (8 * u + k) ≡ 0
       unfolding darts spots
       entry-idle k l t = idle-at (8 * u + k) _ (entry-row k l) (pair-test k idle t) (omega arith)
 
-      exit-idle : (k : ℕ) → k < 8 → T (all 2 (λ i. idle (48 * i + (8 + k)))) → g (8 * (u + 1) + k) ≡ 0
+      exit-idle : (k : ℕ) → k < 8 → T (below 2 (λ i. idle (48 * i + (8 + k)))) → g (8 * (u + 1) + k) ≡ 0
       unfolding darts spots
       exit-idle k l t = idle-at (8 * (u + 1) + k) _ (exit-row k l) (pair-test (8 + k) idle t) (omega arith)
 
-      entry-still : (k : ℕ) → k < 8 → T (all 2 (λ i. still (48 * i + k))) → g (rev (8 * u + k)) ≡ 0
+      entry-still : (k : ℕ) → k < 8 → T (below 2 (λ i. still (48 * i + k))) → g (rev (8 * u + k)) ≡ 0
       unfolding darts spots
       entry-still k l t = still-at (8 * u + k) _ (entry-row k l) (pair-test k still t) (omega arith)
 
-      exit-still : (k : ℕ) → k < 8 → T (all 2 (λ i. still (48 * i + (8 + k)))) → g (rev (8 * (u + 1) + k)) ≡ 0
+      exit-still : (k : ℕ) → k < 8 → T (below 2 (λ i. still (48 * i + (8 + k)))) → g (rev (8 * (u + 1) + k)) ≡ 0
       unfolding darts spots
       exit-still k l t = still-at (8 * (u + 1) + k) _ (exit-row k l) (pair-test (8 + k) still t) (omega arith)
 
       pub exit-out : out (net J) g (u + 1) ≡ sum 4 (λ k. g (8 * (u + 1) + k))
-      unfolding sum all codeOf codes carries isPassage idle
+      unfolding sum below codeOf codes carries isPassage idle
       exit-out =
           omega (
             arith,
@@ -197,7 +197,7 @@ module _ (g : ℕ → ℕ) (quiet : Quiet g) where
           )
 
       pub entry-out : out (net J) g u ≡ g (8 * u + 4)
-      unfolding sum all codeOf codes carries isPassage idle
+      unfolding sum below codeOf codes carries isPassage idle
       entry-out =
           omega (
             arith,
@@ -213,31 +213,31 @@ module _ (g : ℕ → ℕ) (quiet : Quiet g) where
 
       -- the dart between the two, and its way back
       between : rev (8 * u + 4) ≡ 8 * (u + 1) + 4
-      unfolding all ahead turnOf turns darts spots
+      unfolding below ahead turnOf turns darts spots
       between =
           rev-over (8 * u + 4) (8 * (u + 1) + 4)
           (omega (arith, ap turnOf (entry-row 4 (omega arith)), eqb→eq (turnOf (48 * j + 4)) 2696 (pair-test 4 (λ i. eqb (turnOf i) 2696) tt))) (omega arith)
 
       between-back : rev (8 * (u + 1) + 4) ≡ 8 * u + 4
-      unfolding all ahead turnOf turns darts spots
+      unfolding below ahead turnOf turns darts spots
       between-back =
           rev-over (8 * (u + 1) + 4) (8 * u + 4)
           (omega (arith, ap turnOf (exit-row 4 (omega arith)), eqb→eq (turnOf (48 * j + 12)) 2680 (pair-test 12 (λ i. eqb (turnOf i) 2680) tt))) (omega arith)
 
-      exit-quiet : (k : ℕ) → k < 4 → T (all 2 (λ i. idle (backRow (48 * i + (8 + k))))) → g (rev (8 * (u + 1) + k)) ≡ 0
+      exit-quiet : (k : ℕ) → k < 4 → T (below 2 (λ i. idle (backRow (48 * i + (8 + k))))) → g (rev (8 * (u + 1) + k)) ≡ 0
       unfolding darts spots
       exit-quiet k l t =
           quiet-at (8 * (u + 1) + k) _ (exit-row k (omega arith)) (pair-test (8 + k) (λ i. idle (backRow i)) t) (omega arith) (slots k l)
 
-      entry-mirror : (k : ℕ) → k < 4 → T (all 2 (λ i. mirrors (48 * i + k) (48 * i + (8 + k))))
+      entry-mirror : (k : ℕ) → k < 4 → T (below 2 (λ i. mirrors (48 * i + k) (48 * i + (8 + k))))
           → g (rev (8 * u + k)) ≡ g (dartOf (turn (stepOf (8 * (u + 1) + k))))
       unfolding darts spots
       entry-mirror k l t =
           mirror-at (8 * (u + 1) + k) (8 * u + k) _ _ (entry-row k (omega arith)) (exit-row k (omega arith)) (omega arith)
-          (all-at 2 (λ i. mirrors (48 * i + k) (48 * i + (8 + k))) t j b) (omega arith) (slots k l)
+          (below-at 2 (λ i. mirrors (48 * i + k) (48 * i + (8 + k))) t j b) (omega arith) (slots k l)
 
       pub exit-back : out (net J) (back (net J) g) (u + 1) ≡ g (8 * u + 4)
-      unfolding net sum all still backRow turnOf turns codeOf codes carries isPassage idle
+      unfolding net sum below still backRow turnOf turns codeOf codes carries isPassage idle
       exit-back =
           omega (
             arith,
@@ -253,7 +253,7 @@ module _ (g : ℕ → ℕ) (quiet : Quiet g) where
           )
 
       pub entry-back : out (net J) (back (net J) g) u ≡ sum 4 (λ k. g (dartOf (turn (stepOf (8 * (u + 1) + k)))))
-      unfolding net sum all mirrors twin still backRow turnOf turns kindOf links ownerOf owners signOf signs codeOf codes carries isStored isPassage idle
+      unfolding net sum below mirrors twin still backRow turnOf turns kindOf links ownerOf owners signOf signs codeOf codes carries isStored isPassage idle
       entry-back =
           omega (
             arith,

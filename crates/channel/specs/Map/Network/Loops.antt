@@ -128,8 +128,8 @@ pass-next d = by (eqb (codeOf (d % 64)) 5)
 -- ---- loaded darts
 
 -- every loaded dart from a spot of this rank or more falls, to a spot of this rank or more
-abbrev pub FallsFrom : ℕ → List ℕ → (ℕ → ℕ) → Type 0
-FallsFrom least rec rank = (d : ℕ) → d < darts → 0 < view rec d → least ≤ rank (d / 8) → (least ≤ rank (rev d / 8)) × (rank (rev d / 8) < rank (d / 8))
+pub record FallsFrom (least : ℕ) (rec : List ℕ) (rank : ℕ → ℕ) : Type 0 where
+  pub fall : (d : ℕ) → d < darts → 0 < view rec d → least ≤ rank (d / 8) → (least ≤ rank (rev d / 8)) × (rank (rev d / 8) < rank (d / 8))
 
 module _ (J : Job) (fits : T (arrayFits (J .rows) (J .columns))) (rec : List ℕ) (feasible : Feasible J (load rec)) where
   abbrev f : Step → ℕ
@@ -192,7 +192,7 @@ module _ (J : Job) (fits : T (arrayFits (J .rows) (J .columns))) (rec : List ℕ
         let (m, n) = pass-ends (8 * entry x + 4) l q in
         let w : 0 < view rec (8 * entry x + 4) = omega (arith, view-pass rec (8 * entry x + 4) q, ap (arrivals f) p) in
         let y : rank (entry x) ≡ rank ((8 * entry x + 4) / 8) = ap rank (sym (ap entry p) ∙ m) in
-        omega (arith, falls (8 * entry x + 4) l w (omega arith), ap rank (sym (ap exit p) ∙ n))
+        omega (arith, falls .fall (8 * entry x + 4) l w (omega arith), ap rank (sym (ap exit p) ∙ n))
 
     -- it does not rise through a place that wires pass
     through : (k : PlaceKind) (r c : ℕ) → T (isPlace J (at k r c)) → 0 < arrivals f (at k r c) → Lower (entry (at k r c)) (exit (at k r c))
@@ -223,7 +223,7 @@ module _ (J : Job) (fits : T (arrayFits (J .rows) (J .columns))) (rec : List ℕ
         by (inl (q, e)) =
             let z : rank (exit (tail J s)) ≡ rank (d / 8) = ap rank (link-tail J fits d l t (loaded-may s h) .0) in
             let y : rank (entry (head J s)) ≡ rank (rev d / 8) = ap rank e in
-            let (g, r) = falls d l (omega (arith, view-link rec d t)) (omega arith) in
+            let (g, r) = falls .fall d l (omega (arith, view-link rec d t)) (omega arith) in
             omega (arith, through (head J s .kind) (head J s .row) (head J s .column) p (omega (arith, step-arrives s p)) (omega arith))
 
     step-falls : (s : Step) → StepFalls s
@@ -244,7 +244,7 @@ module _ (J : Job) (fits : T (arrayFits (J .rows) (J .columns))) (rec : List ℕ
   pub ranked-loops : (rank : ℕ → ℕ) → ((d : ℕ) → d < darts → 0 < view rec d → rank (rev d / 8) < rank (d / 8))
       → (x : Place) (s : Step) (ss : List Step) → Trail J (load rec) x (s ∷ ss) x → ⊥
   ranked-loops rank falls x s ss t =
-      omega (arith, trail-falls 0 rank (λ d l w b. omega (arith, falls d l w)) s ss x x t (trail-place s ss x x t) (omega arith))
+      omega (arith, trail-falls 0 rank (record { fall = λ d l w b. omega (arith, falls d l w) }) s ss x x t (trail-place s ss x x t) (omega arith))
 
   -- ---- a closed path
 
