@@ -1,4 +1,4 @@
--- What goes out of a spot and comes into it, slot by slot. Round n, e, s, w the five links carry below of it; a missing pin and a centre have what comes on
+-- What goes out of a spot and comes into it, slot by slot. Round n, e, s, w the five links carry all of it; a missing pin and a centre have what comes on
 -- their entry, what leaves on their exit, and the dart between. All of it follows from the rows of the table. Assumes nothing.
 use mathlib.Core.Path.{_≡_, sym, ap, subst, _∙_}
 use mathlib.Core.Bool.{Bool, not, _&&_}
