@@ -16,8 +16,9 @@ slice-aggregate-take-rings-out-3 c = search needs
 
 take-rings-out-requires : tie.Need-take-rings-out-requires
 take-rings-out-requires c κs =
-    let p = c .before .before .before .before .before .pre in
+    let p = c .before .before .before .before .before .before .pre in
     record {
+      before = p .before;
       room = record { whole = p .held .long; marks = search (needs, spots-is); stack = search (needs, spots-is); slots = search (needs, spots-is) };
       job = p .job;
       held = p .held;
