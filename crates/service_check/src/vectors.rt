@@ -1,10 +1,8 @@
 // The vectors of data/: NAME.job with NAME.expect, what `escape` prints for it, of a wired job the first line alone. A wired job's listing has to be legal.
-use crate::bytes::Tally;
-use crate::bytes::first;
-use crate::bytes::hold;
-use crate::listed::list_text;
-use crate::listed::shown;
+use crate::texts::list_text;
 use check::same;
+use compare::listed::held;
+use compare::listed::shown;
 use listing::Page;
 use oracle::listing::LEGAL;
 use oracle::listing::check_listing;
@@ -13,12 +11,9 @@ use oracle::page::byte;
 use oracle::page::decimal;
 use oracle::page::word;
 use oracle::text::read_text;
-
-// The first `n` bytes of the sheet.
-pub fn held(sheet: &Sheet, n: usize) -> &[u8] {
-    let all: &[u8] = sheet;
-    first(all, n)
-}
+use verdict::bytes::Tally;
+use verdict::bytes::first;
+use verdict::bytes::hold;
 
 // Reads the file of the vector `name` that has this ending, and gives its length.
 fn load(name: &[u8], ending: &[u8], sheet: &mut Sheet) -> usize {

@@ -3,7 +3,6 @@ use Prim.Native.Nat.{_≤_, _-_}
 use borrow.Author.Needs.{needs}
 use Rattle.service_check.proofs.calls.draw_all.Statement.{statement}
 use Rattle.service_check.proofs.calls.draw_all.Tie as tie
-use Rattle.service_check.proofs.calls.draw.Reads as draw-reads
 
 abbrev Inv-loop : tie.InvT-loop
 Inv-loop tally₀ rec₀ job₀ page₀ seed₀ k₀ tally rec job page seed k = k ≤ 4000

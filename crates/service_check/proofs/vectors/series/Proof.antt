@@ -3,7 +3,6 @@ use Prim.Native.Nat.{_≤_, _-_}
 use borrow.Author.Needs.{needs}
 use Rattle.service_check.proofs.vectors.series.Statement.{statement}
 use Rattle.service_check.proofs.vectors.series.Tie as tie
-use Rattle.service_check.proofs.vectors.numbered.Reads as numbered-reads
 
 abbrev Inv-loop : tie.InvT-loop
 Inv-loop tally₀ page₀ stem k₀ tally page k = k ≤ 60
