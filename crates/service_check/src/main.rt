@@ -2,6 +2,7 @@
 // and on random lists of calls. It writes what came out wrong, and how many checks of each part are right and wrong.
 mod calls; // random lists of calls
 mod draws; // random arguments
+mod edits; // the calls that make or edit a job
 mod examples; // the examples of document 01
 mod expect; // what a call has to answer
 mod lookup; // a part in a listing
