@@ -2,9 +2,13 @@
 use audit::sound;
 use listing::Page;
 use listing::count_page;
+use listing::refused_page;
+use listing::short_page;
 use listing::wires_page;
 use oracle::page::Page as Sheet;
 use search::route_all;
+use text::Judged;
+use text::read_into;
 use verdict::bytes::first;
 ghost use Rattle.model.specs.Record.{Legal};
 
@@ -62,4 +66,26 @@ pub fn routed(rec: &mut [u8], near: &mut Near) -> usize {
         return DAMAGED;
     }
     route_all(rec, near)
+}
+
+// The near side of a job that lacks `short` wires.
+fn list_near(rec: &Near, near: &Near, short: usize, page: &mut Page) -> usize {
+    short_page(rec, near, short, page)
+}
+
+// The listing of a text; gives its length.
+pub fn list_text(text: &[u8], page: &mut Page) -> usize {
+    let mut rec = [0u8; 32768];
+    let mut near = [0u8; 32768];
+    match read_into(text, &mut rec) {
+        Judged::WrongAt(o) => refused_page(o, page),
+        Judged::Reads => {
+            let short = routed(&mut rec, &mut near);
+            if short == 0 {
+                listed(&rec, page)
+            } else {
+                list_near(&rec, &near, short, page)
+            }
+        }
+    }
 }

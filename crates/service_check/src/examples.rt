@@ -1,6 +1,6 @@
 // The examples of document 01: those of its text, and those settled by hand.
-use crate::texts::list_text;
 use check::same;
+use compare::listed::list_text;
 use compare::listed::shown;
 use compare::said::ADDED;
 use compare::said::ALL_WIRED;

@@ -1,8 +1,8 @@
 -- `put_wires` is safe and ends. The loop's counter is at most its end. Assumes nothing.
 use Prim.Native.Nat.{_≤_, _-_}
 use borrow.Author.Needs.{needs}
-use Rattle.damage_check.proofs.parts.put_wires.Statement.{statement}
-use Rattle.damage_check.proofs.parts.put_wires.Tie as tie
+use Rattle.job_check.proofs.parts.put_wires.Statement.{statement}
+use Rattle.job_check.proofs.parts.put_wires.Tie as tie
 
 abbrev Inv-loop : tie.InvT-loop
 Inv-loop rec job out₀ at n₀ p₀ out n p = p ≤ 1600

@@ -1,8 +1,8 @@
 -- `put_parts` is safe and ends. The loop's counter is at most its end. Assumes nothing.
 use Prim.Native.Nat.{_≤_, _-_}
 use borrow.Author.Needs.{needs}
-use Rattle.damage_check.proofs.parts.put_parts.Statement.{statement}
-use Rattle.damage_check.proofs.parts.put_parts.Tie as tie
+use Rattle.job_check.proofs.parts.put_parts.Statement.{statement}
+use Rattle.job_check.proofs.parts.put_parts.Tie as tie
 
 abbrev Inv-loop : tie.InvT-loop
 Inv-loop rec out₀ at r c n₀ i₀ out n i = i ≤ 20000

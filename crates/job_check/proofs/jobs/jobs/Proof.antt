@@ -1,8 +1,8 @@
 -- `jobs` is safe and ends. The loop's counter is at most its end. Assumes nothing.
 use Prim.Native.Nat.{_≤_, _-_}
 use borrow.Author.Needs.{needs}
-use Rattle.damage_check.proofs.jobs.jobs.Statement.{statement}
-use Rattle.damage_check.proofs.jobs.jobs.Tie as tie
+use Rattle.job_check.proofs.jobs.jobs.Statement.{statement}
+use Rattle.job_check.proofs.jobs.jobs.Tie as tie
 
 abbrev Inv-loop : tie.InvT-loop
 Inv-loop tally₀ page₀ seed₀ k₀ tally page seed k = k ≤ 3000

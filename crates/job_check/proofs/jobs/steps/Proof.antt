@@ -1,8 +1,8 @@
 -- `steps` is safe and ends. The loop's counter is at most its end. Assumes nothing.
 use Prim.Native.Nat.{_≤_, _-_}
 use borrow.Author.Needs.{needs}
-use Rattle.damage_check.proofs.jobs.steps.Statement.{statement}
-use Rattle.damage_check.proofs.jobs.steps.Tie as tie
+use Rattle.job_check.proofs.jobs.steps.Statement.{statement}
+use Rattle.job_check.proofs.jobs.steps.Tie as tie
 
 abbrev Inv-loop : tie.InvT-loop
 Inv-loop tally₀ rec₀ job n k₀ tally rec k = k ≤ n

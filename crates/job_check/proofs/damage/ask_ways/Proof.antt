@@ -1,8 +1,8 @@
 -- `ask_ways` is safe and ends. The loop's counter is at most its end. Assumes nothing.
 use Prim.Native.Nat.{_≤_, _-_}
 use borrow.Author.Needs.{needs}
-use Rattle.damage_check.proofs.damage.ask_ways.Statement.{statement}
-use Rattle.damage_check.proofs.damage.ask_ways.Tie as tie
+use Rattle.job_check.proofs.damage.ask_ways.Statement.{statement}
+use Rattle.job_check.proofs.damage.ask_ways.Tie as tie
 
 abbrev Inv-loop : tie.InvT-loop
 Inv-loop tally₀ kept₀ rec seed x₀ k₀ tally kept x k = k ≤ 12

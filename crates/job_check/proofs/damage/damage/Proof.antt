@@ -1,14 +1,14 @@
 -- `damage` is safe and ends. The loop's counter is at most its end. Assumes nothing.
 use Prim.Native.Nat.{_≤_, _-_}
 use borrow.Author.Needs.{needs}
-use Rattle.damage_check.proofs.damage.damage.Statement.{statement}
-use Rattle.damage_check.proofs.damage.damage.Tie as tie
+use Rattle.job_check.proofs.damage.damage.Statement.{statement}
+use Rattle.job_check.proofs.damage.damage.Tie as tie
 
 abbrev Inv-loop : tie.InvT-loop
-Inv-loop tally₀ kept₀ seed₀ k₀ tally kept seed k = k ≤ 300
+Inv-loop tally₀ kept₀ seed₀ k₀ tally kept seed k = k ≤ 400
 
 abbrev μ-loop : tie.MeasureT-loop
-μ-loop tally₀ kept₀ seed₀ k₀ tally kept seed k = 300 - k
+μ-loop tally₀ kept₀ seed₀ k₀ tally kept seed k = 400 - k
 
 loop-holds : tie.Need-loop-holds Inv-loop μ-loop
 loop-holds c = search needs

@@ -1,8 +1,8 @@
 -- `series` is safe and ends. The loop's counter is at most its end. Assumes nothing.
 use Prim.Native.Nat.{_≤_, _-_}
 use borrow.Author.Needs.{needs}
-use Rattle.service_check.proofs.vectors.series.Statement.{statement}
-use Rattle.service_check.proofs.vectors.series.Tie as tie
+use Rattle.job_check.proofs.vectors.series.Statement.{statement}
+use Rattle.job_check.proofs.vectors.series.Tie as tie
 
 abbrev Inv-loop : tie.InvT-loop
 Inv-loop tally₀ page₀ stem k₀ tally page k = k ≤ 60

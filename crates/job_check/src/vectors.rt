@@ -1,7 +1,7 @@
 // The vectors of data/: NAME.job with NAME.expect, what `escape` prints for it, of a wired job the first line alone. A wired job's listing has to be legal.
-use crate::texts::list_text;
 use check::same;
 use compare::listed::held;
+use compare::listed::list_text;
 use compare::listed::shown;
 use listing::Page;
 use oracle::listing::LEGAL;

@@ -293,7 +293,7 @@ fn draw(tally: &mut Tally, kept: &mut Tally, seed: u32) -> u32 {
 // Damage to random jobs. `kept` counts the changes that left a legal record, and the others.
 pub fn damage(tally: &mut Tally, kept: &mut Tally) {
     let mut seed = 521288629;
-    for k in 0..300usize {
+    for k in 0..400usize {
         seed = draw(tally, kept, seed);
     }
 }
