@@ -2,6 +2,7 @@
 use oracle::page::Page as Sheet;
 use oracle::page::byte;
 use oracle::random::below;
+use oracle::random::xorshift;
 
 // Numbers that fit nothing, and some that only just do.
 fn wild(x: u32) -> usize {
@@ -52,6 +53,30 @@ pub fn pick_length(x: u32, n: usize, most: usize) -> usize {
         2 => std::num::wrapping_add_usize(n, 1),
         3 | 4 | 5 => most,
         _ => n,
+    }
+}
+
+// The length that is lent of a record, a row and a column, and the generator's number afterwards.
+pub struct Spot {
+    pub n: usize,
+    pub row: usize,
+    pub column: usize,
+    pub next: u32,
+}
+
+pub fn pick_spot(seed: u32, size: usize) -> Spot {
+    let a = xorshift(seed);
+    let b = xorshift(a);
+    let c = xorshift(b);
+    let n = pick_length(a, 32768, 32800);
+    let row = pick(b, 0, size);
+    let column = pick(c, 0, size);
+    let next = xorshift(c);
+    Spot {
+        n,
+        row,
+        column,
+        next,
     }
 }
 

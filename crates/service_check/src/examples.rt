@@ -1,20 +1,23 @@
 // The examples of document 01: those of its text, and those settled by hand.
-use crate::bytes::Tally;
-use crate::bytes::all;
-use crate::bytes::first;
-use crate::bytes::hold;
-use crate::listed::list_text;
-use crate::listed::shown;
-use crate::said::ADDED;
-use crate::said::ALL_WIRED;
-use crate::said::DONE;
-use crate::said::LACKS;
-use crate::said::REFUSED;
-use crate::said::SHORT;
-use crate::said::WRONG_TEXT;
-use crate::said::is;
 use check::same;
+use compare::listed::list_text;
+use compare::listed::shown;
+use compare::said::ADDED;
+use compare::said::ALL_WIRED;
+use compare::said::DONE;
+use compare::said::LACKS;
+use compare::said::REFUSED;
+use compare::said::SHORT;
+use compare::said::Said;
+use compare::said::WRONG_TEXT;
+use compare::said::agree;
+use compare::said::coded;
+use compare::said::is;
+use compare::said::say;
 use listing::Page;
+use verdict::bytes::Tally;
+use verdict::bytes::first;
+use verdict::bytes::hold;
 
 // The 64 bytes.
 const SIXTY_FOUR: [u8; 64] =
@@ -38,9 +41,18 @@ const THREE: [u8; 116] =
 // A missing pin, and nothing chosen.
 const MISSING: [u8; 52] = *b"(array (pins 2 2) (caps 1 2 0))\n(missing 0 1)\n(end)\n";
 
-fn reads(text: &[u8], kind: usize, number: usize) -> bool {
+// The listing of the four pins, and that of the three.
+const FOUR_LISTED: [u8; 170] =
+    *b"(wires 4)\n(wire (pin 0 0) (to 0 0 n 0) (out n 0))\n(wire (pin 0 1) (to 0 0 e 0) (out e 0))\n(wire (pin 1 0) (to 0 0 w 0) (out w 0))\n(wire (pin 1 1) (to 0 0 s 0) (out s 0))\n";
+
+const THREE_LISTED: [u8; 135] =
+    *b"(short 1)\n(near pin 0 0)\n(near pin 1 0)\n(near pin 1 1)\n(near 0 0 n)\n(near 0 0 e)\n(near 0 0 s)\n(near 0 0 w)\n(near 0 0 ci)\n(near 0 0 co)\n";
+
+// Read text answers so, on a record of its own; the text stands for what came out wrong.
+fn reads(tally: &mut Tally, text: &[u8], kind: usize, number: usize) {
     let mut rec = [7u8; 32768];
-    is(service::read_text(&mut rec, text), kind, number)
+    let answer = service::read_text(&mut rec, text);
+    hold(tally, is(answer, kind, number), text);
 }
 
 // The offset at which the first n of the 64 bytes are refused: that of the last line that begins in them.
@@ -58,11 +70,7 @@ fn cut_at(n: usize) -> usize {
 
 fn stops(tally: &mut Tally, n: usize) {
     let text: &[u8] = &SIXTY_FOUR;
-    hold(
-        tally,
-        reads(first(text, n), WRONG_TEXT, cut_at(n)),
-        b"a text that stops",
-    );
+    reads(tally, first(text, n), WRONG_TEXT, cut_at(n));
 }
 
 // Every text that stops before its end.
@@ -72,101 +80,84 @@ fn stops_all(tally: &mut Tally) {
     }
 }
 
+// The 64 bytes, lines exchanged, no byte, a byte after the end, and a missing pin.
 fn texts(tally: &mut Tally) {
-    hold(tally, reads(&SIXTY_FOUR, DONE, 0), b"the 64 bytes");
-    hold(tally, reads(&EXCHANGED, WRONG_TEXT, 45), b"lines exchanged");
-    hold(tally, reads(b"", WRONG_TEXT, 0), b"empty text");
-    hold(
-        tally,
-        reads(&AFTER, WRONG_TEXT, 64),
-        b"a byte after the end",
-    );
-    hold(tally, reads(&MISSING, DONE, 0), b"a missing pin");
+    reads(tally, &SIXTY_FOUR, DONE, 0);
+    reads(tally, &EXCHANGED, WRONG_TEXT, 45);
+    reads(tally, b"", WRONG_TEXT, 0);
+    reads(tally, &AFTER, WRONG_TEXT, 64);
+    reads(tally, &MISSING, DONE, 0);
     stops_all(tally);
 }
 
-fn lists(text: &[u8], expected: &[u8], page: &mut Page) -> bool {
+// The router lists the text so.
+fn lists(tally: &mut Tally, text: &[u8], expected: &[u8], page: &mut Page) {
     let n = list_text(text, page);
-    same(shown(page, n), expected)
+    hold(tally, same(shown(page, n), expected), expected);
 }
 
 fn listings(tally: &mut Tally) {
     let mut page = [0u8; 1048576];
-    hold(
+    lists(tally, &FOUR, &FOUR_LISTED, &mut page);
+    lists(
         tally,
-        lists(
-            &FOUR,
-            b"(wires 4)\n(wire (pin 0 0) (to 0 0 n 0) (out n 0))\n(wire (pin 0 1) (to 0 0 e 0) (out e 0))\n(wire (pin 1 0) (to 0 0 w 0) (out w 0))\n(wire (pin 1 1) (to 0 0 s 0) (out s 0))\n",
-            &mut page,
-        ),
-        b"four pins are listed",
+        &SIXTY_FOUR,
+        b"(short 1)\n(near pin 0 0)\n",
+        &mut page,
     );
-    hold(
-        tally,
-        lists(&SIXTY_FOUR, b"(short 1)\n(near pin 0 0)\n", &mut page),
-        b"the 64 bytes are listed",
-    );
-    hold(
-        tally,
-        lists(
-            &THREE,
-            b"(short 1)\n(near pin 0 0)\n(near pin 1 0)\n(near pin 1 1)\n(near 0 0 n)\n(near 0 0 e)\n(near 0 0 s)\n(near 0 0 w)\n(near 0 0 ci)\n(near 0 0 co)\n",
-            &mut page,
-        ),
-        b"three pins are listed",
-    );
-    hold(
-        tally,
-        lists(&EXCHANGED, b"(refused 6 45)\n", &mut page),
-        b"a wrong text is listed",
-    );
-    hold(
-        tally,
-        lists(&MISSING, b"(wires 0)\n", &mut page),
-        b"nothing chosen is listed",
-    );
+    lists(tally, &THREE, &THREE_LISTED, &mut page);
+    lists(tally, &EXCHANGED, b"(refused 6 45)\n", &mut page);
+    lists(tally, &MISSING, b"(wires 0)\n", &mut page);
 }
 
-// What New answers.
+// New answers so.
 fn news(
+    tally: &mut Tally,
     rows: usize,
     columns: usize,
     o: usize,
     d: usize,
     e: usize,
-    kind: usize,
-    number: usize,
-) -> bool {
+    expected: Said,
+) {
     let mut rec = [7u8; 32768];
-    is(service::new(&mut rec, rows, columns, o, d, e), kind, number)
+    let answer = service::new(&mut rec, rows, columns, o, d, e);
+    hold(tally, agree(coded(answer), expected), b"an example of new");
 }
 
+// The least and the greatest, and what is past them.
 fn ranges(tally: &mut Tally) {
-    hold(tally, news(40, 40, 1, 1, 0, DONE, 0), b"40 by 40");
-    hold(tally, news(1, 2, 1, 1, 0, REFUSED, 2), b"1 by 2");
-    hold(tally, news(41, 2, 1, 1, 0, REFUSED, 2), b"41 by 2");
-    hold(tally, news(2, 2, 8, 16, 16, DONE, 0), b"caps 8 16 16");
-    hold(tally, news(2, 2, 2, 5, 0, REFUSED, 3), b"caps 2 5 0");
-    hold(tally, news(2, 2, 2, 1, 0, REFUSED, 3), b"caps 2 1 0");
+    let done = say(DONE, 0);
+    let array = say(REFUSED, 2);
+    let caps = say(REFUSED, 3);
+    news(tally, 40, 40, 1, 1, 0, done);
+    news(tally, 1, 2, 1, 1, 0, array);
+    news(tally, 41, 2, 1, 1, 0, array);
+    news(tally, 2, 2, 8, 16, 16, done);
+    news(tally, 2, 2, 2, 5, 0, caps);
+    news(tally, 2, 2, 2, 1, 0, caps);
+}
+
+// The text is read into the record.
+fn read_into(tally: &mut Tally, rec: &mut [u8; 32768], text: &[u8]) {
+    let answer = service::read_text(rec, text);
+    hold(tally, is(answer, DONE, 0), text);
 }
 
 // The next step answers so.
-fn steps(rec: &mut [u8; 32768], kind: usize) -> bool {
+fn steps(tally: &mut Tally, rec: &mut [u8; 32768], kind: usize) {
     let mut scratch = [0u8; 65536];
-    is(service::step(rec, &mut scratch), kind, 0)
+    let answer = service::step(rec, &mut scratch);
+    hold(tally, is(answer, kind, 0), b"an example's step");
 }
 
-// Shortfall says what the job lacks; gives the near side.
-fn lacks(tally: &mut Tally, rec: &[u8; 32768], number: usize) -> [u8; 32768] {
+// Shortfall says what the job lacks, and the output, of bytes 2 before, is then this.
+fn lacks(tally: &mut Tally, rec: &[u8; 32768], number: usize, near: &[u8; 32768]) {
     let mut scratch = [0u8; 65536];
-    let mut near = [2u8; 32768];
-    let answer = service::shortfall(rec, &mut scratch, &mut near);
+    let mut mine = [2u8; 32768];
+    let answer = service::shortfall(rec, &mut scratch, &mut mine);
     hold(tally, is(answer, LACKS, number), b"an example's shortfall");
-    near
-}
-
-fn read_into(rec: &mut [u8; 32768], text: &[u8]) -> bool {
-    is(service::read_text(rec, text), DONE, 0)
+    hold(tally, same(&mine, near), b"an example's near side");
 }
 
 // The 64 bytes: short 1, only pin 0 0 near.
@@ -174,31 +165,17 @@ fn sixty_four(tally: &mut Tally) {
     let mut rec = [7u8; 32768];
     let mut near = [0u8; 32768];
     near[329] = 1;
-    hold(
-        tally,
-        read_into(&mut rec, &SIXTY_FOUR),
-        b"the 64 bytes read",
-    );
-    hold(tally, steps(&mut rec, SHORT), b"the 64 bytes are short");
-    let mine = lacks(tally, &rec, 1);
-    hold(tally, same(&mine, &near), b"the 64 bytes' near side");
+    read_into(tally, &mut rec, &SIXTY_FOUR);
+    steps(tally, &mut rec, SHORT);
+    lacks(tally, &rec, 1, &near);
 }
 
-// Nothing chosen: all wired, never "added".
+// Nothing chosen: all wired, never "added", and no near side.
 fn nothing(tally: &mut Tally) {
     let mut rec = [7u8; 32768];
-    hold(
-        tally,
-        read_into(&mut rec, &MISSING),
-        b"nothing chosen reads",
-    );
-    hold(
-        tally,
-        steps(&mut rec, ALL_WIRED),
-        b"nothing chosen is wired",
-    );
-    let mine = lacks(tally, &rec, 0);
-    hold(tally, all(&mine, 2), b"nothing chosen has no near side");
+    read_into(tally, &mut rec, &MISSING);
+    steps(tally, &mut rec, ALL_WIRED);
+    lacks(tally, &rec, 0, &[2u8; 32768]);
 }
 
 // The near side of the three pins: they, and the six of tile 0 0.
@@ -219,13 +196,11 @@ fn three_near() -> [u8; 32768] {
 // Three pins and one tile: two "added", short 1.
 fn three(tally: &mut Tally) {
     let mut rec = [7u8; 32768];
-    hold(tally, read_into(&mut rec, &THREE), b"three pins read");
-    hold(tally, steps(&mut rec, ADDED), b"three pins: one");
-    hold(tally, steps(&mut rec, ADDED), b"three pins: two");
-    hold(tally, steps(&mut rec, SHORT), b"three pins are short");
-    let mine = lacks(tally, &rec, 1);
-    let near = three_near();
-    hold(tally, same(&mine, &near), b"three pins' near side");
+    read_into(tally, &mut rec, &THREE);
+    steps(tally, &mut rec, ADDED);
+    steps(tally, &mut rec, ADDED);
+    steps(tally, &mut rec, SHORT);
+    lacks(tally, &rec, 1, &three_near());
 }
 
 pub fn examples(tally: &mut Tally) {

@@ -1,15 +1,15 @@
 // What document 01 has the operations answer, of a job that the oracle keeps and buffers of these lengths. The record itself is legal.
-use crate::said::ADDED;
-use crate::said::ALL_WIRED;
-use crate::said::DONE;
-use crate::said::LACKS;
-use crate::said::LISTS;
-use crate::said::REFUSED;
-use crate::said::SHORT;
-use crate::said::Said;
-use crate::said::WRONG_TEXT;
-use crate::said::WROTE;
-use crate::said::say;
+use compare::said::ADDED;
+use compare::said::ALL_WIRED;
+use compare::said::DONE;
+use compare::said::LACKS;
+use compare::said::LISTS;
+use compare::said::REFUSED;
+use compare::said::SHORT;
+use compare::said::Said;
+use compare::said::WRONG_TEXT;
+use compare::said::WROTE;
+use compare::said::say;
 use oracle::job::CHOSEN;
 use oracle::job::Job;
 use oracle::job::count_marked;

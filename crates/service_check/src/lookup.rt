@@ -1,14 +1,14 @@
 // The part at an index of a pin's wire, looked up in a listing.
-use crate::bytes::span;
-use crate::jobs::Record;
-use crate::vectors::held;
-use crate::verdict::is_wired;
 use check::same;
+use compare::listed::held;
 use oracle::page::Page as Sheet;
 use oracle::page::byte;
 use oracle::page::pair;
 use oracle::page::word;
 use oracle::scan::byte_at;
+use verdict::bytes::span;
+use verdict::legal::is_wired;
+use verdict::record::Record;
 
 // Where the bytes stand first in the list; its length where they stand nowhere.
 fn find(list: &[u8], w: &[u8]) -> usize {

@@ -3,7 +3,6 @@ use Prim.Native.Nat.{_≤_, _-_}
 use borrow.Author.Needs.{needs}
 use Rattle.service_check.proofs.examples.stops_all.Statement.{statement}
 use Rattle.service_check.proofs.examples.stops_all.Tie as tie
-use Rattle.service_check.proofs.examples.stops.Reads as stops-reads
 
 abbrev Inv-loop : tie.InvT-loop
 Inv-loop tally₀ n₀ tally n = n ≤ 64

@@ -4,8 +4,6 @@ use lib.ListN.{length}
 use borrow.Author.Needs.{needs}
 use Rattle.service_check.proofs.lookup.find.Statement.{statement}
 use Rattle.service_check.proofs.lookup.find.Tie as tie
-use Rattle.check.proofs.same.Reads as same-reads
-use Rattle.service_check.proofs.bytes.span.Reads as span-reads
 
 abbrev Inv-loop : tie.InvT-loop
 Inv-loop list w i₀ i = i ≤ length list

@@ -3,8 +3,6 @@ use Prim.Native.Nat.{_≤_, _-_}
 use borrow.Author.Needs.{needs}
 use Rattle.service_check.proofs.lookup.skip.Statement.{statement}
 use Rattle.service_check.proofs.lookup.skip.Tie as tie
-use Rattle.oracle.proofs.scan.byte_at.Reads as byte-at-reads
-use Rattle.service_check.proofs.lookup.past.Reads as past-reads
 
 abbrev Inv-loop : tie.InvT-loop
 Inv-loop list at index i₀ k₀ i k = k ≤ index

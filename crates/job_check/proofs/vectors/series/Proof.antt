@@ -1,0 +1,34 @@
+-- `series` is safe and ends. The loop's counter is at most its end. Assumes nothing.
+use Prim.Native.Nat.{_≤_, _-_}
+use borrow.Author.Needs.{needs}
+use Rattle.job_check.proofs.vectors.series.Statement.{statement}
+use Rattle.job_check.proofs.vectors.series.Tie as tie
+
+abbrev Inv-loop : tie.InvT-loop
+Inv-loop tally₀ page₀ stem k₀ tally page k = k ≤ 60
+
+abbrev μ-loop : tie.MeasureT-loop
+μ-loop tally₀ page₀ stem k₀ tally page k = 60 - k
+
+loop-holds : tie.Need-loop-holds Inv-loop μ-loop
+loop-holds c = search needs
+
+numbered-requires : tie.Need-numbered-requires Inv-loop μ-loop
+numbered-requires c κs = search needs
+
+add-k : tie.Need-add-k Inv-loop μ-loop
+add-k c = search needs
+
+loop-less : tie.Need-loop-less Inv-loop μ-loop
+loop-less c = search needs
+
+loop-again : tie.Need-loop-again Inv-loop μ-loop
+loop-again c = search needs
+
+returns : tie.Need-returns Inv-loop μ-loop
+returns c = search needs
+
+pub series-spec : {M : Type 1} → statement M
+series-spec =
+    tie.close
+    (tie.spec Inv-loop μ-loop loop-holds numbered-requires add-k loop-less loop-again returns)

@@ -1,0 +1,275 @@
+// Random jobs: each is read from the oracle's text, stepped to the end, and held to the oracle's greatest number, near side and listing.
+use crate::parts::list_by_parts;
+use check::same;
+use compare::lent::write_on;
+use compare::listed::held;
+use compare::listed::listed;
+use compare::listed::routed;
+use compare::listed::shown;
+use compare::said::ADDED;
+use compare::said::ALL_WIRED;
+use compare::said::DONE;
+use compare::said::LACKS;
+use compare::said::REFUSED;
+use compare::said::SHORT;
+use compare::said::WROTE;
+use compare::said::is;
+use listing::Page;
+use oracle::job::CHOSEN;
+use oracle::job::Job;
+use oracle::job::count_marked;
+use oracle::job::set_mark;
+use oracle::listing::LEGAL;
+use oracle::listing::check_listing;
+use oracle::near::shortfall;
+use oracle::random::random_job;
+use oracle::text::write_text;
+use verdict::bytes::Tally;
+use verdict::bytes::all;
+use verdict::bytes::begins;
+use verdict::bytes::hold;
+use verdict::bytes::line;
+use verdict::bytes::split_at;
+use verdict::legal::is_wired;
+use verdict::record::BEYOND;
+use verdict::record::Record;
+use verdict::record::count_wires;
+use verdict::record::hold_added;
+use verdict::record::holds_job;
+use verdict::record::holds_unwired;
+use verdict::record::legal;
+
+// One step, of which the answer has to be this.
+fn step(tally: &mut Tally, rec: &mut Record, job: &Job, expected: usize) {
+    let mut scratch = [9u8; 65540];
+    let before = *rec;
+    hold(
+        tally,
+        is(service::step(rec, &mut scratch), expected, 0),
+        b"step answers",
+    );
+    hold(
+        tally,
+        split_at(&scratch, 65536, 0, 9),
+        b"step clears the scratch",
+    );
+    if expected == ADDED {
+        hold_added(tally, &before, rec, job);
+    } else {
+        hold(tally, same(&before, rec), b"the last step changes nothing");
+    }
+}
+
+// Shortfall says what the oracle says.
+fn ask_shortfall(tally: &mut Tally, rec: &Record, missed: usize, near: &[u8; 32768]) {
+    let mut scratch = [9u8; 65540];
+    let mut output = [5u8; 32772];
+    hold(
+        tally,
+        is(
+            service::shortfall(rec, &mut scratch, &mut output),
+            LACKS,
+            missed,
+        ),
+        b"shortfall answers",
+    );
+    hold(
+        tally,
+        split_at(&scratch, 65536, 0, 9),
+        b"shortfall clears the scratch",
+    );
+    if missed == 0 {
+        hold(tally, all(&output, 5), b"shortfall leaves the output");
+    } else {
+        hold(
+            tally,
+            begins(&output, near, 5),
+            b"shortfall gives the near side",
+        );
+    }
+}
+
+// The wires of the record are legal, in the job whose other pins are idle; the listing is that which Part gives piece by piece.
+fn ask_listing(tally: &mut Tally, rec: &Record, job: &Job, page: &mut Page) -> usize {
+    let n = listed(rec, page);
+    let w = check_listing(&only_wired(rec, job), shown(page, n));
+    hold(tally, w.fault == LEGAL, b"the listing is legal");
+    n
+}
+
+fn idle(job: &mut Job, rec: &Record, p: usize) {
+    if !is_wired(rec, p) && oracle::job::mark(job, p) == CHOSEN {
+        set_mark(job, p, 0);
+    }
+}
+
+// The job with every chosen pin idle that has no wire.
+fn only_wired(rec: &Record, job: &Job) -> Job {
+    let mut other = *job;
+    for p in 0..1600 {
+        idle(&mut other, rec, p);
+    }
+    other
+}
+
+fn steps(tally: &mut Tally, rec: &mut Record, job: &Job, n: usize) {
+    for k in 0..n {
+        step(tally, rec, job, ADDED);
+    }
+}
+
+// The near side is that of the oracle; where nothing is missed, it is untouched.
+fn near_is(mine: &[u8; 32768], missed: usize, near: &[u8; 32768]) -> bool {
+    if missed == 0 {
+        all(mine, 5)
+    } else {
+        same(mine, near)
+    }
+}
+
+// The search lays all wires that fit at once, and says what the oracle says.
+fn ask_route(tally: &mut Tally, rec: &mut Record, missed: usize, near: &[u8; 32768]) {
+    let mut mine = [5u8; 32768];
+    hold(tally, routed(rec, &mut mine) == missed, b"the route lacks");
+    hold(
+        tally,
+        near_is(&mine, missed, near),
+        b"the route's near side",
+    );
+}
+
+// A copy of the record with all wires laid at once.
+fn ask_copy(tally: &mut Tally, rec: &Record, job: &Job, missed: usize, near: &[u8; 32768]) {
+    let mut copy = *rec;
+    ask_route(tally, &mut copy, missed, near);
+    hold(tally, holds_job(&copy, job), b"the route keeps the job");
+    hold(tally, legal(&copy), b"the route is legal");
+    let n = std::num::wrapping_add_usize(count_wires(&copy), missed);
+    hold(
+        tally,
+        n == count_marked(job, CHOSEN),
+        b"the route has its wires",
+    );
+}
+
+// The most steps taken in one job; what is left is then laid at once.
+const MOST: usize = 64;
+
+fn least(a: usize, b: usize) -> usize {
+    if a < b { a } else { b }
+}
+
+// Steps to the end, with Shortfall asked at the start, half way and at the end.
+fn step_on(
+    tally: &mut Tally,
+    rec: &mut Record,
+    job: &Job,
+    missed: usize,
+    near: &[u8; 32768],
+    page: &mut Page,
+) {
+    let greatest = std::num::wrapping_sub_usize(count_marked(job, CHOSEN), missed);
+    let n = least(greatest, MOST);
+    ask_shortfall(tally, rec, missed, near);
+    steps(tally, rec, job, n / 2);
+    ask_shortfall(tally, rec, missed, near);
+    ask_listing(tally, rec, job, page);
+    steps(tally, rec, job, n - n / 2);
+    if n < greatest {
+        ask_route(tally, rec, missed, near);
+    }
+    ask_shortfall(tally, rec, missed, near);
+    step(tally, rec, job, if missed == 0 { ALL_WIRED } else { SHORT });
+    hold(tally, count_wires(rec) == greatest, b"the greatest number");
+}
+
+// Write text gives the text, and no byte more.
+fn ask_text(tally: &mut Tally, rec: &Record, text: &[u8]) {
+    let n = text.len();
+    let mut out = [3u8; 66000];
+    let few = write_on(rec, &mut out, std::num::wrapping_sub_usize(n, 1));
+    hold(
+        tally,
+        is(few, REFUSED, 7),
+        b"write text refuses a short output",
+    );
+    hold(tally, all(&out, 3), b"write text leaves a short output");
+    hold(
+        tally,
+        is(write_on(rec, &mut out, n), WROTE, n),
+        b"write text answers",
+    );
+    hold(tally, begins(&out, text, 3), b"write text gives the text");
+    let mut more = [3u8; 66000];
+    hold(
+        tally,
+        is(write_on(rec, &mut more, 66000), WROTE, n),
+        b"write text answers with room",
+    );
+    hold(tally, same(&more, &out), b"write text leaves the rest");
+}
+
+// The listing again, from what Part answers.
+fn ask_parts(tally: &mut Tally, rec: &Record, job: &Job, list: &[u8]) {
+    let mut sheet = [0u8; 262144];
+    let n = list_by_parts(rec, job, count_wires(rec), &mut sheet);
+    hold(
+        tally,
+        same(held(&sheet, n), list),
+        b"the parts are the listing",
+    );
+}
+
+// All that is asked of one job; of the parts only where they are few.
+fn judge(tally: &mut Tally, job: &Job, page: &mut Page, parts: bool) {
+    let mut sheet = [0u8; 262144];
+    let mut near = [0u8; 32768];
+    let mut rec = [BEYOND; 32800];
+    let n = write_text(job, &mut sheet);
+    let missed = shortfall(job, &mut near);
+    hold(
+        tally,
+        is(service::read_text(&mut rec, held(&sheet, n)), DONE, 0),
+        b"read text answers",
+    );
+    hold(tally, holds_unwired(&rec, job), b"read text gives the job");
+    ask_copy(tally, &rec, job, missed, &near);
+    step_on(tally, &mut rec, job, missed, &near, page);
+    let m = ask_listing(tally, &rec, job, page);
+    ask_text(tally, &rec, held(&sheet, n));
+    if parts {
+        ask_parts(tally, &rec, job, shown(page, m));
+    }
+}
+
+// How many rows and columns the k-th job has at most.
+fn size(k: usize) -> usize {
+    if k % 256 == 255 {
+        40
+    } else if k % 16 == 15 {
+        14
+    } else {
+        8
+    }
+}
+
+// The k-th job; gives the generator's number afterwards.
+fn draw(tally: &mut Tally, page: &mut Page, seed: u32, k: usize) -> u32 {
+    let mut job = [0u8; 3205];
+    let wrong = tally[1];
+    let next = random_job(seed, size(k), &mut job);
+    judge(tally, &job, page, k % 32 == 0);
+    if tally[1] != wrong {
+        line(b"in the random job", seed as u64);
+    }
+    next
+}
+
+// Random jobs, each drawn with the number that the one before left.
+pub fn jobs(tally: &mut Tally) {
+    let mut page = [0u8; 1048576];
+    let mut seed = 2463534242;
+    for k in 0..3000 {
+        seed = draw(tally, &mut page, seed, k);
+    }
+}

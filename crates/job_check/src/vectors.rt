@@ -1,0 +1,86 @@
+// The vectors of data/: NAME.job with NAME.expect, what `escape` prints for it, of a wired job the first line alone. A wired job's listing has to be legal.
+use check::same;
+use compare::listed::held;
+use compare::listed::list_text;
+use compare::listed::shown;
+use listing::Page;
+use oracle::listing::LEGAL;
+use oracle::listing::check_listing;
+use oracle::page::Page as Sheet;
+use oracle::page::byte;
+use oracle::page::decimal;
+use oracle::page::word;
+use oracle::text::read_text;
+use verdict::bytes::Tally;
+use verdict::bytes::first;
+use verdict::bytes::hold;
+
+// Reads the file of the vector `name` that has this ending, and gives its length.
+fn load(name: &[u8], ending: &[u8], sheet: &mut Sheet) -> usize {
+    let mut path = [0u8; 262144];
+    let a = word(&mut path, 0, name);
+    let b = word(&mut path, a, ending);
+    let fd = os::open_read(held(&path, b));
+    if fd < 0 {
+        os::fail(held(&path, b));
+        return 0;
+    }
+    let n = io::read_full(fd, sheet);
+    libc::close(fd);
+    n
+}
+
+// The listing of a wired job begins as expected and is legal.
+fn is_wired(text: &[u8], expected: &[u8], list: &[u8]) -> bool {
+    let mut job = [0u8; 3205];
+    read_text(text, &mut job);
+    let w = check_listing(&job, list);
+    same(first(list, expected.len()), expected) && w.fault == LEGAL
+}
+
+// The router's listing of the text is the expected one.
+fn is_expected(text: &[u8], expected: &[u8], page: &mut Page) -> bool {
+    let n = list_text(text, page);
+    if same(first(expected, 7), b"(wires ") {
+        return is_wired(text, expected, shown(page, n));
+    }
+    same(shown(page, n), expected)
+}
+
+fn vector(tally: &mut Tally, page: &mut Page, name: &[u8]) {
+    let mut text = [0u8; 262144];
+    let mut expected = [0u8; 262144];
+    let n = load(name, b".job", &mut text);
+    let m = load(name, b".expect", &mut expected);
+    hold(
+        tally,
+        is_expected(held(&text, n), held(&expected, m), page),
+        name,
+    );
+}
+
+// The vector STEM with the number k, of three digits.
+fn numbered(tally: &mut Tally, page: &mut Page, stem: &[u8], k: usize) {
+    let mut name = [0u8; 262144];
+    let a = word(&mut name, 0, stem);
+    let b = if k < 10 { byte(&mut name, a, b'0') } else { a };
+    let c = if k < 100 { byte(&mut name, b, b'0') } else { b };
+    let d = decimal(&mut name, c, k);
+    vector(tally, page, held(&name, d));
+}
+
+fn series(tally: &mut Tally, page: &mut Page, stem: &[u8]) {
+    for k in 0..60 {
+        numbered(tally, page, stem, k);
+    }
+}
+
+pub fn vectors(tally: &mut Tally) {
+    let mut page = [0u8; 1048576];
+    series(tally, &mut page, b"job");
+    series(tally, &mut page, b"text");
+    vector(tally, &mut page, b"empty");
+    vector(tally, &mut page, b"four");
+    vector(tally, &mut page, b"short64");
+    vector(tally, &mut page, b"three");
+}

@@ -1,0 +1,145 @@
+// The calls that make or edit a job: each is held to what it has to answer, and the record to the job afterwards.
+use crate::draws::alter;
+use crate::draws::pick;
+use crate::draws::pick_length;
+use crate::draws::pick_mark;
+use crate::draws::pick_spot;
+use crate::draws::pick_state;
+use crate::expect::cell;
+use crate::expect::expect_close;
+use crate::expect::expect_mark;
+use crate::expect::expect_new;
+use crate::expect::expect_read;
+use crate::expect::mark_at;
+use crate::expect::state_at;
+use check::same;
+use compare::lent::close_on;
+use compare::lent::mark_on;
+use compare::lent::new_on;
+use compare::lent::read_on;
+use compare::listed::held;
+use compare::said::DONE;
+use compare::said::Said;
+use compare::said::agree;
+use compare::said::coded;
+use oracle::job::Job;
+use oracle::job::fresh;
+use oracle::job::set_mark;
+use oracle::job::set_state;
+use oracle::random::random_job;
+use oracle::random::xorshift;
+use oracle::text::read_text;
+use oracle::text::write_text;
+use service::Answer;
+use verdict::bytes::Tally;
+use verdict::bytes::hold;
+use verdict::record::Record;
+use verdict::record::holds_unwired;
+
+pub fn hold_answer(tally: &mut Tally, answer: Answer, expected: Said, what: &[u8]) {
+    hold(tally, agree(coded(answer), expected), what);
+}
+
+// The bytes of the record are as they were.
+pub fn hold_same(tally: &mut Tally, before: &Record, rec: &Record) {
+    hold(tally, same(before, rec), b"a call that changes nothing");
+}
+
+// The job is a new one, with no wire, where the call is accepted.
+fn hold_anew(
+    tally: &mut Tally,
+    before: &Record,
+    rec: &Record,
+    job: &mut Job,
+    other: &Job,
+    accepted: bool,
+) {
+    if accepted {
+        *job = *other;
+        hold(tally, holds_unwired(rec, job), b"a new job");
+    } else {
+        hold_same(tally, before, rec);
+    }
+}
+
+pub fn call_new(tally: &mut Tally, rec: &mut Record, job: &mut Job, seed: u32) -> u32 {
+    let a = xorshift(seed);
+    let b = xorshift(a);
+    let c = xorshift(b);
+    let d = xorshift(c);
+    let e = xorshift(d);
+    let f = xorshift(e);
+    let n = pick_length(a, 32768, 32800);
+    let rows = pick(b, 2, 7);
+    let columns = pick(c, 2, 7);
+    let side = pick(d, 1, 4);
+    let diagonal = pick(e, side, 4);
+    let extra = pick(f, 0, 18);
+    let before = *rec;
+    let answer = new_on(rec, n, rows, columns, side, diagonal, extra);
+    let expected = expect_new(n, rows, columns, side, diagonal, extra);
+    let other = fresh(rows, columns, side, diagonal, extra);
+    hold_answer(tally, answer, expected, b"new answers");
+    hold_anew(tally, &before, rec, job, &other, expected.kind == DONE);
+    f
+}
+
+pub fn call_read(tally: &mut Tally, rec: &mut Record, job: &mut Job, seed: u32) -> u32 {
+    let mut sheet = [0u8; 262144];
+    let mut other = [0u8; 3205];
+    let x = random_job(seed, 7, &mut other);
+    let y = xorshift(x);
+    let length = write_text(&other, &mut sheet);
+    let m = alter(&mut sheet, length, x);
+    let reading = read_text(held(&sheet, m), &mut other);
+    let n = pick_length(y, 32768, 32800);
+    let before = *rec;
+    let answer = read_on(rec, n, held(&sheet, m));
+    let expected = expect_read(n, reading);
+    hold_answer(tally, answer, expected, b"read text answers");
+    hold_anew(tally, &before, rec, job, &other, expected.kind == DONE);
+    y
+}
+
+// The record after an edit: as it was, or without a wire where the edit changes something.
+fn hold_edit(tally: &mut Tally, before: &Record, rec: &Record, job: &Job, changes: bool) {
+    if changes {
+        hold(
+            tally,
+            holds_unwired(rec, job),
+            b"an edit takes out all wires",
+        );
+    } else {
+        hold_same(tally, before, rec);
+    }
+}
+
+pub fn call_mark(tally: &mut Tally, rec: &mut Record, job: &mut Job, seed: u32) -> u32 {
+    let at = pick_spot(seed, 8);
+    let value = pick_mark(at.next);
+    let before = *rec;
+    let answer = mark_on(rec, at.n, at.row, at.column, value);
+    let expected = expect_mark(job, at.n, at.row, at.column, value);
+    hold_answer(tally, answer, expected, b"mark answers");
+    let changes = expected.kind == DONE && mark_at(job, at.row, at.column) != value;
+    if changes {
+        set_mark(job, cell(at.row, at.column), value);
+    }
+    hold_edit(tally, &before, rec, job, changes);
+    at.next
+}
+
+pub fn call_close(tally: &mut Tally, rec: &mut Record, job: &mut Job, seed: u32) -> u32 {
+    let at = pick_spot(seed, 8);
+    let value = pick_state(at.next);
+    let before = *rec;
+    let answer = close_on(rec, at.n, at.row, at.column, value);
+    let expected = expect_close(job, at.n, at.row, at.column, value);
+    hold_answer(tally, answer, expected, b"close answers");
+    let changes = expected.kind == DONE && state_at(job, at.row, at.column) != value;
+    if changes {
+        set_state(job, cell(at.row, at.column), value);
+    }
+    hold_edit(tally, &before, rec, job, changes);
+    at.next
+}

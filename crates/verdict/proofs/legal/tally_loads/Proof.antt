@@ -1,0 +1,34 @@
+-- `tally_loads` is safe and ends. The loop's counter is at most its end. Assumes nothing.
+use Prim.Native.Nat.{_≤_, _-_}
+use borrow.Author.Needs.{needs}
+use Rattle.verdict.proofs.legal.tally_loads.Statement.{statement}
+use Rattle.verdict.proofs.legal.tally_loads.Tie as tie
+
+abbrev Inv-loop : tie.InvT-loop
+Inv-loop rec into₀ out₀ i₀ into out i = i ≤ 22400
+
+abbrev μ-loop : tie.MeasureT-loop
+μ-loop rec into₀ out₀ i₀ into out i = 22400 - i
+
+loop-holds : tie.Need-loop-holds Inv-loop μ-loop
+loop-holds c = search needs
+
+tally-load-requires : tie.Need-tally-load-requires Inv-loop μ-loop
+tally-load-requires c κs = search needs
+
+add-i : tie.Need-add-i Inv-loop μ-loop
+add-i c = search needs
+
+loop-less : tie.Need-loop-less Inv-loop μ-loop
+loop-less c = search needs
+
+loop-again : tie.Need-loop-again Inv-loop μ-loop
+loop-again c = search needs
+
+returns : tie.Need-returns Inv-loop μ-loop
+returns c = search needs
+
+pub tally-loads-spec : {M : Type 1} → statement M
+tally-loads-spec =
+    tie.close
+    (tie.spec Inv-loop μ-loop loop-holds tally-load-requires add-i loop-less loop-again returns)

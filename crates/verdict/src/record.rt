@@ -1,0 +1,75 @@
+// Records in a buffer with a margin: the job that one holds, in the bytes of the oracle's Job, its wires, and what a step has added to it.
+use crate::bytes::Tally;
+use crate::bytes::all;
+use crate::bytes::hold;
+use crate::bytes::rest;
+use crate::bytes::span;
+use crate::legal::is_legal;
+use crate::legal::is_wired;
+use check::same;
+ghost use Prim.Native.Nat.{_<_};
+
+// A record with 32 bytes more, which no operation touches.
+pub type Record = [u8; 32800];
+
+// What they hold.
+pub const BEYOND: u8 = 165;
+
+// The record holds the job, and the bytes that nothing uses are as they should be.
+pub fn holds_job(rec: &Record, job: &[u8]) -> bool {
+    same(span(rec, 0, 5), span(job, 0, 5))
+        && all(span(rec, 5, 763), 0)
+        && same(span(rec, 768, 3200), span(job, 5, 3200))
+        && all(span(rec, 26368, 6400), 0)
+        && all(rest(rec, 32768), BEYOND)
+}
+
+pub fn legal(rec: &Record) -> bool {
+    is_legal(rec)
+}
+
+// The record holds the job without a wire.
+pub fn holds_unwired(rec: &Record, job: &[u8]) -> bool {
+    holds_job(rec, job) && all(span(rec, 3968, 22400), 0)
+}
+
+fn wired(rec: &Record, p: usize) -> usize
+    ensures { λ r. ⌜ r < 2 ⌝ }
+{
+    if is_wired(rec, p) { 1 } else { 0 }
+}
+
+// How many pins have a wire.
+pub fn count_wires(rec: &Record) -> usize
+    ensures { λ r. ⌜ r < 1601 ⌝ }
+{
+    let mut n = 0;
+    for p in 0..1600 {
+        n += wired(rec, p);
+    }
+    n
+}
+
+// Every pin that has a wire in the one record has one in the other.
+fn stay_wired(before: &Record, rec: &Record) -> bool {
+    let mut p = 0;
+    while p < 1600 {
+        if is_wired(before, p) && !is_wired(rec, p) {
+            return false;
+        }
+        p += 1;
+    }
+    true
+}
+
+// A step has added a wire: the record is legal, one pin more has a wire, and those that had one have one.
+pub fn hold_added(tally: &mut Tally, before: &Record, rec: &Record, job: &[u8]) {
+    hold(tally, holds_job(rec, job), b"a step keeps the job");
+    hold(tally, legal(rec), b"a step leaves a legal record");
+    hold(
+        tally,
+        count_wires(rec) == count_wires(before) + 1,
+        b"a step adds one wire",
+    );
+    hold(tally, stay_wired(before, rec), b"a step keeps pins wired");
+}
