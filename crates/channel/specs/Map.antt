@@ -29,6 +29,7 @@ pub mod Entered
 pub mod Ways
 pub mod Caps
 pub mod Moving
+pub mod Tried
 pub mod Laying
 pub mod Origins
 pub mod Fresh
