@@ -1,5 +1,5 @@
--- What the loop finder answers: that every loaded dart falls along an order of the spots, so that no chain of loaded darts is closed; or a closed path of
--- loaded darts, by its spots and slots. Assumes nothing.
+-- What the loop finder answers: that behind fresh links every loaded dart falls along an order of the spots, so that no chain of loaded darts is closed there;
+-- or a closed path of loaded darts, by its spots and slots. Assumes nothing.
 pub mod Dfs
 pub mod Marks
 pub mod Stack
@@ -10,7 +10,7 @@ pub mod Stands
 use mathlib.Core.Path.{_≡_}
 use mathlib.Core.Bool.{Bool, true, false}
 use mathlib.Core.List.{List, [], _∷_}
-use Prim.Native.Nat.{ℕ, zero, suc, _+_, _-_, _*_, _/_, _≤_, _<_}
+use Prim.Native.Nat.{ℕ, zero, suc, _+_, _-_, _*_, _≤_, _<_}
 use lib.Dec.{T}
 use lib.ListN.{length, getD}
 use Rattle.flow.specs.Network.{Path}
@@ -19,7 +19,7 @@ use Rattle.model.specs.Job.{Job, arrayFits}
 use Rattle.model.specs.Links.{Place, Step}
 use Rattle.model.specs.Loads.{Feasible, Trail}
 use Rattle.model.specs.Record.{load}
-use Rattle.channel.specs.Map.{spots, darts, rev, view}
+use Rattle.channel.specs.Map.{spots, darts, view}
 use Rattle.channel.specs.Map.Fresh.{isFresh}
 use Rattle.channel.specs.Map.Network.Loops.{FallsFrom}
 use Rattle.channel.specs.Map.Network.{net}
@@ -46,18 +46,14 @@ pub record Closed (rec st sl : List ℕ) (j n : ℕ) : Type 0 where
   pub darts< : (i : ℕ) → i < n → 8 * getD st i 0 + getD sl i 0 < darts
   pub path : (J : Job) → Path (net J) (Loaded (view rec)) (ringDarts st sl j (n - j)) (getD st j 0) (getD st j 0)
 
-pub data Answer (rec fin st sl : List ℕ) : Found → Type 0 where
-  free : ((d : ℕ) → d < darts → 0 < view rec d → getD fin (rev d / 8) 0 < getD fin (d / 8) 0) → Answer rec fin st sl Free
-  ring : {j n : ℕ} → Closed rec st sl j n → Answer rec fin st sl (Ring j n)
-
 -- Along fin every loaded dart from a spot of 2 or more falls, to a spot of 2 or more, and the wires of fresh links leave such spots.
 pub record Settled (old rec fin : List ℕ) : Type 0 where
   pub falls : FallsFrom 2 rec (λ u. getD fin u 0)
   pub fresh : (i : ℕ) → i < 22400 → T (isFresh old rec i) → originOf rec i < spots → 2 ≤ getD fin (originOf rec i) 0
 
-pub data FreshAnswer (old rec fin st sl : List ℕ) : Found → Type 0 where
-  settled : Settled old rec fin → FreshAnswer old rec fin st sl Free
-  loop : {j n : ℕ} → Closed rec st sl j n → FreshAnswer old rec fin st sl (Ring j n)
+pub data Answer (old rec fin st sl : List ℕ) : Found → Type 0 where
+  free : Settled old rec fin → Answer old rec fin st sl Free
+  ring : {j n : ℕ} → Closed rec st sl j n → Answer old rec fin st sl (Ring j n)
 
 -- b says whether a loop stands, for every job with feasible loads
 pub record LoopStands (rec : List ℕ) (b : Bool) : Type 0 where

@@ -1,9 +1,10 @@
-// Closed chains of loaded links. A depth-first search with its own stack, from the spots that the wires of the load bytes leave, says that there is none,
-// with an order along which every loaded dart falls, or gives one. It works on what is lent to it.
+// Closed chains of loaded links. A depth-first search with its own stack, from the spots that the wires of fresh links leave, says that there is none behind
+// them, with an order along which loaded darts fall, or gives one. A link is fresh that has the first wire of a direction, beside old loads. The search works
+// on what is lent to it.
 ghost use Prim.Native.Nat.{_+_, _*_, _≤_, _<_};
 ghost use lib.ListN.{length, set};
 ghost use Rattle.channel.specs.Map.{spots};
-ghost use Rattle.audit.specs.Loops.{Room, Answer, FreshAnswer, LoopStands};
+ghost use Rattle.audit.specs.Loops.{Room, Answer, LoopStands};
 ghost use Rattle.audit.specs.Loops.Dfs.{Cleared, Live, Scanned, Placed, Dfs, Turned, Searched, Traced, FreshTraced};
 
 // No closed chain; or the spots of one in st, and its slots in sl, from the first number to before the second.
@@ -159,26 +160,6 @@ fn trace(rec: &[u8], fin: &mut [u16], st: &mut [u16], sl: &mut [u8], i: usize, m
     explore(rec, fin, st, sl, r, m)
 }
 
-// Says that no chain of loaded darts is closed, with fin as the order along which they fall; or gives one.
-pub fn find(rec: &[u8], fin: &mut [u16], st: &mut [u16], sl: &mut [u8]) -> Found
-    requires { ⌜ Room (now rec) (now fin) (now st) (now sl) ⌝ }
-    ensures { λ f. ⌜ Answer (now (rec .entry)) (now (fin .exit)) (now (st .exit)) (now (sl .exit)) f ⌝ }
-{
-    clear(fin);
-    let mut m = 0;
-    for i in 0..22400 {
-        match trace(rec, fin, st, sl, i, m) {
-            Search::Over(a) => {
-                m = a;
-            }
-            Search::Ring(a, b) => {
-                return Found::Ring(a, b);
-            }
-        }
-    }
-    Found::Free
-}
-
 // All that the wires of the i-th load byte lead to if its link is fresh, with m done.
 fn trace_fresh(
     old: &[u8],
@@ -230,9 +211,9 @@ fn trace_run(
 
 // Says that no chain of loaded darts behind the fresh links is closed, with fin as the order along which they fall; or gives one. With no closed chain in
 // the old loads there is then none at all.
-pub fn find_fresh(old: &[u8], rec: &[u8], fin: &mut [u16], st: &mut [u16], sl: &mut [u8]) -> Found
+pub fn find(old: &[u8], rec: &[u8], fin: &mut [u16], st: &mut [u16], sl: &mut [u8]) -> Found
     requires { ⌜ Room (now rec) (now fin) (now st) (now sl) × (32768 ≤ length (now old)) ⌝ }
-    ensures { λ f. ⌜ FreshAnswer (now (old .entry)) (now (rec .entry)) (now (fin .exit)) (now (st .exit)) (now (sl .exit)) f ⌝ }
+    ensures { λ f. ⌜ Answer (now (old .entry)) (now (rec .entry)) (now (fin .exit)) (now (st .exit)) (now (sl .exit)) f ⌝ }
 {
     clear(fin);
     let mut m = 0;
@@ -249,15 +230,16 @@ pub fn find_fresh(old: &[u8], rec: &[u8], fin: &mut [u16], st: &mut [u16], sl: &
     Found::Free
 }
 
-// Whether a loop stands, in a record that is feasible.
+// Whether a loop stands, in a record that is feasible. Beside old loads of 0 every link with a wire is fresh.
 pub fn stands(rec: &[u8]) -> bool
     requires { ⌜ 32768 ≤ length (now rec) ⌝ }
     ensures { λ b. ⌜ LoopStands (now (rec .entry)) b ⌝ }
 {
+    let old = [0u8; 32768];
     let mut fin = [0u16; 13128];
     let mut st = [0u16; 13128];
     let mut sl = [0u8; 13128];
-    match find(rec, &mut fin, &mut st, &mut sl) {
+    match find(&old, rec, &mut fin, &mut st, &mut sl) {
         Found::Free => false,
         Found::Ring(_, _) => true,
     }

@@ -17,7 +17,7 @@ use Rattle.channel.specs.Map.Network.Flows.{starts-count}
 use Rattle.channel.specs.Map.Fresh.{fresh-loops}
 use Rattle.search.specs.Laid.{laidAll, laid-last}
 use Rattle.search.specs.Unlooped.{Lighter, takes-out}
-use Rattle.audit.specs.Loops.{ringDarts, Closed, Settled, FreshAnswer, settled, loop}
+use Rattle.audit.specs.Loops.{ringDarts, Closed, Settled, Answer, free, ring}
 use Rattle.search.specs.Pins.{Held}
 use Rattle.search.specs.Loose.{Loosened, Untangled, Freed}
 use Rattle.audit.specs.declared.loops.Found.{Found}
@@ -121,15 +121,15 @@ untangled-freed {old} {rec} {rec′} {fin} U =
 
 -- ---- what a caller reads off the finder's answer
 
-module _ {old rec fin st sl : List ℕ} {a : Found} (r : FreshAnswer old rec fin st sl a) where
+module _ {old rec fin st sl : List ℕ} {a : Found} (r : Answer old rec fin st sl a) where
   pub found-free : a ≡ Free → Settled old rec fin
-  found-free e = by (subst (λ (x : Found). FreshAnswer old rec fin st sl x) e r)
+  found-free e = by (subst (λ (x : Found). Answer old rec fin st sl x) e r)
     where
-      by : FreshAnswer old rec fin st sl Free → Settled old rec fin
-      by (settled f) = f
+      by : Answer old rec fin st sl Free → Settled old rec fin
+      by (free f) = f
 
   pub found-ring : {j n : ℕ} → a ≡ Ring j n → Closed rec st sl j n
-  found-ring {j} {n} e = by (subst (λ (x : Found). FreshAnswer old rec fin st sl x) e r)
+  found-ring {j} {n} e = by (subst (λ (x : Found). Answer old rec fin st sl x) e r)
     where
-      by : FreshAnswer old rec fin st sl (Ring j n) → Closed rec st sl j n
-      by (loop c) = c
+      by : Answer old rec fin st sl (Ring j n) → Closed rec st sl j n
+      by (ring c) = c

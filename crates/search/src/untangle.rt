@@ -8,7 +8,7 @@ ghost use Rattle.search.specs.Laid.{laidAll};
 ghost use Rattle.audit.specs.Loops.{ringDarts};
 ghost use Rattle.search.specs.Loose.{Ringed, Tangled, Untangled, Laden, Freed};
 use audit::loops::Found;
-use audit::loops::find_fresh;
+use audit::loops::find;
 use channel::lay;
 use channel::reverse;
 
@@ -32,7 +32,7 @@ fn take_rings_out(old: &[u8], loads: &mut [u8], fin: &mut [u16], st: &mut [u16],
     ensures { λ _. ⌜ Untangled (now (old .entry)) (now (loads .entry)) (now (loads .exit)) (now (fin .exit)) ⌝ }
 {
     loop {
-        match find_fresh(old, loads, fin, st, sl) {
+        match find(old, loads, fin, st, sl) {
             Found::Free => {
                 return;
             }

@@ -11,7 +11,7 @@ use Rattle.channel.specs.Map.{spots}
 use Rattle.channel.specs.Map.Fresh.{isFresh}
 use Rattle.channel.specs.Map.Origins.{originOf}
 use Rattle.audit.specs.Loops.{Settled, Closed}
-use Rattle.audit.specs.Loops.Dfs.{Dfs, Kept, Searched, over, ring, Traced, Begun, FreshTraced}
+use Rattle.audit.specs.Loops.Dfs.{Dfs, Kept, over, ring, Traced, Begun, FreshTraced}
 use Rattle.audit.specs.Loops.Marks.{below-or}
 use Rattle.audit.specs.Loops.Rings.{done-falls}
 use Rattle.audit.specs.Loops.Stack.{seen-done}

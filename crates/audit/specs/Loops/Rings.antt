@@ -1,9 +1,9 @@
--- The loop finder's two ends. With the spots of all load bytes done, every loaded dart falls along the marks. With an edge from the top of the stack to a spot on it, the
+-- The loop finder's two ends. From a spot that is done loaded darts fall along the marks. With an edge from the top of the stack to a spot on it, the
 -- stack from that spot on is a closed path: no spot stands on it twice, so no dart comes twice. Assumes nothing.
 use mathlib.Core.Path.{_≡_, refl, sym, ap, subst}
-use mathlib.Core.Logic.{_≢_, _⊎_, ⊎-elim}
+use mathlib.Core.Logic.{_⊎_, ⊎-elim}
 use mathlib.Core.List.{List}
-use Prim.Native.Nat.{ℕ, zero, suc, _+_, _-_, _*_, _/_, _%_, _≤_, _<_}
+use Prim.Native.Nat.{ℕ, zero, suc, _+_, _-_, _*_, _/_, _%_, _<_}
 use native.Mathlib.Nat.{eq-or-lt-of-le}
 use native.Mathlib.Numerals.{add-one}
 use native.Mathlib.Omega.{arith}
@@ -13,15 +13,15 @@ use Rattle.sums.specs.Sums.{when-other}
 use Rattle.flow.specs.Network.{times, Path, here}
 use Rattle.flow.specs.Cancel.{Loaded}
 use Rattle.model.specs.Job.{Job}
-use Rattle.channel.specs.Map.{spots, darts, rev, view}
+use Rattle.channel.specs.Map.{darts, rev, view}
 use Rattle.channel.specs.Map.Numbers.{slot-dart, tail-spot}
 use Rattle.channel.specs.Map.Network.{net, path-along}
 use Rattle.channel.specs.Map.Network.Loops.{FallsFrom}
-use Rattle.channel.specs.Map.Origins.{originOf, Begins, leaves, goesOn, loaded-begins, loaded-slot}
+use Rattle.channel.specs.Map.Origins.{loaded-slot}
 use Rattle.audit.specs.Loops.{ringDarts, Closed}
 use Rattle.audit.specs.Loops.Dfs.{Edge, Dfs, Placed}
 use Rattle.audit.specs.Loops.Marks.{below-or}
-use Rattle.audit.specs.Loops.Stack.{edge-node, seen-done}
+use Rattle.audit.specs.Loops.Stack.{edge-node}
 
 -- a loaded dart is an edge of its spot
 loaded-edge : (rec : List ℕ) (d : ℕ) → d < darts → 0 < view rec d → Edge rec (d / 8) (d % 8) (rev d / 8)
@@ -37,22 +37,6 @@ loaded-edge rec d ld l =
 -- from a spot that is done loaded darts fall
 pub done-falls : {rec fin st sl : List ℕ} {n m : ℕ} → Dfs rec fin st sl n m → FallsFrom 2 rec (λ u. getD fin u 0)
 done-falls {rec} s = record { fall = λ d ld l b. s .falls (d / 8) (tail-spot d ld) b (d % 8) (rev d / 8) (loaded-edge rec d ld l) }
-
--- the spots of the load bytes are seen, and none is on the stack
-module _ {rec fin st sl : List ℕ} {m : ℕ} (s : Dfs rec fin st sl 0 m) (all : (i : ℕ) → i < 22400 → originOf rec i < spots → getD fin (originOf rec i) 0 ≢ 0) where
-  origin-done : (i u : ℕ) → i < 22400 → originOf rec i ≡ u → u < spots → 2 ≤ getD fin u 0
-  origin-done i u l e lu = seen-done s refl u lu (subst (λ (x : ℕ). getD fin x 0 ≢ 0) e (all i l (omega arith)))
-
-  tail-done : (d : ℕ) → d < darts → Begins rec d → 2 ≤ getD fin (d / 8) 0
-  tail-done d ld (leaves i l e) = origin-done i (d / 8) l e (tail-spot d ld)
-  tail-done d ld (goesOn f) =
-      let c = f .dart in
-      let lc : c / 8 < spots = tail-spot c (f .dart<) in
-      subst (λ (x : ℕ). 2 ≤ getD fin x 0) (f .ends)
-      (done-falls s .fall c (f .dart<) (f .laden) (origin-done (f .byte) (c / 8) (f .byte<) (f .leaves) lc) .0)
-
-  pub all-fall : (d : ℕ) → d < darts → 0 < view rec d → getD fin (rev d / 8) 0 < getD fin (d / 8) 0
-  all-fall d ld l = done-falls s .fall d ld l (tail-done d ld (loaded-begins rec d ld l)) .1
 
 module _ {rec fin st sl : List ℕ} {n m : ℕ} (s : Dfs rec fin st sl n m) {x : ℕ} (back : Edge rec (getD st (n - 1) 0) (getD sl (n - 1) 0) x) where
   last : (i : ℕ) → i + 1 ≡ n → Edge rec (getD st i 0) (getD sl i 0) x

@@ -1,5 +1,5 @@
--- The finder's answer as document 01 has it: an order along which every loaded dart falls leaves no closed chain of loaded links, and a closed path of
--- loaded darts is one. Assumes nothing.
+-- The finder's answer, beside old loads of 0, as document 01 has it: an order along which every loaded dart falls leaves no closed chain of loaded links, and a
+-- closed path of loaded darts is one. Assumes nothing.
 use mathlib.Core.Path.{_≡_, subst}
 use mathlib.Core.Bool.{true, false}
 use mathlib.Core.List.{List, _∷_}
@@ -15,19 +15,25 @@ use Rattle.model.specs.Links.{Place, Step}
 use Rattle.model.specs.Loads.{Feasible, Trail}
 use Rattle.model.specs.Record.{load}
 use Rattle.channel.specs.Map.{view}
-use Rattle.channel.specs.Map.Network.Loops.{ranked-loops, path-loop}
+use Rattle.channel.specs.Map.Fresh.{fresh-loops}
+use Rattle.channel.specs.Map.Network.Loops.{path-loop}
 use Rattle.channel.specs.Map.Network.{net}
+use Rattle.channel.specs.Map.Origins.{no-load}
 use Rattle.audit.specs.Loops.{ringDarts, Closed, Answer, free, ring, LoopStands}
 use Rattle.audit.specs.declared.loops.Found.{Found}
 use Rattle.audit.specs.declared.loops.Found.the-variants.{Free, Ring}
 
-module _ {rec fin st sl : List ℕ} {f : Found} (d : Answer rec fin st sl f) where
-  pub no-loop : f ≡ Free → LoopStands rec false
-  no-loop e = by (subst (λ (x : Found). Answer rec fin st sl x) e d)
+module _ {old rec fin st sl : List ℕ} {f : Found} (d : Answer old rec fin st sl f) where
+  pub no-loop : ((i : ℕ) → i < 32768 → getD old i 0 ≡ 0) → f ≡ Free → LoopStands rec false
+  no-loop z e = by (subst (λ (x : Found). Answer old rec fin st sl x) e d)
     where
-      by : Answer rec fin st sl Free → LoopStands rec false
-      by (free falls) =
-          record { yes = λ p. absurd (so p); no = λ p J fits feasible. ranked-loops J fits rec feasible (λ u. getD fin u 0) falls }
+      by : Answer old rec fin st sl Free → LoopStands rec false
+      by (free s) =
+          record {
+            yes = λ p. absurd (so p);
+            no = λ p J fits feasible.
+                fresh-loops J fits old rec feasible (λ u. getD fin u 0) (s .falls) (s .fresh) (λ x t ts r. omega (arith, no-load old z t, r .1));
+          }
 
   -- a ring has a first dart
   ring-loop : (j n : ℕ) → Closed rec st sl j n → (J : Job) → T (arrayFits (J .rows) (J .columns)) → Feasible J (load rec)
@@ -41,7 +47,7 @@ module _ {rec fin st sl : List ℕ} {f : Found} (d : Answer rec fin st sl f) whe
       by (suc k) l p = path-loop J fits rec feasible (getD st j 0) (8 * getD st j 0 + getD sl j 0) (ringDarts st sl (suc j) k) p
 
   pub a-loop : {j n : ℕ} → f ≡ Ring j n → LoopStands rec true
-  a-loop {j} {n} e = by (subst (λ (x : Found). Answer rec fin st sl x) e d)
+  a-loop {j} {n} e = by (subst (λ (x : Found). Answer old rec fin st sl x) e d)
     where
-      by : Answer rec fin st sl (Ring j n) → LoopStands rec true
+      by : Answer old rec fin st sl (Ring j n) → LoopStands rec true
       by (ring c) = record { yes = λ p. ring-loop j n c; no = λ p. absurd (so-not p) }

@@ -168,10 +168,3 @@ module _ {rec fin st sl : List ℕ} {m : ℕ} (d : Dfs rec fin st sl 0 m) (i : �
         seen = λ q h. rw (← e) (k r (λ z. omega (arith, getD-set-same fin r 1 0 lf)));
       }
   trace-from e l (ring c) = record { search = ring c; seen = λ q h. absurd (let z : _≡_ {A = ℕ} 0 1 = cc in omega arith) }
-
--- one more byte
-pub bytes-more : {rec fin fin' st' sl' : List ℕ} {a : Search} {i m' : ℕ} → Traced rec i fin fin' st' sl' a → a ≡ Over m'
-    → ((j : ℕ) → j < i → originOf rec j < spots → getD fin (originOf rec j) 0 ≢ 0)
-    → (j : ℕ) → j < i + 1 → originOf rec j < spots → getD fin' (originOf rec j) 0 ≢ 0
-bytes-more {rec} {fin} {fin'} {i = i} t e all =
-    below-more (λ j. originOf rec j < spots → getD fin' (originOf rec j) 0 ≢ 0) i (λ j l h. was-over (t .search) e .1 _ (all j l h)) (t .seen e)

@@ -1,5 +1,6 @@
 -- `loops::stands` meets its contract: the order of the marks excludes a loop, and a ring is one. Assumes nothing.
 use borrow.Author.Needs.{needs}
+use lib.ListN.{getD-replicate}
 use Rattle.channel.specs.Map.Numbers.{spots-is}
 use Rattle.audit.specs.Loops.Stands.{no-loop, a-loop}
 use Rattle.audit.proofs.loops.stands.Statement.{statement}
@@ -14,6 +15,9 @@ slice-aggregate-find-2 c = search needs
 slice-aggregate-find-3 : tie.Need-slice-aggregate-find-3
 slice-aggregate-find-3 c = search needs
 
+slice-aggregate-find-4 : tie.Need-slice-aggregate-find-4
+slice-aggregate-find-4 c = search needs
+
 find-requires : tie.Need-find-requires
 find-requires c κs = search (needs, spots-is)
 
@@ -24,7 +28,7 @@ enum-told-2 : tie.Need-enum-told-2
 enum-told-2 c = search needs
 
 returns : tie.Need-returns
-returns c = no-loop (c .before .before .before .before .before .find .ensures) (c .enum-told .given .1)
+returns c = no-loop (c .before .before .before .before .before .find .ensures) (λ i l. getD-replicate 32768 i 0 0 l) (c .enum-told .given .1)
 
 returns-2 : tie.Need-returns-2
 returns-2 c = a-loop (c .before .before .before .before .before .find .ensures) (c .enum-told2 .given .1)
@@ -36,6 +40,7 @@ stands-spec =
     slice-aggregate-find
     slice-aggregate-find-2
     slice-aggregate-find-3
+    slice-aggregate-find-4
     find-requires
     enum-told
     enum-told-2

@@ -22,8 +22,8 @@ abbrev μ-loop : tie.MeasureT-loop
 loop-holds : tie.Need-loop-holds Inv-loop μ-loop
 loop-holds c = (refl, refl, refl, refl, λ J H. loose-none H)
 
-find-fresh-requires : tie.Need-find-fresh-requires Inv-loop μ-loop
-find-fresh-requires c κs =
+find-requires : tie.Need-find-requires Inv-loop μ-loop
+find-requires c κs =
     let l = c .before .before .before .before .loop .inv in
     let p = c .before .before .before .before .before .before .before .before .before .before .pre in
     let r = p .room in (
@@ -46,25 +46,25 @@ same-length-2 : tie.Need-same-length-2 Inv-loop μ-loop
 same-length-2 c =
     let c8 = c .before .before .before .before .before .before .before .before in
     let c13 = c8 .before .before .before .before .before in
-    c8 .find-fresh .kept .1 .1 .0 ∙ c13 .loop .inv .1
+    c8 .find .kept .1 .1 .0 ∙ c13 .loop .inv .1
 
 same-length-3 : tie.Need-same-length-3 Inv-loop μ-loop
 same-length-3 c =
     let c8 = c .before .before .before .before .before .before .before .before in
     let c13 = c8 .before .before .before .before .before in
-    c8 .find-fresh .kept .1 .1 .1 .0 ∙ c13 .loop .inv .2
+    c8 .find .kept .1 .1 .1 .0 ∙ c13 .loop .inv .2
 
 same-length-4 : tie.Need-same-length-4 Inv-loop μ-loop
 same-length-4 c =
     let c8 = c .before .before .before .before .before .before .before .before in
     let c13 = c8 .before .before .before .before .before in
-    c8 .find-fresh .kept .1 .1 .1 .1 .0 ∙ c13 .loop .inv .3
+    c8 .find .kept .1 .1 .1 .1 .0 ∙ c13 .loop .inv .3
 
 returns : tie.Need-returns Inv-loop μ-loop
 returns c =
     let c8 = c .before .before .before .before .before .before .before .before in
     let c13 = c8 .before .before .before .before .before in
-    record { loose = c13 .loop .inv .4; settled = found-free (c8 .find-fresh .ensures) (c .enum-told .given .1) }
+    record { loose = c13 .loop .inv .4; settled = found-free (c8 .find .ensures) (c .enum-told .given .1) }
 
 enum-known-j : tie.Need-enum-known-j Inv-loop μ-loop
 enum-known-j c = search needs
@@ -74,9 +74,9 @@ take-out-requires c κs =
     let c12 = c .before .before .before .before .before .before .before .before .before .before .before .before in
     let c17 = c12 .before .before .before .before .before in
     let c23 = c17 .before .before .before .before .before .before in
-    let C = found-ring (c12 .find-fresh .ensures) (c .before .before .before .before .j .given .1) in
+    let C = found-ring (c12 .find .ensures) (c .before .before .before .before .j .given .1) in
     let l = c17 .loop .inv in
-    let k = c12 .find-fresh .kept .1 .1 .1 in
+    let k = c12 .find .kept .1 .1 .1 in
     let r = c23 .pre .room in (
       record {
         whole = omega (arith, l .0, r .whole);
@@ -94,7 +94,7 @@ loop-less c =
     let c20 = c15 .before .before .before .before .before in
     let c26 = c20 .before .before .before .before .before .before in
     let p = c26 .pre in
-    let C = found-ring (c15 .find-fresh .ensures) (c7 .j .given .1) in
+    let C = found-ring (c15 .find .ensures) (c7 .j .given .1) in
     ring-out (loose-held (p .held) (c20 .loop .inv .4 (p .job) (p .held))) C (c .before .before .take-out .ensures) .falls
 
 loop-again : tie.Need-loop-again Inv-loop μ-loop
@@ -103,8 +103,8 @@ loop-again c =
     let c15 = c7 .before .before .before .before .before .before .before .before in
     let c20 = c15 .before .before .before .before .before in
     let l = c20 .loop .inv in
-    let k = c15 .find-fresh .kept .1 .1 in
-    let C = found-ring (c15 .find-fresh .ensures) (c7 .j .given .1) in (
+    let k = c15 .find .kept .1 .1 in
+    let C = found-ring (c15 .find .ensures) (c7 .j .given .1) in (
       c .before .before .take-out .kept .0 ∙ l .0,
       k .0 ∙ l .1,
       k .1 .0 ∙ l .2,
@@ -119,7 +119,7 @@ take-rings-out-spec =
     Inv-loop
     μ-loop
     loop-holds
-    find-fresh-requires
+    find-requires
     enum-told
     same-length
     same-length-2
