@@ -214,6 +214,9 @@ pub fn is_fresh(old: &[u8], rec: &[u8], i: usize) -> bool
 {
     let a = wide(old[3968 + i]);
     let b = wide(rec[3968 + i]);
+    if a == b {
+        return false;
+    }
     ((0 < forth(b)) & (forth(a) == 0)) | ((0 < back(b)) & (back(a) == 0))
 }
 

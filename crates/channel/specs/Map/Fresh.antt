@@ -1,6 +1,6 @@
 -- Links that got their first wire of a direction. A loop of the new loads that was none of the old ones goes along such a link: so an order that falls along
 -- every loaded dart behind these links excludes the loops that are new. Assumes nothing.
-use mathlib.Core.Path.{_≡_, sym, ap, subst, _∙_}
+use mathlib.Core.Path.{_≡_, refl, sym, ap, subst, _∙_}
 use mathlib.Core.Logic.{_⊎_, inl, inr}
 use mathlib.Core.Bool.{Bool, true, false, _&&_, _||_}
 use mathlib.Core.List.{List, [], _∷_}
@@ -54,6 +54,13 @@ same-stale old rec i e t =
 
     never : (m n : ℕ) → n ≡ m → T (ltb 0 m && eqb n 0) → ⊥
     never m n q t = omega (arith, ltb→lt 0 m (and-left (ltb 0 m) (eqb n 0) t), eqb→eq n 0 (and-right (ltb 0 m) (eqb n 0) t))
+
+pub same-test : (old rec : List ℕ) (i : ℕ) → getD old (3968 + i) 0 ≡ getD rec (3968 + i) 0 → false ≡ isFresh old rec i
+same-test old rec i e = by (isFresh old rec i) (same-stale old rec i e)
+  where
+    by : (b : Bool) → (T b → ⊥) → false ≡ b
+    by true n = absurd (n tt)
+    by false n = refl
 
 -- where b says that the k-th 64 load bytes are the same, none of their links is fresh
 pub record SameRun (old rec : List ℕ) (k : ℕ) (b : Bool) : Type 0 where

@@ -1,8 +1,8 @@
 -- `loads::is_fresh` meets its contract. Assumes nothing.
 use borrow.Author.Needs.{needs}
-use mathlib.Core.Path.{ap, _∙_}
+use mathlib.Core.Path.{sym, ap, _∙_}
 use Rattle.model.specs.Record.{forthPart, backPart}
-use Rattle.channel.specs.Map.Fresh.{fresh-at}
+use Rattle.channel.specs.Map.Fresh.{fresh-at, same-test}
 use Rattle.channel.proofs.loads.is_fresh.Statement.{statement}
 use Rattle.channel.proofs.loads.is_fresh.Tie as tie
 
@@ -24,6 +24,9 @@ shared-slice-read-wide-2 c = search needs
 wide-requires-2 : tie.Need-wide-requires-2
 wide-requires-2 c κs = search needs
 
+returns : tie.Need-returns
+returns c = same-test _ _ _ (sym (c .before .before .before .wide .ensures .0) ∙ c .if1 .taken ∙ c .before .wide2 .ensures .0)
+
 forth-requires : tie.Need-forth-requires
 forth-requires c κs = search needs
 
@@ -36,11 +39,11 @@ back-requires c κs = search needs
 back-requires-2 : tie.Need-back-requires-2
 back-requires-2 c κs = search needs
 
-returns : tie.Need-returns
-returns c =
-    let c4 = c .before .before .before .before in
-    let a = c4 .before .before .wide .ensures .0 in
-    let b = c4 .wide2 .ensures .0 in
+returns-2 : tie.Need-returns-2
+returns-2 c =
+    let c5 = c .before .before .before .before .before in
+    let a = c5 .before .before .wide .ensures .0 in
+    let b = c5 .wide2 .ensures .0 in
     fresh-at _ _ _ _ _ _ _ (c .before .before .forth2 .ensures .0 ∙ ap forthPart a) (c .before .before .before .forth .ensures .0 ∙ ap forthPart b)
     (c .back2 .ensures .0 ∙ ap backPart a) (c .before .back .ensures .0 ∙ ap backPart b)
 
@@ -54,8 +57,9 @@ is-fresh-spec =
     add-wide-2
     shared-slice-read-wide-2
     wide-requires-2
+    returns
     forth-requires
     forth-requires-2
     back-requires
     back-requires-2
-    returns)
+    returns-2)
