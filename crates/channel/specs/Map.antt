@@ -28,6 +28,8 @@ pub mod Grid
 pub mod Bytes
 pub mod Entered
 pub mod Ways
+pub mod Codes
+pub mod LinkTests
 pub mod Caps
 pub mod Moving
 pub mod Laying

@@ -76,7 +76,8 @@ beyond-adds : (n r : ℕ) → beyond n r ≡ n + r
 beyond-adds zero r = omega arith
 beyond-adds (suc n) r = omega (arith, beyond-adds n r)
 
-at-cell : (s : Bool) (h : ℕ → ℕ → ℕ) (x r c : ℕ) → x ≡ 41 + 40 * r + c → r < 40 → c < 40 → when (s && inGrid x) (h (rowOf x) (columnOf x)) ≡ when s (h r c)
+at-cell : (s : Bool) (h : ℕ → ℕ → ℕ) (x r c : ℕ) → x ≡ 41 + 40 * r + c → r < 40 → c < 40
+    → when (s && inGrid x) (h (rowOf x) (columnOf x)) ≡ when s (h r c)
 at-cell s h x r c e a b = by s (inGrid x) _ (cell-grid x r c e b a) ∙ ap₂ (λ (r c : ℕ). when s (h r c)) (cell-row x r c e b) (cell-column x r c e b)
   where
     by : (s g : Bool) (y : ℕ) → T g → when (s && g) y ≡ when s y
