@@ -14,7 +14,8 @@ pub mod Taken
 pub mod Spots
 pub mod Sums
 pub mod Carried
-pub mod Slots
+pub mod RowLoads
+pub mod SpotLoads
 pub mod Carry
 pub mod Stores
 pub mod Places
@@ -27,6 +28,8 @@ pub mod Grid
 pub mod Bytes
 pub mod Entered
 pub mod Ways
+pub mod Codes
+pub mod LinkTests
 pub mod Caps
 pub mod Moving
 pub mod Tried
@@ -184,6 +187,14 @@ isStored c = not (eqb c 0 || (eqb c 5 || (eqb c 8 || (eqb c 11 || eqb c 14))))
 
 pub isPassage : ℕ → Bool
 isPassage c = eqb c 5 || eqb c 8
+
+-- the codes of darts whose way back carries the load of the step back, and of those from an exit to its entry
+pub returns : ℕ → Bool
+returns c =
+    getD (false ∷ true ∷ true ∷ false ∷ false ∷ false ∷ false ∷ false ∷ false ∷ true ∷ true ∷ false ∷ true ∷ true ∷ false ∷ []) c false
+
+pub isReturn : ℕ → Bool
+isReturn c = eqb c 11 || eqb c 14
 
 -- a row whose darts carry nothing
 pub idle : ℕ → Bool

@@ -25,7 +25,8 @@ use Rattle.channel.specs.Map.Network.{net, net-outside, net-dart, unstarted-spo
 use Rattle.channel.specs.Map.Starts.{wanted-pin, pin-spot}
 use Rattle.channel.specs.Map.Network.Flows.{feasible-flow, pin-starts, starts-count}
 use Rattle.channel.specs.Map.Network.Moves.{move-residual}
-use Rattle.channel.specs.Map.Network.Agree.{Agrees, agrees-feasible, agrees-starts}
+use Rattle.channel.specs.Map.Network.Agree.{Agrees}
+use Rattle.channel.specs.Map.Network.FeasibleBytes.{agrees-feasible, agrees-starts}
 use Rattle.search.specs.Wired.{same-wired}
 use Rattle.search.specs.Laid.{laidAll, BytesFit, Darts, SameButLoads, laid-kept, laid-agrees, same-darts}
 

@@ -24,7 +24,8 @@ use Rattle.channel.specs.Map.Back.{rev<}
 use Rattle.channel.specs.Map.Network.{net, net-darts, net-rev, net-dart, dart-net}
 use Rattle.channel.specs.Map.Starts.{pin-spot}
 use Rattle.channel.specs.Map.Network.Flows.{feasible-flow, starts-count}
-use Rattle.channel.specs.Map.Network.Agree.{Agrees, agrees-feasible, agrees-starts}
+use Rattle.channel.specs.Map.Network.Agree.{Agrees}
+use Rattle.channel.specs.Map.Network.FeasibleBytes.{agrees-feasible, agrees-starts}
 use Rattle.channel.specs.Map.Network.Least.{view-least}
 use Rattle.search.specs.Laid.{laidAll, BytesFit, Darts, SameButLoads, laid-kept, laid-agrees, same-darts}
 use Rattle.search.specs.Wired.{same-wired}

@@ -22,7 +22,8 @@ use Rattle.channel.specs.Map.Packed.{not-least}
 use Rattle.channel.specs.Map.Grid.{grid-bounds}
 use Rattle.channel.specs.Map.Turning.{back-kind, back-code, back-owner, back-sign, Turn, over, stays, turn?}
 use Rattle.channel.specs.Map.Bytes.{view-link, passed-centre, passed-missing}
-use Rattle.channel.specs.Map.Caps.{own-cell, cap-none, free-none, cap-centre, cap-missing, cap-pin, free-pin, cap-into, other-free}
+use Rattle.channel.specs.Map.Codes.{own-cell}
+use Rattle.channel.specs.Map.Caps.{cap-none, free-none, cap-centre, cap-missing, cap-pin, free-pin, cap-into, other-free}
 
 -- ---- along the way back
 

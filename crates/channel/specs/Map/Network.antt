@@ -7,6 +7,7 @@ pub mod Moves
 pub mod Pushed
 pub mod InOut
 pub mod Agree
+pub mod FeasibleBytes
 pub mod Loops
 pub mod Least
 use mathlib.Core.Path.{_≡_, refl}

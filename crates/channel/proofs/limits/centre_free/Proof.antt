@@ -2,7 +2,8 @@
 use borrow.Author.Needs.{needs}
 use mathlib.Core.Path.{sym, _∙_}
 use Rattle.model.specs.Record.{jobOf}
-use Rattle.channel.specs.Map.Caps.{free-centre, three-four}
+use Rattle.channel.specs.Map.Codes.{three-four}
+use Rattle.channel.specs.Map.Caps.{free-centre}
 use Rattle.channel.proofs.limits.centre_free.Statement.{statement}
 use Rattle.channel.proofs.limits.centre_free.Tie as tie
 

@@ -5,7 +5,8 @@ use Prim.Native.Nat.{_%_}
 use native.Mathlib.Omega.{arith}
 use Rattle.channel.specs.Map.{codeOf}
 use Rattle.model.specs.Record.{jobOf}
-use Rattle.channel.specs.Map.Caps.{free-none, from-three, from-six}
+use Rattle.channel.specs.Map.Codes.{from-three, from-six}
+use Rattle.channel.specs.Map.Caps.{free-none}
 use Rattle.channel.proofs.limits.is_free.Statement.{statement}
 use Rattle.channel.proofs.limits.is_free.Tie as tie
 

@@ -4,7 +4,7 @@ use Prim.Native.Nat.{_%_}
 use native.Mathlib.Omega.{arith}
 use Rattle.model.specs.Record.{jobOf}
 use Rattle.channel.specs.Map.Bounds.{owner-bound}
-use Rattle.channel.specs.Map.Caps.{owner-mark}
+use Rattle.channel.specs.Map.LinkTests.{owner-mark}
 use Rattle.channel.proofs.limits.leg_mark.Statement.{statement}
 use Rattle.channel.proofs.limits.leg_mark.Tie as tie
 

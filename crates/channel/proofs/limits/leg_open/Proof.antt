@@ -4,7 +4,7 @@ use mathlib.Core.Path.{_∙_}
 use Prim.Native.Nat.{_-_}
 use native.Mathlib.Omega.{arith}
 use Rattle.model.specs.Record.{jobOf}
-use Rattle.channel.specs.Map.Caps.{east-leg, south-rim-leg, south-leg, north-rim-leg, north-leg, west-rim-leg, west-leg}
+use Rattle.channel.specs.Map.LinkTests.{east-leg, south-rim-leg, south-leg, north-rim-leg, north-leg, west-rim-leg, west-leg}
 use Rattle.channel.proofs.limits.leg_open.Statement.{statement}
 use Rattle.channel.proofs.limits.leg_open.Tie as tie
 

@@ -4,7 +4,7 @@ use Prim.Native.Nat.{_%_}
 use native.Mathlib.Omega.{arith}
 use Rattle.model.specs.Record.{jobOf}
 use Rattle.channel.specs.Map.Bounds.{owner-bound, kind-bound}
-use Rattle.channel.specs.Map.Caps.{reach-low, reach-high, reach-in}
+use Rattle.channel.specs.Map.LinkTests.{reach-low, reach-high, reach-in}
 use Rattle.channel.proofs.limits.leg_way.Statement.{statement}
 use Rattle.channel.proofs.limits.leg_way.Tie as tie
 

@@ -8,7 +8,8 @@ use borrow.Author.Tests.{eq-eqb, ne-eqb}
 use lib.Dec.{eqb}
 use Rattle.model.specs.Record.{jobOf}
 use Rattle.channel.specs.Map.{ownerMark}
-use Rattle.channel.specs.Map.Caps.{free-pin, leg-kind, six-seven}
+use Rattle.channel.specs.Map.Codes.{leg-kind, six-seven}
+use Rattle.channel.specs.Map.Caps.{free-pin}
 use Rattle.channel.proofs.limits.pin_free.Statement.{statement}
 use Rattle.channel.proofs.limits.pin_free.Tie as tie
 

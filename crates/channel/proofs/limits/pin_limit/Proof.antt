@@ -8,7 +8,8 @@ use borrow.Author.Tests.{eq-eqb, ne-eqb}
 use lib.Dec.{eqb}
 use Rattle.model.specs.Record.{jobOf}
 use Rattle.channel.specs.Map.{ownerMark}
-use Rattle.channel.specs.Map.Caps.{cap-pin, seven-kind}
+use Rattle.channel.specs.Map.Codes.{seven-kind}
+use Rattle.channel.specs.Map.Caps.{cap-pin}
 use Rattle.channel.proofs.limits.pin_limit.Statement.{statement}
 use Rattle.channel.proofs.limits.pin_limit.Tie as tie
 

@@ -4,7 +4,8 @@ use Prim.Native.Nat.{_%_}
 use native.Mathlib.Omega.{arith}
 use Rattle.model.specs.Record.{jobOf}
 use Rattle.channel.specs.Map.Bounds.{owner-bound, sign-bound}
-use Rattle.channel.specs.Map.Caps.{side-kind, take-low, take-high, take-in}
+use Rattle.channel.specs.Map.Codes.{side-kind}
+use Rattle.channel.specs.Map.LinkTests.{take-low, take-high, take-in}
 use Rattle.channel.proofs.limits.side_way.Statement.{statement}
 use Rattle.channel.proofs.limits.side_way.Tie as tie
 

@@ -6,7 +6,7 @@ use native.Mathlib.Omega.{arith}
 use Rattle.model.specs.Record.{jobOf}
 use Rattle.channel.specs.Map.{codeOf}
 use Rattle.channel.specs.Map.Numbers.{is-dart}
-use Rattle.channel.specs.Map.Caps.{from-three}
+use Rattle.channel.specs.Map.Codes.{from-three}
 use Rattle.channel.specs.Map.Moving.{none-moves, centre-back-moves, missing-back-moves, link-back-moves, high-code}
 use Rattle.channel.proofs.moves.can_move.Statement.{statement}
 use Rattle.channel.proofs.moves.can_move.Tie as tie

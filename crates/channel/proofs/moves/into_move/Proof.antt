@@ -6,7 +6,7 @@ use native.Mathlib.Omega.{arith}
 use Rattle.model.specs.Record.{jobOf}
 use Rattle.channel.specs.Map.{codeOf}
 use Rattle.channel.specs.Map.Numbers.{is-dart}
-use Rattle.channel.specs.Map.Caps.{from-six}
+use Rattle.channel.specs.Map.Codes.{from-six}
 use Rattle.channel.specs.Map.Moving.{into-shut, into-open}
 use Rattle.channel.proofs.moves.into_move.Statement.{statement}
 use Rattle.channel.proofs.moves.into_move.Tie as tie

@@ -4,7 +4,7 @@ use Prim.Native.Nat.{_%_}
 use native.Mathlib.Omega.{arith}
 use Rattle.model.specs.Record.{jobOf}
 use Rattle.channel.specs.Map.Numbers.{is-dart}
-use Rattle.channel.specs.Map.Caps.{seven-kind}
+use Rattle.channel.specs.Map.Codes.{seven-kind}
 use Rattle.channel.specs.Map.Moving.{chosen-moves, missing-moves, idle-moves}
 use Rattle.channel.proofs.moves.pin_move.Statement.{statement}
 use Rattle.channel.proofs.moves.pin_move.Tie as tie

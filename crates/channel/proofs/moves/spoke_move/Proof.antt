@@ -2,7 +2,7 @@
 use borrow.Author.Needs.{needs}
 use Rattle.model.specs.Record.{jobOf}
 use Rattle.channel.specs.Map.Numbers.{is-dart}
-use Rattle.channel.specs.Map.Caps.{three-four}
+use Rattle.channel.specs.Map.Codes.{three-four}
 use Rattle.channel.specs.Map.Moving.{spoke-shut, spoke-open}
 use Rattle.channel.proofs.moves.spoke_move.Statement.{statement}
 use Rattle.channel.proofs.moves.spoke_move.Tie as tie

@@ -25,7 +25,8 @@ use Rattle.channel.specs.Map.Darts.{cell-row, cell-column, grid-cell}
 use Rattle.channel.specs.Map.Spots.{held-grid, places-cong}
 use Rattle.channel.specs.Map.Sums.{start-at, sum-starts}
 use Rattle.channel.specs.Map.Carried.{when-at-most, side-even, centre-even, pin-even, passed-le, link-le, step-apart, passed-small, step-small}
-use Rattle.channel.specs.Map.Slots.{goes, comes, view-goes, view-comes, side-goes, side-comes, missing-entry-goes, missing-entry-comes, missing-exit-goes, missing-exit-comes, centre-entry-goes, centre-entry-comes, centre-exit-goes, centre-exit-comes, off-goes, off-comes, rows-apart, link-or-pass}
+use Rattle.channel.specs.Map.RowLoads.{goes, comes, view-goes, view-comes, rows-apart, link-or-pass}
+use Rattle.channel.specs.Map.SpotLoads.{side-goes, side-comes, missing-entry-goes, missing-entry-comes, missing-exit-goes, missing-exit-comes, centre-entry-goes, centre-entry-comes, centre-exit-goes, centre-exit-comes, off-goes, off-comes}
 use Rattle.channel.specs.Map.Network.{net}
 
 not-not : (b : Bool) → T (not (not b)) → T b

@@ -28,7 +28,8 @@ use Rattle.channel.specs.Map.Limits.{free-link}
 use Rattle.channel.specs.Map.Network.{net}
 use Rattle.channel.specs.Map.Network.Flows.{feasible-flow}
 use Rattle.channel.specs.Map.Places.{kind-inside}
-use Rattle.channel.specs.Map.Network.Agree.{Agrees, agrees-feasible, agrees-starts}
+use Rattle.channel.specs.Map.Network.Agree.{Agrees}
+use Rattle.channel.specs.Map.Network.FeasibleBytes.{agrees-feasible, agrees-starts}
 
 -- ---- the darts of an entry
 
