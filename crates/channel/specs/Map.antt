@@ -32,7 +32,6 @@ pub mod Codes
 pub mod LinkTests
 pub mod Caps
 pub mod Moving
-pub mod Tried
 pub mod Laying
 pub mod Origins
 pub mod Fresh

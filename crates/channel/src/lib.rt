@@ -45,7 +45,6 @@ pub use moves::can_move;
 pub use moves::is_outside;
 pub use moves::is_start;
 pub use moves::lay;
-pub use moves::slots;
 pub use moves::wire_starts;
 pub use table::head_of;
 pub use table::reverse;

@@ -7,7 +7,6 @@ ghost use lib.ListN.{length};
 ghost use Rattle.model.specs.Record.{jobOf};
 ghost use Rattle.channel.specs.Map.{isStart, outside, starts, moves, isStored, bump, laid, codeOf};
 ghost use Rattle.channel.specs.Map.Moving.{throughCentre, throughMissing};
-ghost use Rattle.channel.specs.Map.Tried.{Tries};
 use crate::header::chosen_at;
 use crate::header::extra;
 use crate::header::in_grid;
@@ -181,18 +180,6 @@ pub fn can_move(job: &[u8], loads: &[u8], d: usize) -> bool
         14 => missing_back(loads, d),
         _ => 0 < load_against(loads, d),
     }
-}
-
-// How many slots of the spot a search has to try: nothing moves along those behind them.
-pub fn slots(u: usize) -> usize
-    requires { ⌜ u < 13128 ⌝ }
-    ensures { λ n. ⌜ Tries u n ⌝ }
-{
-    let k = u % 8;
-    if (k < 2) | (5 < k) {
-        return 5;
-    }
-    8
 }
 
 // Whether a dart of the code has a stored byte.

@@ -10,8 +10,6 @@ use lib.ListN.{length, getD, set, length-set}
 use lib.Seq.{getD-set-same, getD-set-other}
 use Rattle.model.specs.Job.{Job}
 use Rattle.channel.specs.Map.{spots, rev, outside, moves}
-use Rattle.channel.specs.Map.Tried.{Tries}
-use Rattle.audit.specs.Loops.Marks.{below-or}
 use Rattle.search.specs.Marks.{unmarked, unmarked-le, after, mark-less}
 use Rattle.search.specs.Spread.{Room, Came, Spread, Alike}
 use Rattle.search.specs.Steps.{Whole, Ready, Fresh, Tried, exit, old, new, Grown, Expanded, more, Front, Searched, out, closed}
@@ -149,20 +147,6 @@ grown-none r c =
       marks = λ x e. e;
       done = λ j l. absurd (omega arith);
       spread = λ start t₀ e s. s;
-    }
-
--- nothing moves along the slots that are left
-pub grown-all : {J : Job} {rec : List ℕ} {u k h : ℕ} {t q f w : List ℕ} {n : ℕ} {t' q' f' w' : List ℕ} {n' : ℕ} → Grown J rec u k h t q f w n t' q' f' w' n'
-    → Tries u k → Grown J rec u 8 h t q f w n t' q' f' w' n'
-grown-all {J} {rec} {u} {k} {t' = t'} g a =
-    record {
-      room = g .room;
-      count = g .count;
-      up = g .up;
-      keep = g .keep;
-      marks = g .marks;
-      done = λ j l m. ⊎-elim (λ h. g .done j h m) (λ h. absurd (a .none J rec j h l m)) (below-or j k);
-      spread = g .spread;
     }
 
 module _ {J : Job} {rec : List ℕ} {u k h : ℕ} {t q f w : List ℕ} {n : ℕ} {t' q' f' w' : List ℕ} {n' : ℕ} (g : Grown J rec u k h t q f w n t' q' f' w' n')

@@ -6,7 +6,6 @@ ghost use Rattle.search.specs.Steps.{Whole, Ready, Tried, Expanded, Sear
 use channel::can_move;
 use channel::head_of;
 use channel::is_outside;
-use channel::slots;
 
 // The way out: slot k of the j-th spot in the queue, which has n; or there is none, and the queue has n.
 pub enum Way {
@@ -74,7 +73,7 @@ fn expand(
         (now (marks .exit)) (now (queue .exit)) (now (parent .exit)) (now (slot .exit)) s ⌝ }
 {
     let mut m = n;
-    for k in 0..slots(u) {
+    for k in 0..8 {
         match attempt(job, loads, u, k, h, marks, queue, parent, slot, m) {
             Step::Exit(a, b) => {
                 return Step::Exit(a, b);

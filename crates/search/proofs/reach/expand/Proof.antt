@@ -4,38 +4,33 @@ use Prim.Native.Nat.{_-_, _≤_}
 use mathlib.Core.Path.{_≡_, _∙_}
 use native.Mathlib.Omega.{arith}
 use Rattle.model.specs.Record.{jobOf}
-use Rattle.channel.specs.Map.Numbers.{spots-is}
-use Rattle.channel.specs.Map.Tried.{Tries}
 use Rattle.search.specs.Spread.{Alike}
 use Rattle.search.specs.Steps.{Grown, more}
-use Rattle.search.specs.Queue.{alike-refl, alike-then, grown-none, grown-all, grown-more, grown-exit}
+use Rattle.search.specs.Queue.{alike-refl, alike-then, grown-none, grown-more, grown-exit}
 use Rattle.search.proofs.reach.expand.Statement.{statement}
 use Rattle.search.proofs.reach.expand.Tie as tie
 
 abbrev Inv-loop : tie.InvT-loop
-Inv-loop job loads u h marks₀ queue₀ parent₀ slot₀ n m₀ k₀ k-end marks queue parent slot m k =
-    (k ≤ k-end) × Alike marks₀ queue₀ parent₀ slot₀ marks queue parent slot
-    × Grown (jobOf job) loads u k h marks₀ queue₀ parent₀ slot₀ n marks queue parent slot m × Tries u k-end
+Inv-loop job loads u h marks₀ queue₀ parent₀ slot₀ n m₀ k₀ marks queue parent slot m k =
+    (k ≤ 8) × Alike marks₀ queue₀ parent₀ slot₀ marks queue parent slot
+    × Grown (jobOf job) loads u k h marks₀ queue₀ parent₀ slot₀ n marks queue parent slot m
 
 abbrev μ-loop : tie.MeasureT-loop
-μ-loop job loads u h marks₀ queue₀ parent₀ slot₀ n m₀ k₀ k-end marks queue parent slot m k = k-end - k
-
-slots-requires : tie.Need-slots-requires Inv-loop μ-loop
-slots-requires c κs = let p = c .before .before .before .before .before .before .pre in omega (arith, p .spot, spots-is)
+μ-loop job loads u h marks₀ queue₀ parent₀ slot₀ n m₀ k₀ marks queue parent slot m k = 8 - k
 
 loop-holds : tie.Need-loop-holds Inv-loop μ-loop
 loop-holds c =
-    let c7 = c .before .before .before .before .before .before .before in
-    (omega arith, alike-refl _ _ _ _, grown-none (c7 .pre .room) (c7 .pre .count), c .slots .ensures)
+    let c6 = c .before .before .before .before .before .before in
+    (omega arith, alike-refl _ _ _ _, grown-none (c6 .pre .room) (c6 .pre .count))
 
 attempt-requires : tie.Need-attempt-requires Inv-loop μ-loop
 attempt-requires c κs =
     let c5 = c .before .before .before .before .before in
-    let c13 = c5 .before .before .before .before .before .before .before .before in
-    let p = c13 .pre in
+    let c12 = c5 .before .before .before .before .before .before .before in
+    let p = c12 .pre in
     let g = c5 .loop .inv .2 in (
       record { whole = p .whole; room = g .room; count = g .count; early = omega (arith, p .early, g .up); spot = p .spot },
-      omega (arith, c .before .before .before .before .loop-test .taken, c5 .loop .inv .3 .least),
+      omega (arith, c .before .before .before .before .loop-test .taken),
     )
 
 enum-known-a : tie.Need-enum-known-a Inv-loop μ-loop
@@ -70,8 +65,8 @@ returns c =
     let c11 = c .before .before .before .before .before .before .before .before .before .before .before in
     let c16 = c11 .before .before .before .before .before in
     let c17 = c16 .before in
-    let c25 = c17 .before .before .before .before .before .before .before .before in
-    grown-exit (c17 .loop .inv .2) (c25 .pre .early) (omega (arith, c16 .loop-test .taken, c17 .loop .inv .3 .least)) (c11 .attempt .ensures) (c .before .a .given .1)
+    let c24 = c17 .before .before .before .before .before .before .before in
+    grown-exit (c17 .loop .inv .2) (c24 .pre .early) (omega (arith, c16 .loop-test .taken)) (c11 .attempt .ensures) (c .before .a .given .1)
 
 enum-known-a-2 : tie.Need-enum-known-a-2 Inv-loop μ-loop
 enum-known-a-2 c = search needs
@@ -89,12 +84,11 @@ loop-again c =
     let c11 = c .before .before .before .before .before .before .before .before .before .before .before in
     let c16 = c11 .before .before .before .before .before in
     let c17 = c16 .before in
-    let c25 = c17 .before .before .before .before .before .before .before .before in
+    let c24 = c17 .before .before .before .before .before .before .before in
     let k = c11 .attempt .kept .1 .1 .1 .1 .1 in (
       omega (arith, c16 .loop-test .taken),
       alike-then (c17 .loop .inv .1) (k .0) (k .1 .0) (k .1 .1 .0) (k .1 .1 .1 .0),
-      grown-more (c17 .loop .inv .2) (c25 .pre .early) (omega (arith, c16 .loop-test .taken, c17 .loop .inv .3 .least)) (c11 .attempt .ensures) (c .before .a2 .given .1),
-      c17 .loop .inv .3,
+      grown-more (c17 .loop .inv .2) (c24 .pre .early) (omega (arith, c16 .loop-test .taken)) (c11 .attempt .ensures) (c .before .a2 .given .1),
     )
 
 same-length-5 : tie.Need-same-length-5 Inv-loop μ-loop
@@ -110,10 +104,7 @@ same-length-8 : tie.Need-same-length-8 Inv-loop μ-loop
 same-length-8 c = c .before .loop .inv .1 .slots
 
 returns-2 : tie.Need-returns-2 Inv-loop μ-loop
-returns-2 c =
-    let l = c .before .loop in
-    let e : c .before .before .slots .result ≡ l .k = omega arith in
-    more (grown-all (l .inv .2) (rw e at (l .inv .3)))
+returns-2 c = let e : c .before .loop .k ≡ 8 = omega arith in more (rw e at (c .before .loop .inv .2))
 
 pub expand-spec : {M : Type 1} → statement M
 expand-spec =
@@ -121,7 +112,6 @@ expand-spec =
     (tie.spec
     Inv-loop
     μ-loop
-    slots-requires
     loop-holds
     attempt-requires
     enum-known-a
