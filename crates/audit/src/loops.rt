@@ -5,7 +5,7 @@ ghost use Prim.Native.Nat.{_+_, _*_, _≤_, _<_};
 ghost use lib.ListN.{length, set};
 ghost use Rattle.channel.specs.Map.{spots};
 ghost use Rattle.audit.specs.Loops.{Room, Answer, LoopStands};
-ghost use Rattle.audit.specs.Loops.Dfs.{Cleared, Live, Scanned, Placed, Dfs, Turned, Searched, Traced, FreshTraced};
+ghost use Rattle.audit.specs.Loops.Dfs.{Cleared, Scanned, Placed, Dfs, Turned, Searched, Traced, FreshTraced};
 
 // No closed chain; or the spots of one in st, and its slots in sl, from the first number to before the second.
 pub enum Found {
@@ -34,33 +34,17 @@ fn clear(fin: &mut [u16])
     }
 }
 
-// Whether slot k of u is loaded and leads to a spot that is not done.
-fn live(rec: &[u8], fin: &[u16], u: usize, k: usize) -> bool
-    requires { ⌜ (32768 ≤ length (now rec)) × (spots ≤ length (now fin)) × (u < spots) × (k < 5) ⌝ }
-    ensures { λ b. ⌜ Live (now (rec .entry)) (now (fin .entry)) u k b ⌝ }
-{
-    let d = 8 * u + k;
-    if !channel::is_loaded(rec, d) {
-        return false;
-    }
-    let v = channel::head_of(d);
-    if fin[v] >= 2 {
-        return false;
-    }
-    true
-}
-
-// The first live slot of u from k0 on; 5 or more if there is none. Slots 5 to 7 carry nothing.
+// The first slot of u from k0 on that is loaded and leads to a spot that is not done; 5 or more if there is none.
 fn scan(rec: &[u8], fin: &[u16], u: usize, k0: usize) -> usize
     requires { ⌜ (32768 ≤ length (now rec)) × (spots ≤ length (now fin)) × (u < spots) ⌝ }
     ensures { λ k. ⌜ Scanned (now (rec .entry)) (now (fin .entry)) u k0 k ⌝ }
 {
-    let mut k = k0;
+    let mut k = channel::next_loaded(rec, u, k0);
     while k < 5 {
-        if live(rec, fin, u, k) {
+        if fin[channel::head_of(8 * u + k)] < 2 {
             return k;
         }
-        k += 1;
+        k = channel::next_loaded(rec, u, k + 1);
     }
     k
 }

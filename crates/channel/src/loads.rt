@@ -1,6 +1,7 @@
 // The loads of a record: how many wires go along a dart, against it, and through a place. A dart's link has one byte.
 ghost use mathlib.Core.Path.{_≡_};
-ghost use Prim.Native.Nat.{_+_, _/_, _%_, _≤_, _<_};
+ghost use mathlib.Core.Logic.{_≢_};
+ghost use Prim.Native.Nat.{ℕ, _+_, _*_, _/_, _%_, _≤_, _<_};
 ghost use lib.Dec.{T, ltb};
 ghost use lib.ListN.{length, getD};
 ghost use Rattle.sums.specs.Counting.{when};
@@ -8,14 +9,16 @@ ghost use Rattle.model.specs.Links.{pin, missing, centre, at};
 ghost use Rattle.model.specs.Loads.{arrivals, departures};
 ghost use Rattle.model.specs.Record.{forthPart, backPart, load};
 ghost use Rattle.channel.specs.Map.Fresh.{isFresh, SameRun};
+ghost use Rattle.channel.specs.Map.NextLoaded.{NextLoaded};
 ghost use Rattle.channel.specs.Map.Origins.{originOf};
-ghost use Rattle.channel.specs.Map.{inGrid, rowOf, columnOf, ownerCell, stepOf, carries, isPassDart, passedOf, view, opposed, address};
+ghost use Rattle.channel.specs.Map.{inGrid, rowOf, columnOf, ownerCell, stepOf, carries, isPassDart, passedOf, view, opposed, address, placeOf};
 use crate::header::in_grid;
 use crate::header::wide;
 use crate::table::code_of;
 use crate::table::kind_of;
 use crate::table::owner_of;
 use crate::table::place_of;
+use crate::table::place_word;
 use crate::table::seat_of;
 use crate::table::sign_of;
 
@@ -174,24 +177,81 @@ pub fn carried(rec: &[u8], d: usize) -> usize
     0
 }
 
-// Whether wires go along a dart. The links of a cell that has all its neighbours are on the grid.
-pub fn is_loaded(rec: &[u8], d: usize) -> bool
-    requires { ⌜ (32768 ≤ length (now rec)) × (d < 105024) ⌝ }
-    ensures { λ b. ⌜ b ≡ ltb 0 (view (now (rec .entry)) d) ⌝ }
+// Whether wires go along a dart of the cell x, by the word of its row, where x has all its neighbours: their links are on the grid.
+fn loaded_at(rec: &[u8], w: usize, x: usize) -> bool
+    requires { ⌜ (32768 ≤ length (now rec)) × (w < 50000) × (w ≢ 1) × (41 ≤ x) × (x < 1600) ⌝ }
+    ensures { λ b. ⌜ ((d : ℕ) → d / 64 ≡ x → placeOf (d % 64) ≡ w → b ≡ ltb 0 (view (now (rec .entry)) d)) ⌝ }
 {
-    let w = place_of(d % 64);
     if w == 0 {
         return false;
-    }
-    let x = d / 64;
-    if (w == 1) | ((x < 41) | (1600 <= x)) {
-        return carried(rec, d) != 0;
     }
     let b = wide(rec[w / 2 + x]);
     if w % 2 == 0 {
         return (0 < b) & (b < 32);
     }
     32 < b
+}
+
+// The first loaded one of the slots of u from k0 to 3, of such a cell; 4 or more if there is none.
+fn next_of_four(rec: &[u8], u: usize, k0: usize) -> usize
+    requires { ⌜ (32768 ≤ length (now rec)) × (41 ≤ u / 8) × (u / 8 < 1600) ⌝ }
+    ensures { λ k. ⌜ NextLoaded (now (rec .entry)) u 4 k0 k ⌝ }
+{
+    let word = place_word(2 * (u % 8));
+    let mut k = k0;
+    while k < 4 {
+        if loaded_at(rec, (word >> (k * 16)) % 65536, u / 8) {
+            return k;
+        }
+        k += 1;
+    }
+    k
+}
+
+// Whether wires go along slot 4 of u.
+fn last_loaded(rec: &[u8], u: usize) -> bool
+    requires { ⌜ (32768 ≤ length (now rec)) × (41 ≤ u / 8) × (u / 8 < 1600) ⌝ }
+    ensures { λ b. ⌜ b ≡ ltb 0 (view (now (rec .entry)) (8 * u + 4)) ⌝ }
+{
+    let w = place_of(u % 8 * 8 + 4);
+    if w == 1 {
+        return carried(rec, 8 * u + 4) != 0;
+    }
+    loaded_at(rec, w, u / 8)
+}
+
+// The first loaded slot of u from k0 on, in any cell; 5 or more if there is none.
+fn next_carried(rec: &[u8], u: usize, k0: usize) -> usize
+    requires { ⌜ (32768 ≤ length (now rec)) × (u < 13128) ⌝ }
+    ensures { λ k. ⌜ NextLoaded (now (rec .entry)) u 5 k0 k ⌝ }
+{
+    let mut k = k0;
+    while k < 5 {
+        if carried(rec, 8 * u + k) != 0 {
+            return k;
+        }
+        k += 1;
+    }
+    k
+}
+
+// The first loaded slot of u from k0 on; 5 or more if there is none. Slots 5 to 7 carry nothing.
+pub fn next_loaded(rec: &[u8], u: usize, k0: usize) -> usize
+    requires { ⌜ (32768 ≤ length (now rec)) × (u < 13128) ⌝ }
+    ensures { λ k. ⌜ NextLoaded (now (rec .entry)) u 5 k0 k ⌝ }
+{
+    let x = u / 8;
+    if (x < 41) | (1600 <= x) {
+        return next_carried(rec, u, k0);
+    }
+    let k = next_of_four(rec, u, k0);
+    if k != 4 {
+        return k;
+    }
+    if last_loaded(rec, u) {
+        return 4;
+    }
+    5
 }
 
 // The spot that the wires of the i-th load byte leave; 13,128 where it is 0.

@@ -109,7 +109,7 @@ fn turn_word(k: usize) -> usize
 }
 
 // Where the bytes of the rows 4 k to 4 k + 3 stand.
-fn place_word(k: usize) -> usize
+pub fn place_word(k: usize) -> usize
     requires { ⌜ k < 16 ⌝ }
     ensures { λ r. ⌜ ((j : ℕ) → j < 4 → r / 2 ^ (j * 16) % 65536 ≡ placeOf (4 * k + j)) ⌝ }
 {

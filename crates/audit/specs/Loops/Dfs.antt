@@ -2,7 +2,6 @@
 -- that is done; st and sl have the spots on the stack and the slots at which they stand. Assumes nothing.
 use mathlib.Core.Path.{_≡_}
 use mathlib.Core.Logic.{_≢_}
-use mathlib.Core.Bool.{Bool, true, false}
 use mathlib.Core.List.{List}
 use Prim.Native.Nat.{ℕ, _+_, _-_, _*_, _/_, _≤_, _<_}
 use lib.Dec.{T, eqb}
@@ -28,12 +27,7 @@ pub record Edge (rec : List ℕ) (u k v : ℕ) : Type 0 where
 pub record Cleared (fin : List ℕ) : Type 0 where
   pub all : (u : ℕ) → u < spots → getD fin u 0 ≡ 0
 
--- whether slot k of u leads to a spot that is not done
-pub data Live (rec fin : List ℕ) (u k : ℕ) : Bool → Type 0 where
-  live : {v : ℕ} → Edge rec u k v → getD fin v 0 < 2 → Live rec fin u k true
-  dead : ((v : ℕ) → Edge rec u k v → 2 ≤ getD fin v 0) → Live rec fin u k false
-
--- k is the first slot of u from k0 on that does, or 5 or more
+-- k is the first slot of u from k0 on that leads to a spot that is not done, or 5 or more
 pub record Scanned (rec fin : List ℕ) (u k0 k : ℕ) : Type 0 where
   pub from : k0 ≤ k
   pub past : (j v : ℕ) → k0 ≤ j → j < k → Edge rec u j v → 2 ≤ getD fin v 0

@@ -1,7 +1,6 @@
 -- What one turn of the loop finder does, and what a caller reads off its answers. Assumes nothing.
 use mathlib.Core.Path.{_≡_, sym, ap, subst, _∙_}
 use mathlib.Core.Logic.{_≢_, ⊎-elim}
-use mathlib.Core.Bool.{Bool, true, false}
 use mathlib.Core.List.{List}
 use Prim.Native.Nat.{ℕ, suc, _+_, _-_, _*_, _/_, _≤_, _<_}
 use native.Mathlib.Numerals.{add-two}
@@ -12,28 +11,13 @@ use lib.Seq.{getD-set-same}
 use Rattle.channel.specs.Map.{spots, rev}
 use Rattle.channel.specs.Map.Origins.{originOf}
 use Rattle.audit.specs.Loops.{Closed}
-use Rattle.audit.specs.Loops.Dfs.{Edge, Live, live, dead, Scanned, unseen, Dfs, Kept, Turned, more, hit, Searched, over, ring, Traced}
+use Rattle.audit.specs.Loops.Dfs.{Edge, Scanned, unseen, Dfs, Kept, Turned, more, hit, Searched, over, ring, Traced}
 use Rattle.audit.specs.Loops.Marks.{below-or, after, unseen-less, unseen-same, kept-set}
 use Rattle.audit.specs.Loops.Stack.{edge-node, Below, dfs-slot, dfs-push, dfs-pop, dfs-leaf}
 use Rattle.audit.specs.declared.loops.Turn.{Turn}
 use Rattle.audit.specs.declared.loops.Turn.the-variants.{More, Hit}
 use Rattle.audit.specs.declared.loops.Search.{Search}
 use Rattle.audit.specs.declared.loops.Search.the-variants.{Over, Ring}
-
--- ---- one slot
-
-module _ {rec fin : List ℕ} {u k : ℕ} {b : Bool} (d : Live rec fin u k b) where
-  pub live-yes : b ≡ true → Edge rec u k (rev (8 * u + k) / 8) × (getD fin (rev (8 * u + k) / 8) 0 < 2)
-  live-yes e = by (subst (λ (x : Bool). Live rec fin u k x) e d)
-    where
-      by : Live rec fin u k true → Edge rec u k (rev (8 * u + k) / 8) × (getD fin (rev (8 * u + k) / 8) 0 < 2)
-      by (live g h) = rw (g .leads) (g, h)
-
-  pub live-no : b ≡ false → (v : ℕ) → Edge rec u k v → 2 ≤ getD fin v 0
-  live-no e = by (subst (λ (x : Bool). Live rec fin u k x) e d)
-    where
-      by : Live rec fin u k false → (v : ℕ) → Edge rec u k v → 2 ≤ getD fin v 0
-      by (dead f) = f
 
 -- ---- a turn, after the slots of the top were scanned
 

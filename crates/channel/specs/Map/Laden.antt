@@ -9,10 +9,11 @@ use borrow.Author.Tests.{eqb-false, ltb-false, leb-false, lt-ltb}
 use lib.Dec.{T, eqb, eqb·suc-zero, leb, ltb, ltb→lt, lt→ltb}
 use lib.ListN.{getD}
 use Rattle.sums.specs.Counting.{when}
-use Rattle.sums.specs.Tests.{and-left, and-right, and-both, both-ways}
+use Rattle.sums.specs.Tests.{below, below-at, and-left, and-right, and-both, both-ways}
 use Rattle.model.specs.Record.{forthPart, backPart}
-use Rattle.channel.specs.Map.{inGrid, carries, isPassage, isPassDart, view, kindOf, ownerOf, signOf, codeOf, placeOf}
-use Rattle.channel.specs.Map.Bounds.{kind-bound, owner-bound, sign-bound, code-bound}
+use Rattle.channel.specs.Map.{inGrid, links, owners, signs, codes, carries, isPassage, isPassDart, view, kindOf, ownerOf, signOf, codeOf, placeOf}
+use Rattle.channel.specs.Map.Bools.{if-so, is-off}
+use Rattle.channel.specs.Map.Bounds.{owner-bound, sign-bound, code-bound}
 use Rattle.channel.specs.Map.Bytes.{kept-in, along-forth, along-back, carries-no-pass, view-link, view-none}
 
 -- ---- tests of a load
@@ -34,16 +35,14 @@ back-test b =
     both-ways (ltb 32 b) (ltb 0 (backPart b)) (λ t. lt→ltb 0 (backPart b) (omega (arith, ltb→lt 32 b t)))
     (λ t. let l : 0 < backPart b = ltb→lt 0 (backPart b) t in lt→ltb 32 b (omega arith))
 
--- a cell that has all its neighbours, and a word that names a byte
-pub inside : (w x : ℕ) → (eqb w 1 || (ltb x 41 || leb 1600 x)) ≡ false → (w ≢ 1) × (41 ≤ x) × (x < 1600)
-inside w x e = by (eqb w 1) refl (ltb x 41) refl (leb 1600 x) refl e
+-- a cell that has all its neighbours
+pub inside : (x : ℕ) → (ltb x 41 || leb 1600 x) ≡ false → (41 ≤ x) × (x < 1600)
+inside x e = by (ltb x 41) refl (leb 1600 x) refl e
   where
-    by : (a : Bool) → eqb w 1 ≡ a → (b : Bool) → ltb x 41 ≡ b → (c : Bool) → leb 1600 x ≡ c → (a || (b || c)) ≡ false
-        → (w ≢ 1) × (41 ≤ x) × (x < 1600)
-    by true p b q c r z = absurd (subst T z tt)
-    by false p true q c r z = absurd (subst T z tt)
-    by false p false q true r z = absurd (subst T z tt)
-    by false p false q false r z = (eqb-false w 1 p, ltb-false x 41 q, leb-false 1600 x r)
+    by : (a : Bool) → ltb x 41 ≡ a → (b : Bool) → leb 1600 x ≡ b → (a || b) ≡ false → (41 ≤ x) × (x < 1600)
+    by true p b q z = absurd (subst T z tt)
+    by false p true q z = absurd (subst T z tt)
+    by false p false q z = (ltb-false x 41 p, leb-false 1600 x q)
 
 -- ---- by the row
 
@@ -67,9 +66,21 @@ row? i l = by (carries (codeOf i)) refl (isPassage (codeOf i)) refl
     by false e true f = passage
     by false e false f = nothing e f
 
-module _ (rec : List ℕ) (d w : ℕ) (e : w ≡ placeOf (d % 64)) where
+pub place-bound : (i : ℕ) → i < 64 → placeOf i < 50000
+unfolding below placeOf carries isPassage codes codeOf links kindOf owners ownerOf signs signOf
+place-bound i l = ltb→lt _ _ (below-at 64 (λ i. ltb (placeOf i) 50000) tt i l)
+
+-- only slot 4 leads from an entry to its exit
+pub no-passage : (i : ℕ) → i < 64 → i % 8 < 4 → placeOf i ≢ 1
+unfolding below placeOf carries isPassage codes codeOf links kindOf owners ownerOf signs signOf
+no-passage i l h =
+    eqb-false (placeOf i) 1
+    (is-off (eqb (placeOf i) 1)
+    (if-so (ltb (i % 8) 4) (not (eqb (placeOf i) 1)) (below-at 64 (λ i. not (ltb (i % 8) 4) || not (eqb (placeOf i) 1)) tt i l) (lt→ltb (i % 8) 4 h)))
+
+module _ (rec : List ℕ) (d w : ℕ) (e : placeOf (d % 64) ≡ w) where
   row : Row (d % 64) w
-  row = subst (Row (d % 64)) (sym e) (row? (d % 64) (omega arith))
+  row = subst (Row (d % 64)) e (row? (d % 64) (omega arith))
 
   no-pass : isPassage (codeOf (d % 64)) ≡ false → isPassDart d ≡ false
   unfolding isPassDart
@@ -83,7 +94,7 @@ module _ (rec : List ℕ) (d w : ℕ) (e : w ≡ placeOf (d % 64)) where
       by _ passage z = absurd (omega arith)
       by _ (nothing c f) z = ap (ltb 0) (view-none rec d c (no-pass f))
 
-  module _ (n : w ≢ 0) (p : w ≢ 1) (l : 41 ≤ d / 64) (m : d / 64 < 1600) where
+  module _ (x : ℕ) (h : d / 64 ≡ x) (n : w ≢ 0) (p : w ≢ 1) (l : 41 ≤ x) (m : x < 1600) where
     -- the byte is that of the dart's link
     record Stands : Type 0 where
       carried : carries (codeOf (d % 64)) ≡ true
@@ -97,21 +108,23 @@ module _ (rec : List ℕ) (d w : ℕ) (e : w ≡ placeOf (d % 64)) where
         by _ passage q = absurd (p q)
         by _ (nothing c f) q = absurd (n q)
 
-    pub place< : w / 2 + d / 64 < 32768
-    place< =
-        omega (arith, stands .word, kind-bound (d % 64) (omega arith), owner-bound (d % 64) (omega arith), sign-bound (d % 64) (omega arith))
+    at-link : getD rec (w / 2 + x) 0 ≡ getD rec (3927 + 1600 * kindOf (d % 64) + (d / 64 + ownerOf (d % 64))) 0
+    at-link = ap (λ (y : ℕ). getD rec y 0) (omega (arith, stands .word, sign-bound (d % 64) (omega arith)))
 
-    at-link : getD rec (w / 2 + d / 64) 0 ≡ getD rec (3927 + 1600 * kindOf (d % 64) + (d / 64 + ownerOf (d % 64))) 0
-    at-link = ap (λ (x : ℕ). getD rec x 0) (omega (arith, stands .word, sign-bound (d % 64) (omega arith)))
-
-    pub laden-forth : w % 2 ≡ 0 → (b : ℕ) → b ≡ getD rec (w / 2 + d / 64) 0 → (ltb 0 b && ltb b 32) ≡ ltb 0 (view rec d)
+    pub laden-forth : w % 2 ≡ 0 → (b : ℕ) → b ≡ getD rec (w / 2 + x) 0 → (ltb 0 b && ltb b 32) ≡ ltb 0 (view rec d)
     laden-forth z b q =
         let k = kept-in rec d (ownerOf (d % 64)) refl (kindOf (d % 64)) refl (omega arith) (omega (arith, owner-bound (d % 64) (omega arith))) in
         let s : signOf (d % 64) ≡ 0 = omega (arith, stands .word, sign-bound (d % 64) (omega arith)) in
         forth-test b ∙ ap (ltb 0) (along-forth rec d b (signOf (d % 64)) (q ∙ (at-link ∙ k)) refl s ∙ view-link rec d (stands .carried))
 
-    pub laden-back : w % 2 ≢ 0 → (b : ℕ) → b ≡ getD rec (w / 2 + d / 64) 0 → ltb 32 b ≡ ltb 0 (view rec d)
+    pub laden-back : w % 2 ≢ 0 → (b : ℕ) → b ≡ getD rec (w / 2 + x) 0 → ltb 32 b ≡ ltb 0 (view rec d)
     laden-back z b q =
         let k = kept-in rec d (ownerOf (d % 64)) refl (kindOf (d % 64)) refl (omega arith) (omega (arith, owner-bound (d % 64) (omega arith))) in
         let s : signOf (d % 64) ≢ 0 = λ y. z (omega (arith, stands .word)) in
         back-test b ∙ ap (ltb 0) (along-back rec d b (signOf (d % 64)) (q ∙ (at-link ∙ k)) refl s ∙ view-link rec d (stands .carried))
+
+-- ---- by the word of four slots
+
+pub slot-test : (rec : List ℕ) (u k w : ℕ) (b : Bool) → k < 4 → w ≡ placeOf (4 * (2 * (u % 8)) + k)
+    → ((d : ℕ) → d / 64 ≡ u / 8 → placeOf (d % 64) ≡ w → b ≡ ltb 0 (view rec d)) → b ≡ ltb 0 (view rec (8 * u + k))
+slot-test rec u k w b h q f = f (8 * u + k) (omega arith) (ap placeOf (omega arith) ∙ sym q)
