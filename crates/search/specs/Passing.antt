@@ -1,10 +1,10 @@
--- Pins passed one after the other, and one row after the other: when all rows are passed, no wire more can start anywhere. And what a caller reads off the
+-- Pins passed one after the other, and one row after the other, from the rim inwards: when all rows are passed, no wire more can start anywhere. And what a caller reads off the
 -- answers of the search for the next wire. Assumes nothing.
 use mathlib.Core.Path.{_≡_, sym, ap, subst, _∙_}
 use mathlib.Core.Logic.{_⊎_, inl, inr, ⊎-elim}
 use mathlib.Core.Bool.{Bool, true, false}
 use mathlib.Core.List.{List}
-use Prim.Native.Nat.{ℕ, _+_, _≤_, _<_}
+use Prim.Native.Nat.{ℕ, _+_, _-_, _*_, _≤_, _<_}
 use native.Mathlib.Nat.{eq-or-lt-of-le}
 use native.Mathlib.Omega.{arith}
 use lib.Dec.{T, eqb, ltb, ltb→lt}
@@ -16,10 +16,11 @@ use Rattle.model.specs.Near.{exit}
 use Rattle.model.proofs.RecordOf.{range-most}
 use Rattle.channel.specs.Map.{spots}
 use Rattle.channel.specs.Map.Starts.{wanted-pin}
+use Rattle.audit.specs.Loops.Marks.{below-or}
 use Rattle.search.specs.OneMore.{OneMore}
 use Rattle.search.specs.Marks.{marked}
 use Rattle.search.specs.Steps.{Whole}
-use Rattle.search.specs.Pins.{Held, Dead, Unwired, Passed, Tested, wired, shut, InRow, InRows, AnySpot, Answered, laid, nothing}
+use Rattle.search.specs.Pins.{Held, Dead, Unwired, Passed, Tested, wired, shut, inward, inward-even, inward-odd, InRow, InRows, AnySpot, Answered, laid, nothing}
 use Rattle.search.specs.declared.next.Next.{Next}
 use Rattle.search.specs.declared.next.Next.the-variants.{Laid, Nothing}
 
@@ -42,24 +43,40 @@ last-or : (i m : ℕ) → i < m + 1 → (i ≡ m) ⊎ (i < m)
 last-or i m l = eq-or-lt-of-le (omega arith)
 
 -- one pin more of the row
-pub passed-row : {J : Job} {rec t t₁ t₂ : List ℕ} {r m u : ℕ} → Passed J (InRow r m) rec t t₁ → u ≡ exit (at pin r m) → Passed J (λ x. x ≡ u) rec t₁ t₂
-    → Passed J (InRow r (m + 1)) rec t t₂
-passed-row {r = r} {m = m} p q s =
+pub passed-row : {J : Job} {rec t t₁ t₂ : List ℕ} {r n m u : ℕ} → Passed J (InRow r n m) rec t t₁ → u ≡ exit (at pin r (inward m n))
+    → Passed J (λ x. x ≡ u) rec t₁ t₂ → Passed J (InRow r n (m + 1)) rec t t₂
+passed-row {r = r} {n = n} {m = m} p q s =
     passed-then p s
     (λ x w. ⊎-elim
-    (λ i. inr (w .spot ∙ ap (λ (c : ℕ). exit (at pin r c)) i ∙ sym q))
-    (λ h. inl (record { column = w .column; early = h; spot = w .spot }))
-    (last-or (w .column) m (w .early)))
+    (λ i. inr (w .spot ∙ ap (λ (c : ℕ). exit (at pin r (inward c n))) i ∙ sym q))
+    (λ h. inl (record { turn = w .turn; early = h; spot = w .spot }))
+    (last-or (w .turn) m (w .early)))
+
+-- the spot of the pin at a column of that order
+pub pin-at : (r i : ℕ) {u x n m : ℕ} → u ≡ exit (at pin r x) → x ≡ inward i n → n ≡ m → u ≡ exit (at pin r (inward i m))
+pin-at r i e q k = e ∙ ap (λ (c : ℕ). exit (at pin r c)) (q ∙ ap (inward i) k)
 
 -- one row more
-pub passed-rows : {J : Job} {rec t t₁ t₂ : List ℕ} {m n : ℕ} → Passed J (InRows m n) rec t t₁ → Passed J (InRow m n) rec t₁ t₂
-    → Passed J (InRows (m + 1) n) rec t t₂
-passed-rows {m = m} {n = n} p s =
+pub passed-rows : {J : Job} {rec t t₁ t₂ : List ℕ} {rows n m : ℕ} (r k : ℕ) → Passed J (InRows rows n m) rec t t₁ → r ≡ inward m k → k ≡ rows
+    → Passed J (InRow r n n) rec t₁ t₂ → Passed J (InRows rows n (m + 1)) rec t t₂
+passed-rows {rows = rows} {n = n} {m = m} r k p e q s =
     passed-then p s
     (λ x w. ⊎-elim
-    (λ i. inr (subst (λ (r : ℕ). InRow r n x) i (w .there)))
-    (λ h. inl (record { row = w .row; early = h; there = w .there }))
-    (last-or (w .row) m (w .early)))
+    (λ i. inr (subst (λ (y : ℕ). InRow y n n x) (ap (λ (j : ℕ). inward j rows) i ∙ ap (inward m) (sym q) ∙ sym e) (w .there)))
+    (λ h. inl (record { turn = w .turn; early = h; there = w .there }))
+    (last-or (w .turn) m (w .early)))
+
+-- ---- the order of rows and columns
+
+-- every number below n has its turn
+inward-all : (n x : ℕ) → x < n → (i : ℕ) × (i < n) × (inward i n ≡ x)
+inward-all n x l = ⊎-elim first second (below-or (x + x) n)
+  where
+    first : x + x < n → (i : ℕ) × (i < n) × (inward i n ≡ x)
+    first h = (2 * x, omega arith, sym (inward-even (2 * x) n (omega arith)) ∙ omega arith)
+
+    second : n ≤ x + x → (i : ℕ) × (i < n) × (inward i n ≡ x)
+    second h = (2 * (n - 1 - x) + 1, omega arith, sym (inward-odd (2 * (n - 1 - x) + 1) n (λ e. omega arith)) ∙ omega arith)
 
 -- an array has at most 40 rows and 40 columns
 pub held-size : {J : Job} {rec : List ℕ} → Held J rec → (J .rows ≤ 40) × (J .columns ≤ 40)
@@ -76,14 +93,17 @@ chosen-within J r c t =
     (ltb→lt r (J .rows) (and-left (ltb r (J .rows)) (ltb c (J .columns)) p), ltb→lt c (J .columns) (and-right (ltb r (J .rows)) (ltb c (J .columns)) p))
 
 -- every row
-pub passed-all : {J : Job} {rec t t′ : List ℕ} → Passed J (InRows (J .rows) (J .columns)) rec t t′ → Passed J AnySpot rec t t′
+pub passed-all : {J : Job} {rec t t′ : List ℕ} → Passed J (InRows (J .rows) (J .columns) (J .rows)) rec t t′ → Passed J AnySpot rec t t′
 passed-all {J} {rec} {t} {t′} p = record { dead = p .dead; grown = p .grown; shut = λ u l h. everywhere u h; reached = p .reached }
   where
     everywhere : (u : ℕ) → Unwired J rec u → T (marked t′ u)
     everywhere u h =
         let (r, c, t, e) = wanted-pin J u (omega arith) in
         let (a, b) = chosen-within J r c t in
-        p .shut u (record { row = r; early = a; there = record { column = c; early = b; spot = e } }) h
+        let (i, li, ei) = inward-all (J .rows) r a in
+        let (j, lj, ej) = inward-all (J .columns) c b in
+        let q : u ≡ exit (at pin (inward i (J .rows)) (inward j (J .columns))) = rw (ei, ej) e in
+        p .shut u (record { turn = i; early = li; there = record { turn = j; early = lj; spot = q } }) h
 
 -- ---- what a caller reads off the answers
 

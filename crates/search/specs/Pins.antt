@@ -1,10 +1,11 @@
 -- What the search for the next wire keeps and answers. The marked spots are dead: no move leads out of them, and none is outside. Assumes nothing.
-use mathlib.Core.Path.{_≡_}
+use mathlib.Core.Path.{_≡_, sym, ap}
 use mathlib.Core.Logic.{_≢_}
 use mathlib.Core.Bool.{Bool, true, false}
 use mathlib.Core.List.{List}
-use Prim.Native.Nat.{ℕ, _≤_, _<_}
-use lib.Dec.{T}
+use Prim.Native.Nat.{ℕ, _-_, _/_, _%_, _≤_, _<_}
+use borrow.Author.Tests.{eq-eqb, ne-eqb}
+use lib.Dec.{T, eqb}
 use lib.ListN.{length, getD}
 use Rattle.model.specs.Job.{Job, arrayFits, capsFit}
 use Rattle.model.specs.Links.{pin, at}
@@ -56,16 +57,29 @@ pub data Tested (J : Job) (rec t : List ℕ) (u : ℕ) (rec′ t′ : List ℕ) 
   wired : Unwired J rec u → OneMore J rec rec′ u → Dead J rec′ t′ → Tested J rec t u rec′ t′ true
   shut : rec′ ≡ rec → Passed J (λ x. x ≡ u) rec t t′ → Tested J rec t u rec′ t′ false
 
--- u is the spot of a pin of row r before column n; of the rows before m; any spot
-pub record InRow (r n u : ℕ) : Type 0 where
-  pub column : ℕ
-  pub early : column < n
-  pub spot : u ≡ exit (at pin r column)
+-- the i-th of n in the order first, last, second, last but one, and so on
+pub inward : ℕ → ℕ → ℕ
+inward i n = elim (eqb (i % 2) 0) [ true ↦ i / 2 | false ↦ n - 1 - i / 2 ]
 
-pub record InRows (m n u : ℕ) : Type 0 where
-  pub row : ℕ
-  pub early : row < m
-  pub there : InRow row n u
+-- as a program reads it
+pub inward-even : (i n : ℕ) → i % 2 ≡ 0 → i / 2 ≡ inward i n
+unfolding inward
+inward-even i n e = sym (ap (λ (b : Bool). elim b [ true ↦ i / 2 | false ↦ n - 1 - i / 2 ]) (eq-eqb (i % 2) 0 e))
+
+pub inward-odd : (i n : ℕ) → i % 2 ≢ 0 → n - 1 - i / 2 ≡ inward i n
+unfolding inward
+inward-odd i n e = sym (ap (λ (b : Bool). elim b [ true ↦ i / 2 | false ↦ n - 1 - i / 2 ]) (ne-eqb (i % 2) 0 e))
+
+-- u is the spot of one of the first m pins of row r, of the first m rows, in that order; any spot
+pub record InRow (r n m u : ℕ) : Type 0 where
+  pub turn : ℕ
+  pub early : turn < m
+  pub spot : u ≡ exit (at pin r (inward turn n))
+
+pub record InRows (rows n m u : ℕ) : Type 0 where
+  pub turn : ℕ
+  pub early : turn < m
+  pub there : InRow (inward turn rows) n n u
 
 abbrev pub AnySpot : ℕ → Type 0
 AnySpot u = u < spots

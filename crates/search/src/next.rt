@@ -1,11 +1,13 @@
-// The next wire: the pins row by row, each that is chosen, starts no wire and is not marked, until one has a way out.
+// The next wire: the pins from the rim inwards, each that is chosen, starts no wire and is not marked, until one has a way out. Wires from the rim are
+// short, and those laid after them turn round them.
+ghost use mathlib.Core.Path.{_≡_};
 ghost use Prim.Native.Nat.{_≤_, _<_};
 ghost use lib.ListN.{length};
 ghost use Rattle.model.specs.Record.{jobOf};
 ghost use Rattle.channel.specs.Map.{spots};
 ghost use Rattle.search.specs.Spread.{Room};
 ghost use Rattle.search.specs.Steps.{Whole};
-ghost use Rattle.search.specs.Pins.{Held, Dead, Open, Tested, InRow, AnySpot, Answered};
+ghost use Rattle.search.specs.Pins.{Held, Dead, Open, Tested, inward, InRow, AnySpot, Answered};
 use crate::reach::Way;
 use crate::reach::reach;
 use crate::ways::lay_way;
@@ -20,6 +22,14 @@ use channel::wire_starts;
 pub enum Next {
     Laid(usize),
     Nothing,
+}
+
+// The i-th of n in the order first, last, second, last but one, and so on.
+fn inwards(i: usize, n: usize) -> usize
+    requires { ⌜ i < n ⌝ }
+    ensures { λ x. ⌜ (x ≡ inward i n) × (x < n) ⌝ }
+{
+    if i % 2 == 0 { i / 2 } else { n - 1 - i / 2 }
 }
 
 // Whether a search is to begin at u.
@@ -78,11 +88,12 @@ fn row_wire(
 ) -> Next
     requires { ⌜ Whole (now job) (now loads) × Room (now marks) (now queue) (now parent) (now slot)
         × Held (jobOf (now job)) (now loads) × Dead (jobOf (now job)) (now loads) (now marks) × (r < 40) ⌝ }
-    ensures { λ y. ⌜ Answered (jobOf (now (job .entry))) (InRow r (jobOf (now (job .entry)) .columns))
+    ensures { λ y. ⌜ Answered (jobOf (now (job .entry))) (InRow r (jobOf (now (job .entry)) .columns) (jobOf (now (job .entry)) .columns))
         (now (loads .entry)) (now (marks .entry)) (now (loads .exit)) (now (marks .exit)) y ⌝ }
 {
-    for c in 0..columns(job) {
-        let u = pin_exit(r, c);
+    let n = columns(job);
+    for i in 0..n {
+        let u = pin_exit(r, inwards(i, n));
         if wire_from(job, loads, u, marks, queue, parent, slot) {
             return Next::Laid(u);
         }
@@ -104,8 +115,9 @@ pub fn next_wire(
     ensures { λ y. ⌜ Answered (jobOf (now (job .entry))) AnySpot
         (now (loads .entry)) (now (marks .entry)) (now (loads .exit)) (now (marks .exit)) y ⌝ }
 {
-    for r in 0..rows(job) {
-        match row_wire(job, loads, r, marks, queue, parent, slot) {
+    let n = rows(job);
+    for i in 0..n {
+        match row_wire(job, loads, inwards(i, n), marks, queue, parent, slot) {
             Next::Laid(u) => {
                 return Next::Laid(u);
             }

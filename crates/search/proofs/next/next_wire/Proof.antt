@@ -14,12 +14,12 @@ use Rattle.search.proofs.next.next_wire.Statement.{statement}
 use Rattle.search.proofs.next.next_wire.Tie as tie
 
 abbrev Inv-loop : tie.InvT-loop
-Inv-loop job loads₀ marks₀ queue₀ parent₀ slot₀ r₀ r-end loads marks queue parent slot r =
-    (r ≤ r-end) × (loads ≡ loads₀) × Alike marks₀ queue₀ parent₀ slot₀ marks queue parent slot
-    × Passed (jobOf job) (InRows r (jobOf job .columns)) loads₀ marks₀ marks
+Inv-loop job loads₀ marks₀ queue₀ parent₀ slot₀ n i₀ loads marks queue parent slot i =
+    (i ≤ n) × (loads ≡ loads₀) × Alike marks₀ queue₀ parent₀ slot₀ marks queue parent slot
+    × Passed (jobOf job) (InRows (jobOf job .rows) (jobOf job .columns) i) loads₀ marks₀ marks
 
 abbrev μ-loop : tie.MeasureT-loop
-μ-loop job loads₀ marks₀ queue₀ parent₀ slot₀ r₀ r-end loads marks queue parent slot r = r-end - r
+μ-loop job loads₀ marks₀ queue₀ parent₀ slot₀ n i₀ loads marks queue parent slot i = n - i
 
 rows-requires : tie.Need-rows-requires Inv-loop μ-loop
 rows-requires c κs = search needs
@@ -27,58 +27,61 @@ rows-requires c κs = search needs
 loop-holds : tie.Need-loop-holds Inv-loop μ-loop
 loop-holds c = (omega arith, refl, alike-refl _ _ _ _, passed-none (c .before .before .before .before .before .before .before .pre .3) (λ u w. omega (arith, w .early)))
 
+inwards-requires : tie.Need-inwards-requires Inv-loop μ-loop
+inwards-requires c κs = omega (arith, c .before .loop-test .taken)
+
 row-wire-requires : tie.Need-row-wire-requires Inv-loop μ-loop
 row-wire-requires c κs =
-    let c6 = c .before .before .before .before .before .before in
-    let l = c6 .loop .inv in
-    let p = c6 .before .before .before .before .before .before .before .before .pre in (
+    let c7 = c .before .before .before .before .before .before .before in
+    let l = c7 .loop .inv in
+    let p = c7 .before .before .before .before .before .before .before .before .pre in (
       whole-still (l .1) (p .0),
       alike-room (p .1) (l .2),
       held-still (l .1) (p .2),
       dead-still (l .1) _ (l .3 .dead),
-      omega (arith, held-size (p .2) .0, c6 .before .rows .ensures .0, c .before .before .before .before .before .loop-test .taken),
+      omega (arith, held-size (p .2) .0, c7 .before .rows .ensures .0, c .before .before .before .before .inwards .ensures .1),
     )
 
 enum-known-u : tie.Need-enum-known-u Inv-loop μ-loop
 enum-known-u c = search needs
 
 same-length : tie.Need-same-length Inv-loop μ-loop
-same-length c = c .before .before .before .before .before .before .before .before .before .before .before .before .before .row-wire .kept .1 .0 ∙ ap length (c .before .before .before .before .before .before .before .before .before .before .before .before .before .before .before .before .before .before .before .before .loop .inv .1)
+same-length c = c .before .before .before .before .before .before .before .before .before .before .before .before .before .row-wire .kept .1 .0 ∙ ap length (c .before .before .before .before .before .before .before .before .before .before .before .before .before .before .before .before .before .before .before .before .before .loop .inv .1)
 
 same-length-2 : tie.Need-same-length-2 Inv-loop μ-loop
-same-length-2 c = c .before .before .before .before .before .before .before .before .before .before .before .before .before .row-wire .kept .1 .1 .1 .0 ∙ c .before .before .before .before .before .before .before .before .before .before .before .before .before .before .before .before .before .before .before .before .loop .inv .2 .marks
+same-length-2 c = c .before .before .before .before .before .before .before .before .before .before .before .before .before .row-wire .kept .1 .1 .1 .0 ∙ c .before .before .before .before .before .before .before .before .before .before .before .before .before .before .before .before .before .before .before .before .before .loop .inv .2 .marks
 
 same-length-3 : tie.Need-same-length-3 Inv-loop μ-loop
-same-length-3 c = c .before .before .before .before .before .before .before .before .before .before .before .before .before .row-wire .kept .1 .1 .1 .1 .0 ∙ c .before .before .before .before .before .before .before .before .before .before .before .before .before .before .before .before .before .before .before .before .loop .inv .2 .queue
+same-length-3 c = c .before .before .before .before .before .before .before .before .before .before .before .before .before .row-wire .kept .1 .1 .1 .1 .0 ∙ c .before .before .before .before .before .before .before .before .before .before .before .before .before .before .before .before .before .before .before .before .before .loop .inv .2 .queue
 
 same-length-4 : tie.Need-same-length-4 Inv-loop μ-loop
-same-length-4 c = c .before .before .before .before .before .before .before .before .before .before .before .before .before .row-wire .kept .1 .1 .1 .1 .1 .0 ∙ c .before .before .before .before .before .before .before .before .before .before .before .before .before .before .before .before .before .before .before .before .loop .inv .2 .parents
+same-length-4 c = c .before .before .before .before .before .before .before .before .before .before .before .before .before .row-wire .kept .1 .1 .1 .1 .1 .0 ∙ c .before .before .before .before .before .before .before .before .before .before .before .before .before .before .before .before .before .before .before .before .before .loop .inv .2 .parents
 
 same-length-5 : tie.Need-same-length-5 Inv-loop μ-loop
-same-length-5 c = c .before .before .before .before .before .before .before .before .before .before .before .before .before .row-wire .kept .1 .1 .1 .1 .1 .1 .0 ∙ c .before .before .before .before .before .before .before .before .before .before .before .before .before .before .before .before .before .before .before .before .loop .inv .2 .slots
+same-length-5 c = c .before .before .before .before .before .before .before .before .before .before .before .before .before .row-wire .kept .1 .1 .1 .1 .1 .1 .0 ∙ c .before .before .before .before .before .before .before .before .before .before .before .before .before .before .before .before .before .before .before .before .before .loop .inv .2 .slots
 
 returns : tie.Need-returns Inv-loop μ-loop
-returns c = laid-in-row (answered-still (c .before .before .before .before .before .before .before .before .before .before .before .before .before .before .before .before .before .before .before .before .loop .inv .1) (c .before .before .before .before .before .before .before .before .before .before .before .before .before .row-wire .ensures)) (c .before .u .given .1)
+returns c = laid-in-row (answered-still (c .before .before .before .before .before .before .before .before .before .before .before .before .before .before .before .before .before .before .before .before .before .loop .inv .1) (c .before .before .before .before .before .before .before .before .before .before .before .before .before .row-wire .ensures)) (c .before .u .given .1)
 
 enum-told : tie.Need-enum-told Inv-loop μ-loop
 enum-told c = search needs
 
-add-r : tie.Need-add-r Inv-loop μ-loop
-add-r c = search needs
+add-i : tie.Need-add-i Inv-loop μ-loop
+add-i c = search needs
 
 loop-less : tie.Need-loop-less Inv-loop μ-loop
-loop-less c = omega (arith, c .before .before .before .before .before .before .before .before .before .before .before .before .before .before .before .before .before .before .loop-test .taken)
+loop-less c = omega (arith, c .before .before .before .before .before .before .before .before .before .before .before .before .before .before .before .before .before .before .before .loop-test .taken)
 
 loop-again : tie.Need-loop-again Inv-loop μ-loop
 loop-again c =
     let c12 = c .before .before .before .before .before .before .before .before .before .before .before .before in
-    let l = c12 .before .before .before .before .before .before .before .loop .inv in
+    let l = c12 .before .before .before .before .before .before .before .before .loop .inv in
     let k = c12 .row-wire .kept .1 .1 .1 in
     let (q, p) = was-nothing (answered-still (l .1) (c12 .row-wire .ensures)) (c .enum-told .given .1) in (
-      omega (arith, c12 .before .before .before .before .before .before .loop-test .taken),
+      omega (arith, c12 .before .before .before .before .before .before .before .loop-test .taken),
       q,
       alike-then (l .2) (k .0) (k .1 .0) (k .1 .1 .0) (k .1 .1 .1 .0),
-      passed-rows (l .3) p,
+      passed-rows _ _ (l .3) (c12 .before .before .before .before .before .inwards .ensures .0) (c12 .before .before .before .before .before .before .before .before .before .rows .ensures .0) p,
     )
 
 same-length-6 : tie.Need-same-length-6 Inv-loop μ-loop
@@ -99,7 +102,7 @@ same-length-10 c = c .before .loop .inv .2 .slots
 returns-2 : tie.Need-returns-2 Inv-loop μ-loop
 returns-2 c =
     let l = c .before .loop in
-    let e : l .r ≡ jobOf (now (c .before .before .before .before .before .before .before .before .before .args .job)) .rows = omega (arith, c .loop-test .left, c .before .before .rows .ensures .0) in
+    let e : l .i ≡ jobOf (now (c .before .before .before .before .before .before .before .before .before .args .job)) .rows = omega (arith, c .loop-test .left, c .before .before .rows .ensures .0) in
     nothing (l .inv .1) (passed-all (rw e at (l .inv .3)))
 
 pub next-wire-spec : {M : Type 1} → statement M
@@ -110,6 +113,7 @@ next-wire-spec =
     μ-loop
     rows-requires
     loop-holds
+    inwards-requires
     row-wire-requires
     enum-known-u
     same-length
@@ -119,7 +123,7 @@ next-wire-spec =
     same-length-5
     returns
     enum-told
-    add-r
+    add-i
     loop-less
     loop-again
     same-length-6

@@ -10,16 +10,16 @@ use Rattle.channel.specs.Map.Numbers.{is-spot}
 use Rattle.search.specs.Spread.{Alike}
 use Rattle.search.specs.Queue.{alike-refl, alike-then, alike-room}
 use Rattle.search.specs.Pins.{InRow, Passed, nothing}
-use Rattle.search.specs.Passing.{passed-none, passed-row, held-size, tested-shut, whole-still, held-still, dead-still, tested-still, laid-from}
+use Rattle.search.specs.Passing.{passed-none, passed-row, pin-at, held-size, tested-shut, whole-still, held-still, dead-still, tested-still, laid-from}
 use Rattle.search.proofs.next.row_wire.Statement.{statement}
 use Rattle.search.proofs.next.row_wire.Tie as tie
 
 abbrev Inv-loop : tie.InvT-loop
-Inv-loop job loads₀ r marks₀ queue₀ parent₀ slot₀ c₀ c-end loads marks queue parent slot c =
-    (c ≤ c-end) × (loads ≡ loads₀) × Alike marks₀ queue₀ parent₀ slot₀ marks queue parent slot × Passed (jobOf job) (InRow r c) loads₀ marks₀ marks
+Inv-loop job loads₀ r marks₀ queue₀ parent₀ slot₀ n i₀ loads marks queue parent slot i =
+    (i ≤ n) × (loads ≡ loads₀) × Alike marks₀ queue₀ parent₀ slot₀ marks queue parent slot × Passed (jobOf job) (InRow r (jobOf job .columns) i) loads₀ marks₀ marks
 
 abbrev μ-loop : tie.MeasureT-loop
-μ-loop job loads₀ r marks₀ queue₀ parent₀ slot₀ c₀ c-end loads marks queue parent slot c = c-end - c
+μ-loop job loads₀ r marks₀ queue₀ parent₀ slot₀ n i₀ loads marks queue parent slot i = n - i
 
 columns-requires : tie.Need-columns-requires Inv-loop μ-loop
 columns-requires c κs = search needs
@@ -27,54 +27,57 @@ columns-requires c κs = search needs
 loop-holds : tie.Need-loop-holds Inv-loop μ-loop
 loop-holds c = (omega arith, refl, alike-refl _ _ _ _, passed-none (c .before .before .before .before .before .before .before .pre .3) (λ u w. omega (arith, w .early)))
 
+inwards-requires : tie.Need-inwards-requires Inv-loop μ-loop
+inwards-requires c κs = omega (arith, c .loop-test .taken)
+
 pin-exit-requires : tie.Need-pin-exit-requires Inv-loop μ-loop
 pin-exit-requires c κs =
-    let p = c .before .before .before .before .before .before .before .before .before .pre in
-    (p .4, omega (arith, held-size (p .2) .1, c .before .before .columns .ensures .0, c .loop-test .taken))
+    let p = c .before .before .before .before .before .before .before .before .before .before .pre in
+    (p .4, omega (arith, held-size (p .2) .1, c .before .before .before .columns .ensures .0, c .inwards .ensures .1))
 
 wire-from-requires : tie.Need-wire-from-requires Inv-loop μ-loop
 wire-from-requires c κs =
-    let c7 = c .before .before .before .before .before .before .before in
-    let l = c7 .loop .inv in
-    let p = c7 .before .before .before .before .before .before .before .before .pre in
+    let c8 = c .before .before .before .before .before .before .before .before in
+    let l = c8 .loop .inv in
+    let p = c8 .before .before .before .before .before .before .before .before .pre in
     (whole-still (l .1) (p .0), alike-room (p .1) (l .2), held-still (l .1) (p .2), dead-still (l .1) _ (l .3 .dead), is-spot (c .before .before .before .before .before .pin-exit .ensures .1))
 
 same-length : tie.Need-same-length Inv-loop μ-loop
-same-length c = c .before .before .before .before .before .before .before .before .before .before .before .wire-from .kept .1 .0 ∙ ap length (c .before .before .before .before .before .before .before .before .before .before .before .before .before .before .before .before .before .before .before .loop .inv .1)
+same-length c = c .before .before .before .before .before .before .before .before .before .before .before .wire-from .kept .1 .0 ∙ ap length (c .before .before .before .before .before .before .before .before .before .before .before .before .before .before .before .before .before .before .before .before .loop .inv .1)
 
 same-length-2 : tie.Need-same-length-2 Inv-loop μ-loop
-same-length-2 c = c .before .before .before .before .before .before .before .before .before .before .before .wire-from .kept .1 .1 .1 .0 ∙ c .before .before .before .before .before .before .before .before .before .before .before .before .before .before .before .before .before .before .before .loop .inv .2 .marks
+same-length-2 c = c .before .before .before .before .before .before .before .before .before .before .before .wire-from .kept .1 .1 .1 .0 ∙ c .before .before .before .before .before .before .before .before .before .before .before .before .before .before .before .before .before .before .before .before .loop .inv .2 .marks
 
 same-length-3 : tie.Need-same-length-3 Inv-loop μ-loop
-same-length-3 c = c .before .before .before .before .before .before .before .before .before .before .before .wire-from .kept .1 .1 .1 .1 .0 ∙ c .before .before .before .before .before .before .before .before .before .before .before .before .before .before .before .before .before .before .before .loop .inv .2 .queue
+same-length-3 c = c .before .before .before .before .before .before .before .before .before .before .before .wire-from .kept .1 .1 .1 .1 .0 ∙ c .before .before .before .before .before .before .before .before .before .before .before .before .before .before .before .before .before .before .before .before .loop .inv .2 .queue
 
 same-length-4 : tie.Need-same-length-4 Inv-loop μ-loop
-same-length-4 c = c .before .before .before .before .before .before .before .before .before .before .before .wire-from .kept .1 .1 .1 .1 .1 .0 ∙ c .before .before .before .before .before .before .before .before .before .before .before .before .before .before .before .before .before .before .before .loop .inv .2 .parents
+same-length-4 c = c .before .before .before .before .before .before .before .before .before .before .before .wire-from .kept .1 .1 .1 .1 .1 .0 ∙ c .before .before .before .before .before .before .before .before .before .before .before .before .before .before .before .before .before .before .before .before .loop .inv .2 .parents
 
 same-length-5 : tie.Need-same-length-5 Inv-loop μ-loop
-same-length-5 c = c .before .before .before .before .before .before .before .before .before .before .before .wire-from .kept .1 .1 .1 .1 .1 .1 .0 ∙ c .before .before .before .before .before .before .before .before .before .before .before .before .before .before .before .before .before .before .before .loop .inv .2 .slots
+same-length-5 c = c .before .before .before .before .before .before .before .before .before .before .before .wire-from .kept .1 .1 .1 .1 .1 .1 .0 ∙ c .before .before .before .before .before .before .before .before .before .before .before .before .before .before .before .before .before .before .before .before .loop .inv .2 .slots
 
 returns : tie.Need-returns Inv-loop μ-loop
 returns c =
     let c11 = c .before .before .before .before .before .before .before .before .before .before .before in
-    laid-from (tested-still (c11 .before .before .before .before .before .before .before .before .loop .inv .1) (c11 .wire-from .ensures)) (c .if1 .taken) (is-spot (c11 .before .before .before .before .before .before .pin-exit .ensures .1))
+    laid-from (tested-still (c11 .before .before .before .before .before .before .before .before .before .loop .inv .1) (c11 .wire-from .ensures)) (c .if1 .taken) (is-spot (c11 .before .before .before .before .before .before .pin-exit .ensures .1))
 
-add-c : tie.Need-add-c Inv-loop μ-loop
-add-c c = search needs
+add-i : tie.Need-add-i Inv-loop μ-loop
+add-i c = search needs
 
 loop-less : tie.Need-loop-less Inv-loop μ-loop
-loop-less c = omega (arith, c .before .before .before .before .before .before .before .before .before .before .before .before .before .before .before .before .before .before .loop-test .taken)
+loop-less c = omega (arith, c .before .before .before .before .before .before .before .before .before .before .before .before .before .before .before .before .before .before .before .loop-test .taken)
 
 loop-again : tie.Need-loop-again Inv-loop μ-loop
 loop-again c =
     let c11 = c .before .before .before .before .before .before .before .before .before .before .before in
-    let l = c11 .before .before .before .before .before .before .before .before .loop .inv in
+    let l = c11 .before .before .before .before .before .before .before .before .before .loop .inv in
     let k = c11 .wire-from .kept .1 .1 .1 in
     let (q, p) = tested-shut (tested-still (l .1) (c11 .wire-from .ensures)) (c .if1 .left) in (
-      omega (arith, c .before .before .before .before .before .before .before .before .before .before .before .before .before .before .before .before .before .before .loop-test .taken),
+      omega (arith, c .before .before .before .before .before .before .before .before .before .before .before .before .before .before .before .before .before .before .before .loop-test .taken),
       q,
       alike-then (l .2) (k .0) (k .1 .0) (k .1 .1 .0) (k .1 .1 .1 .0),
-      passed-row (l .3) (c11 .before .before .before .before .before .before .pin-exit .ensures .0) p,
+      passed-row (l .3) (pin-at _ _ (c11 .before .before .before .before .before .before .pin-exit .ensures .0) (c11 .before .before .before .before .before .before .before .inwards .ensures .0) (c11 .before .before .before .before .before .before .before .before .before .before .columns .ensures .0)) p,
     )
 
 same-length-6 : tie.Need-same-length-6 Inv-loop μ-loop
@@ -95,7 +98,7 @@ same-length-10 c = c .before .loop .inv .2 .slots
 returns-2 : tie.Need-returns-2 Inv-loop μ-loop
 returns-2 c =
     let l = c .before .loop in
-    let e : l .c ≡ jobOf (now (c .before .before .before .before .before .before .before .before .before .args .job)) .columns = omega (arith, c .loop-test .left, c .before .before .columns .ensures .0) in
+    let e : l .i ≡ jobOf (now (c .before .before .before .before .before .before .before .before .before .args .job)) .columns = omega (arith, c .loop-test .left, c .before .before .columns .ensures .0) in
     nothing (l .inv .1) (rw e at (l .inv .3))
 
 pub row-wire-spec : {M : Type 1} → statement M
@@ -106,6 +109,7 @@ row-wire-spec =
     μ-loop
     columns-requires
     loop-holds
+    inwards-requires
     pin-exit-requires
     wire-from-requires
     same-length
@@ -114,7 +118,7 @@ row-wire-spec =
     same-length-4
     same-length-5
     returns
-    add-c
+    add-i
     loop-less
     loop-again
     same-length-6
