@@ -1,5 +1,5 @@
 -- A set of spots closed under the moves, none of them outside, stays closed: a path to the outside never meets it, so that laying the path changes nothing
--- that can be seen from it; and taking a loop out opens no way out of it. Assumes nothing.
+-- that can be seen from it. Assumes nothing.
 use mathlib.Core.Path.{_≡_, subst}
 use mathlib.Core.Bool.{Bool}
 use mathlib.Core.List.{List}
@@ -23,7 +23,6 @@ use Rattle.channel.specs.Map.Network.Moves.{move-residual, closed-residual}
 use Rattle.channel.specs.Map.Network.Least.{view-least}
 use Rattle.search.specs.Laid.{laidAll, BytesFit}
 use Rattle.search.specs.OneMore.{OneMore, path-flow, path-agrees, lays-one}
-use Rattle.search.specs.Unlooped.{Lighter}
 use Rattle.search.specs.NoMore.{ClosedUnderMoves, NoneOutside}
 
 -- a path from a node ends at a node
@@ -53,9 +52,3 @@ module _ (J : Job) (fits : T (arrayFits (J .rows) (J .columns))) (rec : List ℕ
 
       M : OneMore J rec (laidAll rec es) u
       M = lays-one J fits rec feasible caps long bytes u v ds h p o es e
-
-  -- What is closed stays closed when a loop is taken out.
-  pub dead-unlooped : (rec′ : List ℕ) → Lighter J rec rec′ → ClosedUnderMoves J rec′ S
-  dead-unlooped rec′ M d l t m =
-      closed-move J (less-closed (feasible-flow J fits rec′ (M .feasible) .load .balanced) (feasible-flow J fits rec feasible .load .balanced)
-      (λ x k. M .begun x (node-spot J k)) (λ x k. M .less x (net-dart J k)) inside C) d l t (move-residual J rec′ d m)

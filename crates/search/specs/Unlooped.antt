@@ -9,26 +9,23 @@ use native.Mathlib.Omega.{arith}
 use lib.Dec.{T}
 use lib.ListN.{length}
 use Rattle.sums.specs.Counting.{sum}
-use Rattle.sums.specs.Sums.{sum-le, sum-cong}
+use Rattle.sums.specs.Sums.{sum-le}
 use Rattle.flow.specs.Network.{times, times-has, has-times, Path, path-chain, path-once, path-dart}
 use Rattle.flow.specs.Flow.{Flow, flow-cong}
 use Rattle.flow.specs.Residual.{Residual, undo}
 use Rattle.flow.specs.Push.{push}
 use Rattle.flow.specs.Cancel.{Loaded, cancel, times-rev, cancel-flow, cancel-total, cancel-push}
-use Rattle.model.specs.Job.{Job, arrayFits, capsFit, isChosen}
+use Rattle.model.specs.Job.{Job, arrayFits, capsFit}
 use Rattle.model.specs.Loads.{Feasible}
 use Rattle.model.specs.Record.{recordSize, load}
-use Rattle.model.specs.Wires.{isWired, wireCount}
 use Rattle.channel.specs.Map.{spots, darts, rev, view, starts}
 use Rattle.channel.specs.Map.Back.{rev<}
 use Rattle.channel.specs.Map.Network.{net, net-darts, net-rev, net-dart, dart-net}
-use Rattle.channel.specs.Map.Starts.{pin-spot}
-use Rattle.channel.specs.Map.Network.Flows.{feasible-flow, starts-count}
+use Rattle.channel.specs.Map.Network.Flows.{feasible-flow}
 use Rattle.channel.specs.Map.Network.Agree.{Agrees}
 use Rattle.channel.specs.Map.Network.FeasibleBytes.{agrees-feasible, agrees-starts}
 use Rattle.channel.specs.Map.Network.Least.{view-least}
 use Rattle.search.specs.Laid.{laidAll, BytesFit, Darts, SameButLoads, laid-kept, laid-agrees, same-darts}
-use Rattle.search.specs.Wired.{same-wired}
 use Rattle.search.specs.OneMore.{path-darts}
 
 -- how many wires go along all darts together
@@ -99,18 +96,3 @@ module _ (J : Job) (fits : T (arrayFits (J .rows) (J .columns))) (rec : List ℕ
             falls = omega (arith, sum-le darts (view (laidAll rec es)) (cancel (view rec) loop) cancelled, rw (net-darts J) at (cancel-total F p));
             kept = laid-kept rec es (same-darts (map rev loop) es e backs-darts);
           }
-
-  -- ---- in terms of wires
-
-  module _ (rec′ : List ℕ) (M : Lighter J rec rec′) where
-    pub wires-same : wireCount J (load rec′) ≡ wireCount J (load rec)
-    wires-same =
-        omega (
-          arith,
-          starts-count J fits rec feasible,
-          starts-count J fits rec′ (M .feasible),
-          sum-cong spots (starts J rec′) (starts J rec) (M .begun),
-        )
-
-    pub pins-same : (r c : ℕ) → T (isChosen J r c) → isWired J (load rec′) r c ≡ isWired J (load rec) r c
-    pins-same r c t = same-wired J fits rec rec′ feasible (M .feasible) r c t (M .begun _ (pin-spot J fits r c t))

@@ -12,7 +12,6 @@ use Rattle.model.specs.Job.{Job, arrayFits, isTile, isChosen}
 use Rattle.model.specs.Links.{pin, at}
 use Rattle.model.specs.Near.{exitOf, exit}
 use Rattle.channel.specs.Map.{spots, inGrid, rowOf, columnOf, isStart, want, outside}
-use Rattle.channel.specs.Map.Back.{grid-at}
 use Rattle.channel.specs.Map.Darts.{grid-cell}
 use Rattle.channel.specs.Map.Spots.{held-grid}
 
@@ -36,14 +35,6 @@ module _ (J : Job) where
   pub want-start : (u : ℕ) → want J u ≡ when (isStart J u) 1
   unfolding want
   want-start u = refl
-
-  pub start-among : (u : ℕ) → T (isStart J u) → (i : ℕ) × (i < 1600) × (u ≡ 329 + 8 * i)
-  unfolding isStart
-  start-among u t =
-      let e : u % 8 ≡ 1 = eqb→eq (u % 8) 1 (and-left (eqb (u % 8) 1) (inGrid (u / 8) && isChosen J (rowOf (u / 8)) (columnOf (u / 8))) t) in
-      let g = and-right (eqb (u % 8) 1) (inGrid (u / 8) && isChosen J (rowOf (u / 8)) (columnOf (u / 8))) t in
-      let (a, b) = grid-at (u / 8) (and-left (inGrid (u / 8)) (isChosen J (rowOf (u / 8)) (columnOf (u / 8))) g) in
-      (u / 8 - 41, omega arith, omega arith)
 
   pub start-inside : (u : ℕ) → T (isStart J u) → T (outside J u) → ⊥
   unfolding isStart outside
