@@ -5,7 +5,7 @@ use listing::count_page;
 use listing::refused_page;
 use listing::short_page;
 use listing::wires_page;
-use oracle::page::Page as Sheet;
+use oracle_text::page::Page as Sheet;
 use search::route_all;
 use text::Judged;
 use text::read_into;

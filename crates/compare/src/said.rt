@@ -1,9 +1,9 @@
 // The answer of an operation as a kind and a number, so that two answers can be compared.
-use oracle::page::Page;
-use oracle::page::byte;
-use oracle::page::decimal;
-use oracle::page::pair;
-use oracle::page::word;
+use oracle_text::page::Page;
+use oracle_text::page::byte;
+use oracle_text::page::decimal;
+use oracle_text::page::pair;
+use oracle_text::page::word;
 use service::Answer;
 use wire::Part;
 

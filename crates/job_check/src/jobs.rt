@@ -14,16 +14,16 @@ use compare::said::REFUSED;
 use compare::said::SHORT;
 use compare::said::WROTE;
 use compare::said::is;
+use judge::listing::check_listing;
+use judge::walk::LEGAL;
 use listing::Page;
-use oracle::job::CHOSEN;
-use oracle::job::Job;
-use oracle::job::count_marked;
-use oracle::job::set_mark;
-use oracle::listing::LEGAL;
-use oracle::listing::check_listing;
 use oracle::near::shortfall;
-use oracle::random::random_job;
-use oracle::text::write_text;
+use oracle_text::job::CHOSEN;
+use oracle_text::job::Job;
+use oracle_text::job::count_marked;
+use oracle_text::job::set_mark;
+use oracle_text::random::random_job;
+use oracle_text::text::write_text;
 use verdict::bytes::Tally;
 use verdict::bytes::all;
 use verdict::bytes::begins;
@@ -98,7 +98,7 @@ fn ask_listing(tally: &mut Tally, rec: &Record, job: &Job, page: &mut Page) -> u
 }
 
 fn idle(job: &mut Job, rec: &Record, p: usize) {
-    if !is_wired(rec, p) && oracle::job::mark(job, p) == CHOSEN {
+    if !is_wired(rec, p) && oracle_text::job::mark(job, p) == CHOSEN {
         set_mark(job, p, 0);
     }
 }

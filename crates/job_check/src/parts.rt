@@ -1,14 +1,14 @@
 // The listing that Part gives piece by piece.
 use compare::said::is_part;
 use compare::said::put_listed;
-use oracle::job::CHOSEN;
-use oracle::job::Job;
-use oracle::job::mark;
-use oracle::page::Page as Sheet;
-use oracle::page::byte;
-use oracle::page::decimal;
-use oracle::page::pair;
-use oracle::page::word;
+use oracle_text::job::CHOSEN;
+use oracle_text::job::Job;
+use oracle_text::job::mark;
+use oracle_text::page::Page as Sheet;
+use oracle_text::page::byte;
+use oracle_text::page::decimal;
+use oracle_text::page::pair;
+use oracle_text::page::word;
 
 // The parts of the wire of the pin (r, c), by Part, from index 0 to the last.
 fn put_parts(rec: &[u8], out: &mut Sheet, at: usize, r: usize, c: usize) -> usize {

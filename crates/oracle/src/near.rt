@@ -3,9 +3,6 @@
 use crate::flow::is_near;
 use crate::flow::opposite;
 use crate::flow::solve;
-use crate::job::CHOSEN;
-use crate::job::Job;
-use crate::job::count_marked;
 use crate::net::FIRST_PIN;
 use crate::net::NODES;
 use crate::net::START;
@@ -14,6 +11,9 @@ use crate::sheet::REST;
 use crate::sheet::Sheet;
 use crate::sheet::TO;
 use crate::sheet::read;
+use oracle_text::job::CHOSEN;
+use oracle_text::job::Job;
+use oracle_text::job::count_marked;
 ghost use Prim.Native.Nat.{_<_};
 
 pub type Side = [u8; 32768];

@@ -2,18 +2,6 @@
 // nodes (n, e, s, w, centre in, centre out) and pin 40 r + c two (in, out). Each arc is two darts, 2 k and 2 k + 1,
 // with what is left to each; a link without a direction lets its limit through both ways. Arcs that belong to one
 // link of document 01 carry the link's number.
-use crate::job::CHOSEN;
-use crate::job::COLUMNS;
-use crate::job::DIAGONAL;
-use crate::job::EXTRA;
-use crate::job::Job;
-use crate::job::MISSING;
-use crate::job::ROWS;
-use crate::job::SIDE;
-use crate::job::is_open;
-use crate::job::is_pin;
-use crate::job::mark;
-use crate::job::number;
 use crate::sheet::HEAD;
 use crate::sheet::LIMIT;
 use crate::sheet::LINK;
@@ -25,6 +13,18 @@ use crate::sheet::TO;
 use crate::sheet::count;
 use crate::sheet::read;
 use crate::sheet::write;
+use oracle_text::job::CHOSEN;
+use oracle_text::job::COLUMNS;
+use oracle_text::job::DIAGONAL;
+use oracle_text::job::EXTRA;
+use oracle_text::job::Job;
+use oracle_text::job::MISSING;
+use oracle_text::job::ROWS;
+use oracle_text::job::SIDE;
+use oracle_text::job::is_open;
+use oracle_text::job::is_pin;
+use oracle_text::job::mark;
+use oracle_text::job::number;
 ghost use Prim.Native.Nat.{_<_};
 
 pub const START: usize = 0;

@@ -3,24 +3,24 @@
 // and how many do: texts refused, jobs short, jobs wired. Then it changes each byte of two listings, all of which have to be
 // refused, and has random jobs written and read back, and the sum of each near side compared with the greatest number.
 use check::same;
+use judge::listing::check_listing;
+use judge::walk::LEGAL;
 use libc::STDOUT_FILENO;
-use oracle::job::CHOSEN;
-use oracle::job::Job;
-use oracle::job::count_marked;
 use oracle::lines::refused_listing;
 use oracle::lines::short_listing;
-use oracle::listing::LEGAL;
-use oracle::listing::check_listing;
 use oracle::near::shortfall;
 use oracle::near::sum_of;
-use oracle::page::Page;
-use oracle::page::byte;
-use oracle::page::decimal;
-use oracle::page::word;
-use oracle::random::random_job;
-use oracle::text::ACCEPTED;
-use oracle::text::read_text;
-use oracle::text::write_text;
+use oracle_text::job::CHOSEN;
+use oracle_text::job::Job;
+use oracle_text::job::count_marked;
+use oracle_text::page::Page;
+use oracle_text::page::byte;
+use oracle_text::page::decimal;
+use oracle_text::page::word;
+use oracle_text::random::random_job;
+use oracle_text::text::ACCEPTED;
+use oracle_text::text::read_text;
+use oracle_text::text::write_text;
 
 // What a vector came to.
 const REFUSED: usize = 0;

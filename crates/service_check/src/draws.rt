@@ -1,8 +1,8 @@
 // Arguments at random: mostly such as fit, and some far out.
-use oracle::page::Page as Sheet;
-use oracle::page::byte;
-use oracle::random::below;
-use oracle::random::xorshift;
+use oracle_text::page::Page as Sheet;
+use oracle_text::page::byte;
+use oracle_text::random::below;
+use oracle_text::random::xorshift;
 
 // Numbers that fit nothing, and some that only just do.
 fn wild(x: u32) -> usize {

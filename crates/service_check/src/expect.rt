@@ -10,15 +10,15 @@ use compare::said::Said;
 use compare::said::WRONG_TEXT;
 use compare::said::WROTE;
 use compare::said::say;
-use oracle::job::CHOSEN;
-use oracle::job::Job;
-use oracle::job::count_marked;
-use oracle::job::is_pin;
-use oracle::job::is_tile;
-use oracle::job::mark;
-use oracle::job::state;
-use oracle::text::ACCEPTED;
-use oracle::text::Reading;
+use oracle_text::job::CHOSEN;
+use oracle_text::job::Job;
+use oracle_text::job::count_marked;
+use oracle_text::job::is_pin;
+use oracle_text::job::is_tile;
+use oracle_text::job::mark;
+use oracle_text::job::state;
+use oracle_text::text::ACCEPTED;
+use oracle_text::text::Reading;
 
 fn in_range(x: usize, least: usize, most: usize) -> bool {
     x >= least && x <= most

@@ -1,11 +1,11 @@
 // The part at an index of a pin's wire, looked up in a listing.
 use check::same;
 use compare::listed::held;
-use oracle::page::Page as Sheet;
-use oracle::page::byte;
-use oracle::page::pair;
-use oracle::page::word;
-use oracle::scan::byte_at;
+use oracle_text::page::Page as Sheet;
+use oracle_text::page::byte;
+use oracle_text::page::pair;
+use oracle_text::page::word;
+use oracle_text::scan::byte_at;
 use verdict::bytes::span;
 use verdict::legal::is_wired;
 use verdict::record::Record;

@@ -4,12 +4,12 @@
 use check::same;
 use libc::STDOUT_FILENO;
 use oracle::lines::refused_listing;
-use oracle::page::Page;
-use oracle::page::byte;
-use oracle::page::decimal;
-use oracle::page::word;
-use oracle::random::random_job;
-use oracle::text::ACCEPTED;
+use oracle_text::page::Page;
+use oracle_text::page::byte;
+use oracle_text::page::decimal;
+use oracle_text::page::word;
+use oracle_text::random::random_job;
+use oracle_text::text::ACCEPTED;
 use text::Judged;
 use text::Written;
 
@@ -189,7 +189,7 @@ fn examples(counts: &mut [u64; 5]) {
 // The oracle says of the text what the reader says.
 fn agrees(text: &[u8; 64]) -> bool {
     let mut job = [0u8; 3205];
-    let reading = oracle::text::read_text(text, &mut job);
+    let reading = oracle_text::text::read_text(text, &mut job);
     if reading.stage == ACCEPTED {
         comes_back(text)
     } else {
@@ -217,7 +217,7 @@ fn draw(counts: &mut [u64; 5], seed: u32) -> u32 {
     let mut job = [0u8; 3205];
     let mut page = [0u8; 262144];
     let next = random_job(seed, 40, &mut job);
-    let n = oracle::text::write_text(&job, &mut page);
+    let n = oracle_text::text::write_text(&job, &mut page);
     tally_right(counts, comes_back(bytes(&page, n)), RANDOM);
     next
 }
