@@ -5,7 +5,7 @@ pub mod loops; // closed chains of loaded links
 ghost use Rattle.model.specs.Record.{Legal};
 ghost use Rattle.audit.specs.Feasible.{FeasibleRecord, Decides};
 use cells::cells;
-use channel::unused_clear;
+use cell::unused_clear;
 use header::numbers_fit;
 use loops::stands;
 
