@@ -7,11 +7,11 @@ use lib.ListN.{length}
 use Rattle.sums.specs.Tests.{and-left, and-right, and-both}
 use Rattle.model.specs.Job.{Job, arrayFits, capsFit}
 use Rattle.model.specs.Record.{recordSize, jobOf}
-use Rattle.channel.specs.Cell.{valuesFit, linksFit, placesEven}
-use Rattle.channel.specs.Cell.Links.{LoadsFit, links-all, links-pass}
-use Rattle.channel.specs.Cell.Places.{LoadsEven, places-all, places-pass}
-use Rattle.channel.specs.Cell.Values.{Values, values-all, values-pass}
-use Rattle.channel.specs.Unused.{unusedClear, header-clear, reserve-clear, unused-pass}
+use Rattle.cell.specs.Cell.{valuesFit, linksFit, placesEven}
+use Rattle.cell.specs.Cell.Links.{LoadsFit, links-all, links-pass}
+use Rattle.cell.specs.Cell.Places.{LoadsEven, places-all, places-pass}
+use Rattle.cell.specs.Cell.Values.{Values, values-all, values-pass}
+use Rattle.cell.specs.Unused.{unusedClear, header-clear, reserve-clear, unused-pass}
 use Rattle.audit.specs.Feasible.{FeasibleRecord, Decides}
 
 module _ (rec : List ℕ) where

@@ -7,9 +7,9 @@ ghost use Rattle.model.specs.Job.{arrayFits};
 ghost use Rattle.model.specs.Record.{jobOf};
 ghost use Rattle.audit.specs.Feasible.{Decides};
 ghost use Rattle.audit.specs.Laws.{cellFits};
-use channel::links_fit;
-use channel::places_even;
-use channel::values_fit;
+use cell::links_fit;
+use cell::places_even;
+use cell::values_fit;
 
 // Whether a cell is in order.
 fn cell(rec: &[u8], r: usize, c: usize) -> bool

@@ -6,14 +6,7 @@ pub mod limits; // how many wires a dart takes
 pub mod places; // the places that darts lead to
 pub mod moves; // the moves of the search, and what a move stores
 pub mod write; // a new job, one mark or state, no wires
-mod cell_links; // the bytes of a cell's links
-mod cell_places; // the loads at a cell's places
-pub mod cell; // all tests of a cell
-pub mod unused; // the bytes that nothing uses
 
-pub use cell::links_fit;
-pub use cell::places_even;
-pub use cell::values_fit;
 pub use header::chosen_at;
 pub use header::columns;
 pub use header::diagonal;
@@ -48,7 +41,6 @@ pub use moves::lay;
 pub use moves::wire_starts;
 pub use table::head_of;
 pub use table::reverse;
-pub use unused::unused_clear;
 pub use write::set_mark;
 pub use write::set_state;
 pub use write::unwire;

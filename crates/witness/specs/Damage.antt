@@ -18,7 +18,7 @@ use Rattle.model.specs.Record.{recordSize, jobOf, load, Legal}
 use Rattle.channel.specs.Map.{view}
 use Rattle.channel.specs.Map.Network.{net, net-tail, net-head, dart-net}
 use Rattle.channel.specs.Map.Network.Loops.{ranked-loops, path-loop}
-use Rattle.channel.specs.Unused.{unusedClear}
+use Rattle.cell.specs.Unused.{unusedClear}
 use Rattle.audit.specs.Feasible.{FeasibleRecord, decides-yes, decides-no}
 use Rattle.audit.specs.Laws.{numbersFit, cellFits, numbers-fit, unused-clear, cells-decide}
 use Rattle.audit.specs.Legal.{legal-feasible}

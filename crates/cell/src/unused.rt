@@ -1,0 +1,28 @@
+// The bytes that nothing uses.
+ghost use mathlib.Core.Path.{_≡_};
+ghost use Prim.Native.Nat.{_+_, _≤_};
+ghost use lib.ListN.{length};
+ghost use Rattle.cell.specs.Unused.{isClear, unusedClear};
+use channel::header::wide;
+
+// Whether n bytes from `start` on are all 0.
+fn is_clear(rec: &[u8], start: usize, n: usize) -> bool
+    requires { ⌜ (32768 ≤ length (now rec)) × (start + n ≤ 32768) ⌝ }
+    ensures { λ t. ⌜ t ≡ isClear (now (rec .entry)) start n ⌝ }
+{
+    let mut sum: usize = 0;
+    let mut i = 0;
+    while i < n {
+        sum += wide(rec[start + i]);
+        i += 1;
+    }
+    sum == 0
+}
+
+// Whether the bytes that nothing uses, behind the header's numbers and in the planes in reserve, are all 0.
+pub fn unused_clear(rec: &[u8]) -> bool
+    requires { ⌜ 32768 ≤ length (now rec) ⌝ }
+    ensures { λ t. ⌜ t ≡ unusedClear (now (rec .entry)) ⌝ }
+{
+    is_clear(rec, 5, 763) & is_clear(rec, 26368, 6400)
+}
