@@ -24,7 +24,7 @@ use Rattle.channel.specs.Map.{spots}
 use Rattle.channel.specs.Map.Starts.{wanted-pin}
 use Rattle.search.specs.OneMore.{OneMore, wires-more, pin-gains, pin-keeps}
 use Rattle.search.specs.Pins.{Held, Unwired, AnySpot, Answered, laid, nothing}
-use Rattle.search.specs.Passing.{held-size, chosen-within}
+use Rattle.search.specs.Passing.{array-size, chosen-within}
 use Rattle.search.specs.Loose.{Loosened}
 use Rattle.search.specs.Fill.{Cleared, Saturated}
 use Rattle.search.specs.Filling.{cleared-none, saturated-greatest}
@@ -86,7 +86,7 @@ unfolding exitOf
 pin-of-spot {J} H r c i j s t e =
     let (a, b) = chosen-within J r c s in
     let (p, q) = chosen-within J i j t in
-    let (m, n) = held-size H in
+    let (m, n) = array-size J (H .fits) in
     cell-once r c i j (omega arith) (omega arith) (omega arith)
 
 module _ (rec : List ℕ) (legal : Legal rec) where

@@ -1,16 +1,16 @@
--- Pins passed one after the other, and one row after the other, from the rim inwards: when all rows are passed, no wire more can start anywhere. And what a caller reads off the
+-- Pins passed one after the other, and one line after the other, from the rim inwards: when all rows are passed, no wire more can start anywhere. And what a caller reads off the
 -- answers of the search for the next wire. Assumes nothing.
-use mathlib.Core.Path.{_≡_, sym, ap, subst, _∙_}
-use mathlib.Core.Logic.{_⊎_, inl, inr, ⊎-elim}
+use mathlib.Core.Path.{_≡_, refl, sym, ap, subst, _∙_}
+use mathlib.Core.Logic.{_≢_, _⊎_, inl, inr, ⊎-elim}
 use mathlib.Core.Bool.{Bool, true, false}
 use mathlib.Core.List.{List}
-use Prim.Native.Nat.{ℕ, _+_, _-_, _*_, _≤_, _<_}
+use Prim.Native.Nat.{ℕ, _+_, _-_, _*_, _/_, _%_, _≤_, _<_}
 use native.Mathlib.Nat.{eq-or-lt-of-le}
 use native.Mathlib.Omega.{arith}
 use lib.Dec.{T, eqb, ltb, ltb→lt}
 use lib.ListN.{length}
 use Rattle.sums.specs.Tests.{and-left, and-right}
-use Rattle.model.specs.Job.{Job, inRange, isPin, isChosen}
+use Rattle.model.specs.Job.{Job, inRange, arrayFits, isPin, isChosen}
 use Rattle.model.specs.Links.{pin, at}
 use Rattle.model.specs.Near.{exit}
 use Rattle.model.proofs.RecordOf.{range-most}
@@ -20,7 +20,8 @@ use Rattle.audit.specs.Loops.Marks.{below-or}
 use Rattle.search.specs.OneMore.{OneMore}
 use Rattle.search.specs.Marks.{marked}
 use Rattle.search.specs.Steps.{Whole}
-use Rattle.search.specs.Pins.{Held, Dead, Unwired, Passed, Tested, wired, shut, inward, inward-even, inward-odd, InRow, InRows, AnySpot, Answered, laid, nothing}
+use Rattle.search.specs.Pins.{Held, Dead, Unwired, Passed, Tested, wired, shut, inward, inward-even, inward-odd, spotOn, spot-level, OnLine, row, Nth, InRows, AnySpot, Answered, laid, nothing}
+use Rattle.search.specs.declared.next.Line.{Line}
 use Rattle.search.specs.declared.next.Next.{Next}
 use Rattle.search.specs.declared.next.Next.the-variants.{Laid, Nothing}
 
@@ -42,29 +43,25 @@ passed-then p q f =
 last-or : (i m : ℕ) → i < m + 1 → (i ≡ m) ⊎ (i < m)
 last-or i m l = eq-or-lt-of-le (omega arith)
 
--- one pin more of the row
-pub passed-row : {J : Job} {rec t t₁ t₂ : List ℕ} {r n m u : ℕ} → Passed J (InRow r n m) rec t t₁ → u ≡ exit (at pin r (inward m n))
-    → Passed J (λ x. x ≡ u) rec t₁ t₂ → Passed J (InRow r n (m + 1)) rec t t₂
-passed-row {r = r} {n = n} {m = m} p q s =
+-- one pin more of a line
+pub passed-line : {J : Job} {rec t t₁ t₂ : List ℕ} {l : Line} {m u : ℕ} → Passed J (OnLine l m) rec t t₁ → u ≡ spotOn l (inward m (l .pins))
+    → Passed J (λ x. x ≡ u) rec t₁ t₂ → Passed J (OnLine l (m + 1)) rec t t₂
+passed-line {l = l} {m = m} p q s =
     passed-then p s
     (λ x w. ⊎-elim
-    (λ i. inr (w .spot ∙ ap (λ (c : ℕ). exit (at pin r (inward c n))) i ∙ sym q))
+    (λ i. inr (w .spot ∙ ap (λ (c : ℕ). spotOn l (inward c (l .pins))) i ∙ sym q))
     (λ h. inl (record { turn = w .turn; early = h; spot = w .spot }))
     (last-or (w .turn) m (w .early)))
 
--- the spot of the pin at a column of that order
-pub pin-at : (r i : ℕ) {u x n m : ℕ} → u ≡ exit (at pin r x) → x ≡ inward i n → n ≡ m → u ≡ exit (at pin r (inward i m))
-pin-at r i e q k = e ∙ ap (λ (c : ℕ). exit (at pin r c)) (q ∙ ap (inward i) k)
-
--- one row more
-pub passed-rows : {J : Job} {rec t t₁ t₂ : List ℕ} {rows n m : ℕ} (r k : ℕ) → Passed J (InRows rows n m) rec t t₁ → r ≡ inward m k → k ≡ rows
-    → Passed J (InRow r n n) rec t₁ t₂ → Passed J (InRows rows n (m + 1)) rec t t₂
-passed-rows {rows = rows} {n = n} {m = m} r k p e q s =
+-- one line more
+pub passed-lines : {J : Job} {rec t t₁ t₂ : List ℕ} {l : Line} {m : ℕ} → Passed J (InRows J m) rec t t₁ → Nth J m l
+    → Passed J (OnLine l (l .pins)) rec t₁ t₂ → Passed J (InRows J (m + 1)) rec t t₂
+passed-lines {l = l} {m = m} p n s =
     passed-then p s
     (λ x w. ⊎-elim
-    (λ i. inr (subst (λ (y : ℕ). InRow y n n x) (ap (λ (j : ℕ). inward j rows) i ∙ ap (inward m) (sym q) ∙ sym e) (w .there)))
+    (λ i. inr (subst (λ (y : Line). OnLine y (y .pins) x) (sym (n .even (w .turn) (sym i))) (w .there)))
     (λ h. inl (record { turn = w .turn; early = h; there = w .there }))
-    (last-or (w .turn) m (w .early)))
+    (last-or (2 * w .turn) m (w .early)))
 
 -- ---- the order of rows and columns
 
@@ -79,11 +76,29 @@ inward-all n x l = ⊎-elim first second (below-or (x + x) n)
     second h = (2 * (n - 1 - x) + 1, omega arith, sym (inward-odd (2 * (n - 1 - x) + 1) n (λ e. omega arith)) ∙ omega arith)
 
 -- an array has at most 40 rows and 40 columns
-pub held-size : {J : Job} {rec : List ℕ} → Held J rec → (J .rows ≤ 40) × (J .columns ≤ 40)
-held-size {J} H =
+pub array-size : (J : Job) → T (arrayFits (J .rows) (J .columns)) → (J .rows ≤ 40) × (J .columns ≤ 40)
+array-size J t =
     let a = inRange 2 40 (J .rows) in
     let b = inRange 2 40 (J .columns) in
-    (range-most 2 40 (J .rows) (and-left a b (H .fits)), range-most 2 40 (J .columns) (and-right a b (H .fits)))
+    (range-most 2 40 (J .rows) (and-left a b t), range-most 2 40 (J .columns) (and-right a b t))
+
+-- a row at its turn, a column at its own, and no pins
+module _ (J : Job) (i : ℕ) {n m : ℕ} (t : T (arrayFits (J .rows) (J .columns))) (en : n ≡ J .rows) (em : m ≡ J .columns) where
+  pub nth-row : (x : ℕ) → x ≡ inward (i / 2) n → x < n → Nth J i (record { upright = false; number = x; pins = m })
+  nth-row x e l =
+      record {
+        number = omega (arith, array-size J t .0);
+        pins = omega (arith, array-size J t .1);
+        even = λ s q.
+            ap (λ (y : ℕ). record { upright = false; number = y; pins = m }) (e ∙ ap (λ (k : ℕ). inward k n) (omega arith) ∙ ap (inward s) en)
+            ∙ ap (λ (y : ℕ). record { upright = false; number = inward s (J .rows); pins = y }) em;
+      }
+
+  pub nth-column : (x : ℕ) → i % 2 ≢ 0 → x < m → Nth J i (record { upright = true; number = x; pins = n })
+  nth-column x o l = record { number = omega (arith, array-size J t .1); pins = omega (arith, array-size J t .0); even = λ s q. absurd (o (omega arith)) }
+
+pub nth-none : (J : Job) (i : ℕ) → i % 2 ≢ 0 → Nth J i (record { upright = true; number = 0; pins = 0 })
+nth-none J i o = record { number = omega arith; pins = omega arith; even = λ s q. absurd (o (omega arith)) }
 
 -- a chosen pin lies within the rows and the columns
 pub chosen-within : (J : Job) (r c : ℕ) → T (isChosen J r c) → (r < J .rows) × (c < J .columns)
@@ -93,7 +108,7 @@ chosen-within J r c t =
     (ltb→lt r (J .rows) (and-left (ltb r (J .rows)) (ltb c (J .columns)) p), ltb→lt c (J .columns) (and-right (ltb r (J .rows)) (ltb c (J .columns)) p))
 
 -- every row
-pub passed-all : {J : Job} {rec t t′ : List ℕ} → Passed J (InRows (J .rows) (J .columns) (J .rows)) rec t t′ → Passed J AnySpot rec t t′
+pub passed-all : {J : Job} {rec t t′ : List ℕ} → Passed J (InRows J (2 * J .rows)) rec t t′ → Passed J AnySpot rec t t′
 passed-all {J} {rec} {t} {t′} p = record { dead = p .dead; grown = p .grown; shut = λ u l h. everywhere u h; reached = p .reached }
   where
     everywhere : (u : ℕ) → Unwired J rec u → T (marked t′ u)
@@ -103,7 +118,7 @@ passed-all {J} {rec} {t} {t′} p = record { dead = p .dead; grown = p .grown; s
         let (i, li, ei) = inward-all (J .rows) r a in
         let (j, lj, ej) = inward-all (J .columns) c b in
         let q : u ≡ exit (at pin (inward i (J .rows)) (inward j (J .columns))) = rw (ei, ej) e in
-        p .shut u (record { turn = i; early = li; there = record { turn = j; early = lj; spot = q } }) h
+        p .shut u (record { turn = i; early = omega arith; there = record { turn = j; early = lj; spot = q ∙ spot-level (row J i) _ refl } }) h
 
 -- ---- what a caller reads off the answers
 
@@ -156,6 +171,6 @@ pub laid-from : {J : Job} {P : ℕ → Type 0} {rec t t₁ rec₂ t₂ : List �
     → Answered J P rec t rec₂ t₂ (Laid u)
 laid-from r e l = let (h, m, d) = tested-wired r e in laid l h m d
 
-pub laid-in-row : {J : Job} {P Q : ℕ → Type 0} {rec t t₁ rec₂ t₂ : List ℕ} {u : ℕ} {y : Next} → Answered J P rec t₁ rec₂ t₂ y → y ≡ Laid u
+pub laid-on-line : {J : Job} {P Q : ℕ → Type 0} {rec t t₁ rec₂ t₂ : List ℕ} {u : ℕ} {y : Next} → Answered J P rec t₁ rec₂ t₂ y → y ≡ Laid u
     → Answered J Q rec t rec₂ t₂ (Laid u)
-laid-in-row r e = let (l, h, m, d) = was-laid r e in laid l h m d
+laid-on-line r e = let (l, h, m, d) = was-laid r e in laid l h m d

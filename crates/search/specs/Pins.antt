@@ -3,7 +3,7 @@ use mathlib.Core.Path.{_≡_, sym, ap}
 use mathlib.Core.Logic.{_≢_}
 use mathlib.Core.Bool.{Bool, true, false}
 use mathlib.Core.List.{List}
-use Prim.Native.Nat.{ℕ, _-_, _/_, _%_, _≤_, _<_}
+use Prim.Native.Nat.{ℕ, _-_, _*_, _/_, _%_, _≤_, _<_}
 use borrow.Author.Tests.{eq-eqb, ne-eqb}
 use lib.Dec.{T, eqb}
 use lib.ListN.{length, getD}
@@ -17,6 +17,7 @@ use Rattle.search.specs.Laid.{BytesFit}
 use Rattle.search.specs.OneMore.{OneMore}
 use Rattle.search.specs.NoMore.{Reached, ClosedUnderMoves, NoneOutside}
 use Rattle.search.specs.Marks.{marked}
+use Rattle.search.specs.declared.next.Line.{Line}
 use Rattle.search.specs.declared.next.Next.{Next}
 use Rattle.search.specs.declared.next.Next.the-variants.{Laid, Nothing}
 
@@ -70,16 +71,40 @@ pub inward-odd : (i n : ℕ) → i % 2 ≢ 0 → n - 1 - i / 2 ≡ inward i n
 unfolding inward
 inward-odd i n e = sym (ap (λ (b : Bool). elim b [ true ↦ i / 2 | false ↦ n - 1 - i / 2 ]) (ne-eqb (i % 2) 0 e))
 
--- u is the spot of one of the first m pins of row r, of the first m rows, in that order; any spot
-pub record InRow (r n m u : ℕ) : Type 0 where
-  pub turn : ℕ
-  pub early : turn < m
-  pub spot : u ≡ exit (at pin r (inward turn n))
+-- the spot of the pin at x of a line
+pub spotOn : Line → ℕ → ℕ
+spotOn l x = elim (l .upright) [ true ↦ exit (at pin x (l .number)) | false ↦ exit (at pin (l .number) x) ]
 
-pub record InRows (rows n m u : ℕ) : Type 0 where
+-- as a program reads it
+pub spot-upright : (l : Line) (x : ℕ) → l .upright ≡ true → exit (at pin x (l .number)) ≡ spotOn l x
+unfolding spotOn
+spot-upright l x e = sym (ap (λ (b : Bool). elim b [ true ↦ exit (at pin x (l .number)) | false ↦ exit (at pin (l .number) x) ]) e)
+
+pub spot-level : (l : Line) (x : ℕ) → l .upright ≡ false → exit (at pin (l .number) x) ≡ spotOn l x
+unfolding spotOn
+spot-level l x e = sym (ap (λ (b : Bool). elim b [ true ↦ exit (at pin x (l .number)) | false ↦ exit (at pin (l .number) x) ]) e)
+
+-- u is the spot of one of the first m pins of a line, from its ends inwards
+pub record OnLine (l : Line) (m u : ℕ) : Type 0 where
   pub turn : ℕ
   pub early : turn < m
-  pub there : InRow (inward turn rows) n n u
+  pub spot : u ≡ spotOn l (inward turn (l .pins))
+
+-- the row whose turn is t
+abbrev pub row : Job → ℕ → Line
+row J t = record { upright = false; number = inward t (J .rows); pins = J .columns }
+
+-- the i-th line: every other one is a row
+pub record Nth (J : Job) (i : ℕ) (l : Line) : Type 0 where
+  pub number : l .number < 40
+  pub pins : l .pins ≤ 40
+  pub even : (t : ℕ) → i ≡ 2 * t → l ≡ row J t
+
+-- u is the spot of a pin of a row among the first m lines; any spot
+pub record InRows (J : Job) (m u : ℕ) : Type 0 where
+  pub turn : ℕ
+  pub early : 2 * turn < m
+  pub there : OnLine (row J turn) (J .columns) u
 
 abbrev pub AnySpot : ℕ → Type 0
 AnySpot u = u < spots

@@ -1,46 +1,42 @@
--- `next::row_wire` meets its contract: the pins passed have no way out. Assumes nothing.
+-- `next::line_wire` meets its contract: the pins passed have no way out. Assumes nothing.
 use borrow.Author.Needs.{needs}
 use mathlib.Core.Path.{_≡_, refl, ap, _∙_}
 use Prim.Native.Nat.{_-_, _≤_}
 use native.Mathlib.Omega.{arith}
-use denote.Ref.{now}
 use lib.ListN.{length}
 use Rattle.model.specs.Record.{jobOf}
 use Rattle.channel.specs.Map.Numbers.{is-spot}
 use Rattle.search.specs.Spread.{Alike}
 use Rattle.search.specs.Queue.{alike-refl, alike-then, alike-room}
-use Rattle.search.specs.Pins.{InRow, Passed, nothing}
-use Rattle.search.specs.Passing.{passed-none, passed-row, pin-at, held-size, tested-shut, whole-still, held-still, dead-still, tested-still, laid-from}
-use Rattle.search.proofs.next.row_wire.Statement.{statement}
-use Rattle.search.proofs.next.row_wire.Tie as tie
+use Rattle.search.specs.Pins.{spotOn, OnLine, Passed, nothing}
+use Rattle.search.specs.Passing.{passed-none, passed-line, tested-shut, whole-still, held-still, dead-still, tested-still, laid-from}
+use Rattle.search.proofs.next.line_wire.Statement.{statement}
+use Rattle.search.proofs.next.line_wire.Tie as tie
 
 abbrev Inv-loop : tie.InvT-loop
-Inv-loop job loads₀ r marks₀ queue₀ parent₀ slot₀ n i₀ loads marks queue parent slot i =
-    (i ≤ n) × (loads ≡ loads₀) × Alike marks₀ queue₀ parent₀ slot₀ marks queue parent slot × Passed (jobOf job) (InRow r (jobOf job .columns) i) loads₀ marks₀ marks
+Inv-loop job loads₀ l marks₀ queue₀ parent₀ slot₀ n i₀ loads marks queue parent slot i =
+    (i ≤ n) × (loads ≡ loads₀) × Alike marks₀ queue₀ parent₀ slot₀ marks queue parent slot × Passed (jobOf job) (OnLine l i) loads₀ marks₀ marks
 
 abbrev μ-loop : tie.MeasureT-loop
-μ-loop job loads₀ r marks₀ queue₀ parent₀ slot₀ n i₀ loads marks queue parent slot i = n - i
-
-columns-requires : tie.Need-columns-requires Inv-loop μ-loop
-columns-requires c κs = search needs
+μ-loop job loads₀ l marks₀ queue₀ parent₀ slot₀ n i₀ loads marks queue parent slot i = n - i
 
 loop-holds : tie.Need-loop-holds Inv-loop μ-loop
-loop-holds c = (omega arith, refl, alike-refl _ _ _ _, passed-none (c .before .before .before .before .before .before .before .pre .3) (λ u w. omega (arith, w .early)))
+loop-holds c = (omega arith, refl, alike-refl _ _ _ _, passed-none (c .before .before .before .before .before .before .pre .3) (λ u w. omega (arith, w .early)))
 
 inwards-requires : tie.Need-inwards-requires Inv-loop μ-loop
 inwards-requires c κs = omega (arith, c .loop-test .taken)
 
-pin-exit-requires : tie.Need-pin-exit-requires Inv-loop μ-loop
-pin-exit-requires c κs =
-    let p = c .before .before .before .before .before .before .before .before .before .before .pre in
-    (p .4, omega (arith, held-size (p .2) .1, c .before .before .before .columns .ensures .0, c .inwards .ensures .1))
+spot-on-requires : tie.Need-spot-on-requires Inv-loop μ-loop
+spot-on-requires c κs =
+    let p = c .before .before .before .before .before .before .before .before .before .pre in
+    (p .4, omega (arith, p .5, c .inwards .ensures .1))
 
 wire-from-requires : tie.Need-wire-from-requires Inv-loop μ-loop
 wire-from-requires c κs =
     let c8 = c .before .before .before .before .before .before .before .before in
     let l = c8 .loop .inv in
-    let p = c8 .before .before .before .before .before .before .before .before .pre in
-    (whole-still (l .1) (p .0), alike-room (p .1) (l .2), held-still (l .1) (p .2), dead-still (l .1) _ (l .3 .dead), is-spot (c .before .before .before .before .before .pin-exit .ensures .1))
+    let p = c8 .before .before .before .before .before .before .before .pre in
+    (whole-still (l .1) (p .0), alike-room (p .1) (l .2), held-still (l .1) (p .2), dead-still (l .1) _ (l .3 .dead), is-spot (c .before .before .before .before .before .spot-on .ensures .1))
 
 same-length : tie.Need-same-length Inv-loop μ-loop
 same-length c = c .before .before .before .before .before .before .before .before .before .before .before .wire-from .kept .1 .0 ∙ ap length (c .before .before .before .before .before .before .before .before .before .before .before .before .before .before .before .before .before .before .before .before .loop .inv .1)
@@ -60,7 +56,7 @@ same-length-5 c = c .before .before .before .before .before .before .before .bef
 returns : tie.Need-returns Inv-loop μ-loop
 returns c =
     let c11 = c .before .before .before .before .before .before .before .before .before .before .before in
-    laid-from (tested-still (c11 .before .before .before .before .before .before .before .before .before .loop .inv .1) (c11 .wire-from .ensures)) (c .if1 .taken) (is-spot (c11 .before .before .before .before .before .before .pin-exit .ensures .1))
+    laid-from (tested-still (c11 .before .before .before .before .before .before .before .before .before .loop .inv .1) (c11 .wire-from .ensures)) (c .if1 .taken) (is-spot (c11 .before .before .before .before .before .before .spot-on .ensures .1))
 
 add-i : tie.Need-add-i Inv-loop μ-loop
 add-i c = search needs
@@ -77,7 +73,7 @@ loop-again c =
       omega (arith, c .before .before .before .before .before .before .before .before .before .before .before .before .before .before .before .before .before .before .before .loop-test .taken),
       q,
       alike-then (l .2) (k .0) (k .1 .0) (k .1 .1 .0) (k .1 .1 .1 .0),
-      passed-row (l .3) (pin-at _ _ (c11 .before .before .before .before .before .before .pin-exit .ensures .0) (c11 .before .before .before .before .before .before .before .inwards .ensures .0) (c11 .before .before .before .before .before .before .before .before .before .before .columns .ensures .0)) p,
+      passed-line (l .3) (c11 .before .before .before .before .before .before .spot-on .ensures .0 ∙ ap (spotOn _) (c11 .before .before .before .before .before .before .before .inwards .ensures .0)) p,
     )
 
 same-length-6 : tie.Need-same-length-6 Inv-loop μ-loop
@@ -98,19 +94,18 @@ same-length-10 c = c .before .loop .inv .2 .slots
 returns-2 : tie.Need-returns-2 Inv-loop μ-loop
 returns-2 c =
     let l = c .before .loop in
-    let e : l .i ≡ jobOf (now (c .before .before .before .before .before .before .before .before .before .args .job)) .columns = omega (arith, c .loop-test .left, c .before .before .columns .ensures .0) in
+    let e : l .i ≡ c .before .before .before .before .before .before .before .before .args .l .pins = omega (arith, c .loop-test .left) in
     nothing (l .inv .1) (rw e at (l .inv .3))
 
-pub row-wire-spec : {M : Type 1} → statement M
-row-wire-spec =
+pub line-wire-spec : {M : Type 1} → statement M
+line-wire-spec =
     tie.close
     (tie.spec
     Inv-loop
     μ-loop
-    columns-requires
     loop-holds
     inwards-requires
-    pin-exit-requires
+    spot-on-requires
     wire-from-requires
     same-length
     same-length-2
