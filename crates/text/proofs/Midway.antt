@@ -18,13 +18,13 @@ use Rattle.model.proofs.TextUnique.{line-some}
 use Rattle.model.proofs.TextProper.{asked}
 use Rattle.model.proofs.TextNames.{rank-group, names-inside}
 use Rattle.channel.specs.Written.{put-at, put-else}
-use Rattle.text.specs.declared.lines.Opening.the-variants.{Array}
+use Rattle.line.specs.declared.lines.Opening.the-variants.{Array}
 use Rattle.text.specs.declared.reader.Cursor.{Cursor}
 use Rattle.text.specs.declared.reader.Step.{Step}
 use Rattle.text.specs.declared.reader.Step.the-variants.{To, Wrong}
 use Rattle.text.specs.declared.reader.Judged.the-variants.{Reads as ReadsWell, WrongAt}
 use Rattle.text.specs.Reader.{Opens, Follows, afterGroup, afterEnd, Stepped, byGroup, byEnd, stops, Judges}
-use Rattle.text.proofs.Standing.{array-small}
+use Rattle.line.proofs.Ranges.{array-small}
 
 -- ---- a line of the text
 

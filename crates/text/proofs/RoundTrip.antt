@@ -18,13 +18,13 @@ use Rattle.model.proofs.TextUnique.{reads-unique}
 use Rattle.model.proofs.RoundTrip.{round-trip}
 use Rattle.text.specs.declared.reader.Judged.{Judged}
 use Rattle.text.specs.declared.reader.Judged.the-variants.{Reads, WrongAt}
-use Rattle.text.specs.declared.writer.Written.{Written}
-use Rattle.text.specs.declared.writer.Written.the-variants.{Wrote, Short}
+use Rattle.writing.specs.declared.writer.Written.{Written}
+use Rattle.writing.specs.declared.writer.Written.the-variants.{Wrote, Short}
 use Rattle.text.specs.Into.{ReadsInto}
-use Rattle.text.specs.Writer.{wroteText}
+use Rattle.writing.specs.Writer.{wroteText}
 use Rattle.text.specs.RoundTrip.{CodeRoundTrip}
 use Rattle.text.proofs.Writing.{same-job, not-both}
-use Rattle.text.proofs.Placed.{picked}
+use Rattle.writing.proofs.Placed.{picked}
 
 -- ---- what writing came to
 

@@ -7,22 +7,23 @@ use mathlib.Core.List.{List, _++_}
 use mathlib.Core.Option.{Option, none, some}
 use Prim.Native.Nat.{ℕ, _+_, _*_, _≤_, _<_}
 use native.Mathlib.Omega.{arith}
-use lib.Dec.{T, eqb, leb, eqb→eq, leb→le}
+use lib.Dec.{T, eqb, leb, eqb→eq}
 use borrow.Author.Tests.{le-leb, lt-ltb}
 use lib.ListN.{length, getD, drop}
 use Rattle.sums.specs.Tests.{and-left, and-right}
-use Rattle.model.specs.Job.{fresh, inRange, arrayFits, capsAdmitted, isPin}
+use Rattle.model.specs.Job.{fresh, arrayFits, capsAdmitted, isPin}
 use Rattle.model.specs.Text.{Group, chosenPins, missingPins, closedTiles, Line, arrayLine, groupLine, endLine, lineBytes, begin, afterArray, finished}
 use Rattle.model.specs.Text.{within, rank, Reader}
 use Rattle.model.specs.Text.{start, asking, inTurn, names, admit, wrongAt, wrong, Reading}
 use Rattle.model.proofs.TextUnique.{line-unique}
 use Rattle.model.proofs.TextProper.{asked}
 use Rattle.model.proofs.TextNames.{names-inside}
-use Rattle.text.specs.declared.lines.Line.the-variants.{Wrong as WrongLine}
-use Rattle.text.specs.declared.lines.Opening.the-variants.{Wrong as WrongOpening}
+use Rattle.line.specs.declared.lines.Line.the-variants.{Wrong as WrongLine}
+use Rattle.line.specs.declared.lines.Opening.the-variants.{Wrong as WrongOpening}
 use Rattle.text.specs.declared.reader.Cursor.{Cursor}
 use Rattle.text.specs.declared.reader.Step.the-variants.{To, Wrong}
-use Rattle.text.specs.Lines.{LineAt, Below100, ArrayAt}
+use Rattle.line.specs.Lines.{LineAt, ArrayAt}
+use Rattle.line.proofs.Ranges.{five-small}
 use Rattle.text.specs.Reader.{turnFits, namesFit, Follows, afterGroup, afterEnd, Stepped, byGroup, byEnd, stops}
 
 -- ---- refusals
@@ -36,26 +37,6 @@ pub line-refused : (R : Reader) (text : List ℕ) (l : Line) (rest : List ℕ) �
 line-refused R text l rest q e m R′ more a p = none-some R′ (sym e ∙ (ap (admit R) (line-unique l m rest more (sym q ∙ p) .0) ∙ a))
 
 -- ---- the array line
-
-range-small : (least most n : ℕ) → T (inRange least most n) → n ≤ most
-range-small least most n t = leb→le n most (and-right (leb least n) (leb n most) t)
-
-pub array-small : (a b : ℕ) → T (arrayFits a b) → (a ≤ 40) × (b ≤ 40)
-array-small a b t = (range-small 2 40 a (and-left (inRange 2 40 a) (inRange 2 40 b) t), range-small 2 40 b (and-right (inRange 2 40 a) (inRange 2 40 b) t))
-
-caps-small : (o d e : ℕ) → T (capsAdmitted o d e) → (o ≤ 8) × (d ≤ 2 * o) × (e ≤ 16)
-caps-small o d e t =
-    let u : T (inRange o (2 * o) d && inRange 0 16 e) = and-right (inRange 1 8 o) (inRange o (2 * o) d && inRange 0 16 e) t in (
-      range-small 1 8 o (and-left (inRange 1 8 o) (inRange o (2 * o) d && inRange 0 16 e) t),
-      range-small o (2 * o) d (and-left (inRange o (2 * o) d) (inRange 0 16 e) u),
-      range-small 0 16 e (and-right (inRange o (2 * o) d) (inRange 0 16 e) u),
-    )
-
-pub five-small : (a b o d e : ℕ) → T (arrayFits a b) → T (capsAdmitted o d e) → Below100 a b o d e
-five-small a b o d e s t =
-    let (x, y) = array-small a b s in
-    let (u, v, w) = caps-small o d e t in
-    record { rows = omega arith; columns = omega arith; O = omega arith; D = omega arith; E = omega arith }
 
 -- what may stand at the start is an array line
 opened : (l : Line) (R : Reader) → admit start l ≡ some R

@@ -19,10 +19,11 @@ use Rattle.model.proofs.TextUnique.{line-unique, line-some, reads-unique}
 use Rattle.model.proofs.TextProper.{asked}
 use Rattle.model.proofs.TextNames.{rank-group, names-inside, Alike, named-alike}
 use Rattle.channel.specs.Written.{marked-over, closed-over, over-over}
-use Rattle.text.specs.declared.lines.Line.the-variants.{Group, End, Wrong as WrongLine}
-use Rattle.text.specs.Lines.{LineAt}
+use Rattle.line.specs.declared.lines.Line.the-variants.{Group, End, Wrong as WrongLine}
+use Rattle.line.specs.Lines.{LineAt}
 use Rattle.text.specs.Reader.{afterGroup, afterEnd}
-use Rattle.text.proofs.Standing.{array-small, none-stands}
+use Rattle.line.proofs.Ranges.{array-small}
+use Rattle.text.proofs.Standing.{none-stands}
 use Rattle.text.proofs.Midway.{line-length, finished-none}
 
 -- ---- reading on

@@ -11,8 +11,8 @@ use lib.ListN.{length, getD, drop}
 use Rattle.sums.specs.Counting.{when}
 use Rattle.model.specs.Job.{Job, arrayFits, capsAdmitted}
 use Rattle.model.specs.Text.{Group, Line, arrayLine, groupLine, endLine, lineBytes, finished, within, rank, Reader, named, admit, reads, wrongAt, Reading}
-use Rattle.text.specs.declared.lines.Opening.{Opening}
-use Rattle.text.specs.declared.lines.Opening.the-variants.{Array, Wrong as WrongOpening}
+use Rattle.line.specs.declared.lines.Opening.{Opening}
+use Rattle.line.specs.declared.lines.Opening.the-variants.{Array, Wrong as WrongOpening}
 use Rattle.text.specs.declared.reader.Cursor.{Cursor}
 use Rattle.text.specs.declared.reader.Step.{Step}
 use Rattle.text.specs.declared.reader.Step.the-variants.{To, Wrong}

@@ -8,10 +8,10 @@ use Rattle.model.specs.Record.{jobOf, Legal, unwiredRecord, over}
 use Rattle.model.specs.Calls.{written}
 use Rattle.text.specs.declared.reader.Judged.{Judged}
 use Rattle.text.specs.declared.reader.Judged.the-variants.{Reads}
-use Rattle.text.specs.declared.writer.Written.{Written}
-use Rattle.text.specs.declared.writer.Written.the-variants.{Wrote}
+use Rattle.writing.specs.declared.writer.Written.{Written}
+use Rattle.writing.specs.declared.writer.Written.the-variants.{Wrote}
 use Rattle.text.specs.Into.{ReadsInto}
-use Rattle.text.specs.Writer.{wroteText}
+use Rattle.writing.specs.Writer.{wroteText}
 
 pub record CodeRoundTrip : Type 0 where
   -- the n bytes written of a legal record, read into any buffer

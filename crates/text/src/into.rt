@@ -1,10 +1,10 @@
 // The job of a text in a record. The text is judged as a whole first, so a text that is wrong leaves every byte.
-use crate::held::next_line;
-use crate::lines::Line;
-use crate::lines::Opening;
-use crate::lines::array_at;
 use crate::reader::Judged;
 use crate::reader::judge;
+use line::held::next_line;
+use line::lines::Line;
+use line::lines::Opening;
+use line::lines::array_at;
 ghost use Prim.Native.Nat.{_≤_};
 ghost use lib.ListN.{length};
 ghost use Rattle.model.specs.Record.{recordSize};

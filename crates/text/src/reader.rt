@@ -1,8 +1,8 @@
 // The reader of a job text: a cursor by value, which takes each line that may stand where it stands, and the judgement of a whole text.
-use crate::held::next_line;
-use crate::lines::Line;
-use crate::lines::Opening;
-use crate::lines::array_at;
+use line::held::next_line;
+use line::lines::Line;
+use line::lines::Opening;
+use line::lines::array_at;
 use model::Array;
 use model::Capacities;
 ghost use mathlib.Core.Path.{_≡_};

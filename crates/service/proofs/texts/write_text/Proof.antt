@@ -3,7 +3,7 @@ use mathlib.Core.Path.{_≡_, subst}
 use denote.Ref.{now}
 use borrow.Author.Tests.{not-true, not-false}
 use Rattle.model.specs.Calls.{written}
-use Rattle.text.specs.Writer.{wroteText}
+use Rattle.writing.specs.Writer.{wroteText}
 use Rattle.service.specs.Outcomes.{on-damaged, on-legal}
 use borrow.Author.Needs.{needs}
 use Rattle.service.proofs.texts.write_text.Statement.{statement}

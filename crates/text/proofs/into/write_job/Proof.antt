@@ -13,13 +13,13 @@ use Rattle.model.specs.Job.{Job, fresh}
 use Rattle.model.specs.Record.{recordSize, noLoads, unwiredRecord, over}
 use Rattle.model.specs.Text.{groupLine, reads, Reading}
 use Rattle.channel.specs.Written.{over-over}
-use Rattle.text.specs.declared.lines.Line.{Line}
-use Rattle.text.specs.declared.lines.Line.the-variants.{Group, End, Wrong}
-use Rattle.text.specs.Lines.{LineAt, ArrayAt}
+use Rattle.line.specs.declared.lines.Line.{Line}
+use Rattle.line.specs.declared.lines.Line.the-variants.{Group, End, Wrong}
+use Rattle.line.specs.Lines.{LineAt, ArrayAt}
 use Rattle.text.proofs.Standing.{open-wrong}
 use Rattle.text.proofs.Midway.{line-length}
 use Rattle.text.proofs.Writing.{Writing, writing-open, group-cell, group-rank, writing-closed, writing-marked, writing-ended, writing-wrong, not-both}
-use Rattle.text.proofs.lines.Line.{enum}
+use Rattle.line.proofs.lines.Line.{enum}
 use Rattle.text.proofs.into.write_job.Statement.{statement}
 use Rattle.text.proofs.into.write_job.Tie as tie
 

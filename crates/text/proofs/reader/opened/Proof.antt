@@ -7,7 +7,7 @@ use borrow.Author.Tests.{not-true, not-false}
 use lib.ListN.{drop}
 use Rattle.sums.specs.Tests.{so}
 use Rattle.model.specs.Job.{arrayFits, capsAdmitted}
-use Rattle.text.specs.Lines.{ArrayAt}
+use Rattle.line.specs.Lines.{ArrayAt}
 use Rattle.text.proofs.Standing.{open-wrong, open-refused, and-false}
 use Rattle.text.proofs.reader.opened.Statement.{statement}
 use Rattle.text.proofs.reader.opened.Tie as tie

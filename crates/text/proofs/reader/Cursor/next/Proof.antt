@@ -4,7 +4,7 @@ use native.Mathlib.Omega.{arith}
 use denote.Ref.{now}
 use borrow.Author.Needs.{needs}
 use borrow.Author.Tests.{not-true, not-false}
-use Rattle.text.specs.Lines.{LineAt}
+use Rattle.line.specs.Lines.{LineAt}
 use Rattle.text.proofs.Standing.{step-group, step-out-of-turn, step-unnamed, step-end, step-wrong}
 use Rattle.text.proofs.reader.Cursor.next.Statement.{statement}
 use Rattle.text.proofs.reader.Cursor.next.Tie as tie

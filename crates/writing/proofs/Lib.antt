@@ -1,0 +1,3 @@
+-- the parts of a job's text, counted and put one after the other
+pub mod Counted
+pub mod Placed

@@ -1,0 +1,2 @@
+-- the text of a job in an output
+pub mod Writer

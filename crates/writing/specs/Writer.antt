@@ -1,0 +1,63 @@
+-- What is written of a job: the parts of its text, cell by cell, what a part put at an offset of an output leaves there, and the paper's answer for each
+-- outcome of writing. Assumes nothing.
+use mathlib.Core.Path.{_≡_}
+use mathlib.Core.Bool.{true, false}
+use mathlib.Core.List.{List, [], _∷_, _++_}
+use Prim.Native.Nat.{ℕ, _+_, _≤_}
+use lib.Dec.{T, eqb}
+use lib.ListN.{length}
+use lib.Seq.{sets}
+use Rattle.sums.specs.Counting.{only, each}
+use Rattle.model.specs.Job.{Job, arrayFits, capsFit}
+use Rattle.model.specs.Record.{recordSize, jobOf}
+use Rattle.model.specs.Text.{Group, chosenPins, missingPins, closedTiles, decimal, arrayLine, groupLine, lineBytes, isNamed}
+use Rattle.model.specs.Calls.{Answer, refused, wrote, After, after}
+use Rattle.writing.specs.declared.writer.Written.{Written}
+use Rattle.writing.specs.declared.writer.Written.the-variants.{Wrote, Short}
+
+-- ---- the parts of a text
+
+-- the groups by the reader's numbers: 2 chosen, 3 missing, 4 closed
+unfoldable pub groupOf : ℕ → Group
+groupOf n = elim (eqb n 2) [ true ↦ chosenPins | false ↦ elim (eqb n 3) [ true ↦ missingPins | false ↦ closedTiles ] ]
+
+-- a number and the byte that ends it
+abbrev pub ended : ℕ → ℕ → List ℕ
+ended n end = decimal n ++ (end ∷ [])
+
+unfoldable pub arrayText : Job → List ℕ
+arrayText J = lineBytes (arrayLine (J .rows) (J .columns) (J .O) (J .D) (J .E))
+
+-- what a group has at a cell
+unfoldable pub cellText : Job → Group → ℕ → ℕ → List ℕ
+cellText J g r c = only (isNamed J g r c) (lineBytes (groupLine g r c))
+
+-- what it has in a row
+unfoldable pub rowText : Job → Group → ℕ → List ℕ
+rowText J g r = each (J .columns) (λ c. cellText J g r c)
+
+-- ---- writing
+
+-- a record that is long enough, its five numbers in range
+pub record Sized (rec : List ℕ) : Type 0 where
+  pub long : recordSize ≤ length rec
+  pub array : T (arrayFits (jobOf rec .rows) (jobOf rec .columns))
+  pub caps : T (capsFit (jobOf rec .O) (jobOf rec .D) (jobOf rec .E))
+
+-- the output has room for `part` from an offset on
+pub record Room (out : List ℕ) (at : ℕ) (part : List ℕ) : Type 0 where
+  pub fits : at + length part ≤ length out
+
+-- `part`, byte by byte from an offset on, and the offset past it
+pub record Puts (out : List ℕ) (at : ℕ) (part : List ℕ) (out′ : List ℕ) (next : ℕ) : Type 0 where
+  pub bytes : out′ ≡ sets out at part
+  pub past : next ≡ at + length part
+
+-- "7 output shorter than the text. Gives the length."
+abbrev pub answerOf : Written → Answer
+answerOf (Wrote n) = wrote n
+answerOf Short = refused 7
+
+-- the answer, the record and the output afterwards
+abbrev pub wroteText : Written → List ℕ → List ℕ → After
+wroteText r rec out = after (answerOf r) rec [] out

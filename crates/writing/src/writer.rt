@@ -1,0 +1,155 @@
+// The text of a record's job, written line by line. Its length is counted first, so an output that is too short keeps every byte.
+use crate::count::count_text;
+use crate::count::is_named;
+use crate::put::put_number;
+use crate::put::put_two;
+use crate::put::put_word;
+use line::words::ARRAY;
+use line::words::ARRAY_END;
+use line::words::CAPS;
+use line::words::CHOSEN;
+use line::words::CLOSED;
+use line::words::END;
+use line::words::GROUP_END;
+use line::words::MISSING;
+ghost use mathlib.Core.Path.{_≡_};
+ghost use Prim.Native.Nat.{_≤_, _<_};
+ghost use lib.ListN.{length};
+ghost use Rattle.model.specs.Record.{recordSize, jobOf, Legal};
+ghost use Rattle.model.specs.Text.{arrayLine, groupLine, lineBytes, groupText, textOf};
+ghost use Rattle.model.specs.Calls.{written};
+ghost use Rattle.line.specs.Lines.{opening, Below100};
+ghost use Rattle.writing.specs.Writer.{groupOf, arrayText, cellText, rowText, Sized, Room, Puts, wroteText};
+
+// What writing a text came to: its length, or an output that is shorter.
+pub enum Written {
+    Wrote(usize),
+    Short,
+}
+
+// The first word of a group, with its parenthesis and its space.
+fn put_opening(out: &mut [u8], at: usize, group: usize) -> usize
+    requires { ⌜ Room (now out) at (opening (groupOf group)) ⌝ }
+    ensures { λ r. ⌜ Puts (now (out .entry)) at (opening (groupOf group)) (now (out .exit)) r ⌝ }
+{
+    if group == 2 {
+        return put_word(out, at, &CHOSEN);
+    }
+    if group == 3 {
+        return put_word(out, at, &MISSING);
+    }
+    put_word(out, at, &CLOSED)
+}
+
+// The line of a group for a pin or tile.
+fn put_line(out: &mut [u8], at: usize, group: usize, row: usize, column: usize) -> usize
+    requires { ⌜ (row < 100) × (column < 100) ⌝ }
+    requires { ⌜ Room (now out) at (lineBytes (groupLine (groupOf group) row column)) ⌝ }
+    ensures { λ r. ⌜ Puts (now (out .entry)) at (lineBytes (groupLine (groupOf group) row column)) (now (out .exit)) r ⌝ }
+{
+    let first = put_opening(out, at, group);
+    let end = put_two(out, first, row, column);
+    put_word(out, end, &GROUP_END)
+}
+
+// What a group has at a cell: its line, or nothing.
+fn put_cell(rec: &[u8], out: &mut [u8], at: usize, group: usize, row: usize, column: usize) -> usize
+    requires { ⌜ recordSize ≤ length (now rec) ⌝ }
+    requires { ⌜ (row < 100) × (column < 100) ⌝ }
+    requires { ⌜ Room (now out) at (cellText (jobOf (now rec)) (groupOf group) row column) ⌝ }
+    ensures { λ r. ⌜ Puts (now (out .entry)) at (cellText (jobOf (now (rec .entry))) (groupOf group) row column) (now (out .exit)) r ⌝ }
+{
+    if is_named(rec, group, row, column) {
+        return put_line(out, at, group, row, column);
+    }
+    at
+}
+
+// A group's lines of a row.
+fn put_row(rec: &[u8], out: &mut [u8], at: usize, group: usize, row: usize) -> usize
+    requires { ⌜ Sized (now rec) ⌝ }
+    requires { ⌜ row < 100 ⌝ }
+    requires { ⌜ Room (now out) at (rowText (jobOf (now rec)) (groupOf group) row) ⌝ }
+    ensures { λ r. ⌜ Puts (now (out .entry)) at (rowText (jobOf (now (rec .entry))) (groupOf group) row) (now (out .exit)) r ⌝ }
+{
+    let columns = channel::columns(rec);
+    let mut next = at;
+    for column in 0..columns {
+        next = put_cell(rec, out, next, group, row, column);
+    }
+    next
+}
+
+// A group's lines.
+fn put_group(rec: &[u8], out: &mut [u8], at: usize, group: usize) -> usize
+    requires { ⌜ Sized (now rec) ⌝ }
+    requires { ⌜ Room (now out) at (groupText (jobOf (now rec)) (groupOf group)) ⌝ }
+    ensures { λ r. ⌜ Puts (now (out .entry)) at (groupText (jobOf (now (rec .entry))) (groupOf group)) (now (out .exit)) r ⌝ }
+{
+    let rows = channel::rows(rec);
+    let mut next = at;
+    for row in 0..rows {
+        next = put_row(rec, out, next, group, row);
+    }
+    next
+}
+
+// The array line with five numbers.
+fn put_array_line(
+    out: &mut [u8],
+    rows: usize,
+    columns: usize,
+    o: usize,
+    d: usize,
+    e: usize,
+) -> usize
+    requires { ⌜ Below100 rows columns o d e ⌝ }
+    requires { ⌜ Room (now out) 0 (lineBytes (arrayLine rows columns o d e)) ⌝ }
+    ensures { λ r. ⌜ Puts (now (out .entry)) 0 (lineBytes (arrayLine rows columns o d e)) (now (out .exit)) r ⌝ }
+{
+    let pins = put_word(out, 0, &ARRAY);
+    let after = put_two(out, pins, rows, columns);
+    let caps = put_word(out, after, &CAPS);
+    let second = put_number(out, caps, o, b' ');
+    let end = put_two(out, second, d, e);
+    put_word(out, end, &ARRAY_END)
+}
+
+// The array line of the job.
+fn put_array(rec: &[u8], out: &mut [u8]) -> usize
+    requires { ⌜ Sized (now rec) ⌝ }
+    requires { ⌜ Room (now out) 0 (arrayText (jobOf (now rec))) ⌝ }
+    ensures { λ r. ⌜ Puts (now (out .entry)) 0 (arrayText (jobOf (now (rec .entry)))) (now (out .exit)) r ⌝ }
+{
+    let rows = channel::rows(rec);
+    let columns = channel::columns(rec);
+    let o = channel::orthogonal(rec);
+    let d = channel::diagonal(rec);
+    let e = channel::extra(rec);
+    put_array_line(out, rows, columns, o, d, e)
+}
+
+// The whole text, in an output that has room for it.
+fn put_text(rec: &[u8], out: &mut [u8]) -> usize
+    requires { ⌜ Sized (now rec) ⌝ }
+    requires { ⌜ Room (now out) 0 (textOf (jobOf (now rec))) ⌝ }
+    ensures { λ r. ⌜ Puts (now (out .entry)) 0 (textOf (jobOf (now (rec .entry)))) (now (out .exit)) r ⌝ }
+{
+    let first = put_array(rec, out);
+    let chosen = put_group(rec, out, first, 2);
+    let missing = put_group(rec, out, chosen, 3);
+    let closed = put_group(rec, out, missing, 4);
+    put_word(out, closed, &END)
+}
+
+// The text of the record's job, if the output has room for it.
+pub fn write_text(rec: &[u8], out: &mut [u8]) -> Written
+    requires { ⌜ Legal (now rec) ⌝ }
+    ensures { λ r. ⌜ wroteText r (now (rec .entry)) (now (out .exit)) ≡ written (now (out .entry)) (now (rec .entry)) ⌝ }
+{
+    let n = count_text(rec);
+    if out.len() < n {
+        return Written::Short;
+    }
+    Written::Wrote(put_text(rec, out))
+}
