@@ -67,6 +67,21 @@ named-size J g r c =
     let a : Alike (named J g r c) J = named-alike J J g r c (record { rows = refl; columns = refl; O = refl; D = refl; E = refl }) in
     (a .rows, a .columns)
 
+-- ---- a line of a group in a record
+
+module _ (J : Job) (under : List ℕ) (r c : ℕ) (high : r < 40) (wide : c < 40) (long : recordSize ≤ length under) where
+  pub named-closed : (g : TextGroup) → rank (within g) ≡ 4
+      → set (over (unwiredRecord J) under) (offset statePlane r c) 1 ≡ over (unwiredRecord (named J g r c)) under
+  named-closed chosenPins e = absurd (omega arith)
+  named-closed missingPins e = absurd (omega arith)
+  named-closed closedTiles e = closed-over J under r c 1 long high wide
+
+  pub named-marked : (g : TextGroup) → rank (within g) ≢ 4
+      → set (over (unwiredRecord J) under) (offset markPlane r c) (rank (within g) - 1) ≡ over (unwiredRecord (named J g r c)) under
+  named-marked chosenPins e = marked-over J under r c 1 long high wide
+  named-marked missingPins e = marked-over J under r c 2 long high wide
+  named-marked closedTiles e = absurd (e refl)
+
 -- ---- the record so far
 
 pub record Writing (text rec : List ℕ) (K : Job) (at : ℕ) (out : List ℕ) : Type 0 where
@@ -132,7 +147,7 @@ module _ {text rec : List ℕ} {K : Job} {at : ℕ} {out : List ℕ} (w : Writin
     pub group-rank : (2 ≤ n) × (n ≤ 4)
     group-rank = (omega (arith, f .1, rank-group g .0), omega (arith, f .1, rank-group g .1))
 
-    writing-group : (new : List ℕ) → new ≡ over (unwiredRecord (named (R .job) g r c)) rec → Writing text rec K next new
+    pub writing-group : (new : List ℕ) → new ≡ over (unwiredRecord (named (R .job) g r c)) rec → Writing text rec K next new
     writing-group new e =
         record {
           reader = afterGroup R g r c;
@@ -143,27 +158,6 @@ module _ {text rec : List ℕ} {K : Job} {at : ℕ} {out : List ℕ} (w : Writin
           rest = group-read .1;
           here = e;
         }
-
-    module _ (long : recordSize ≤ length rec) where
-      closed-so : (h : TextGroup) → rank (within h) ≡ 4 → set out (offset statePlane r c) 1 ≡ over (unwiredRecord (named (R .job) h r c)) rec
-      closed-so chosenPins e = absurd (omega arith)
-      closed-so missingPins e = absurd (omega arith)
-      closed-so closedTiles e =
-          ap (λ (s : List ℕ). set s (offset statePlane r c) 1) (w .here) ∙ closed-over (R .job) rec r c 1 long (group-cell .0) (group-cell .1)
-
-      marked-so : (h : TextGroup) → rank (within h) ≢ 4 → set out (offset markPlane r c) (rank (within h) - 1) ≡ over (unwiredRecord (named (R .job) h r c)) rec
-      marked-so chosenPins e =
-          ap (λ (s : List ℕ). set s (offset markPlane r c) 1) (w .here) ∙ marked-over (R .job) rec r c 1 long (group-cell .0) (group-cell .1)
-      marked-so missingPins e =
-          ap (λ (s : List ℕ). set s (offset markPlane r c) 2) (w .here) ∙ marked-over (R .job) rec r c 2 long (group-cell .0) (group-cell .1)
-      marked-so closedTiles e = absurd (e refl)
-
-      pub writing-closed : n ≡ 4 → (new : List ℕ) → new ≡ set out (offset statePlane r c) 1 → Writing text rec K next new
-      writing-closed e new q = writing-group new (q ∙ closed-so g (sym (f .1) ∙ e))
-
-      pub writing-marked : n ≢ 4 → (new : List ℕ) → new ≡ set out (offset markPlane r c) (n - 1) → Writing text rec K next new
-      writing-marked e new q =
-          writing-group new (q ∙ (ap (λ (k : ℕ). set out (offset markPlane r c) (k - 1)) (f .1) ∙ marked-so g (λ x. e (f .1 ∙ x))))
 
   -- ---- the end
 

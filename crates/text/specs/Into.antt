@@ -1,12 +1,19 @@
 -- What a record holds after a text: the text's job without wires, if the text reads, and else what it held. Assumes nothing.
 use mathlib.Core.Path.{_≡_}
 use mathlib.Core.List.{List}
-use Prim.Native.Nat.{ℕ}
+use Prim.Native.Nat.{ℕ, _≤_}
+use lib.ListN.{length}
 use Rattle.model.specs.Job.{Job}
-use Rattle.model.specs.Text.{reads, wrongAt, Reading}
-use Rattle.model.specs.Record.{unwiredRecord, over}
+use Rattle.model.specs.Text.{Group, within, rank, named, reads, wrongAt, Reading}
+use Rattle.model.specs.Record.{recordSize, unwiredRecord, over}
 use Rattle.text.specs.declared.reader.Judged.{Judged}
 use Rattle.text.specs.declared.reader.Judged.the-variants.{Reads, WrongAt}
+
+-- whatever job `rec` are the bytes of, `out` are those of the job with the pin or tile that a line of a group names
+abbrev pub Names : List ℕ → ℕ → ℕ → ℕ → List ℕ → Type 0
+Names rec group r c out =
+    (J : Job) (under : List ℕ) (g : Group) → group ≡ rank (within g) → recordSize ≤ length under → rec ≡ over (unwiredRecord J) under
+    → out ≡ over (unwiredRecord (named J g r c)) under
 
 -- the text is a job's
 abbrev pub Readable : List ℕ → Type 0

@@ -5,12 +5,25 @@ use line::held::next_line;
 use line::lines::Line;
 use line::lines::Opening;
 use line::lines::array_at;
-ghost use Prim.Native.Nat.{_≤_};
+ghost use Prim.Native.Nat.{_≤_, _<_};
 ghost use lib.ListN.{length};
 ghost use Rattle.model.specs.Record.{recordSize};
-ghost use Rattle.text.specs.Into.{Readable, Holds, ReadsInto};
+ghost use Rattle.text.specs.Into.{Names, Readable, Holds, ReadsInto};
 
-// The job of a text that reads, line by line. The groups' marks are 1 and 2; a closed tile's state is 1.
+// A line of a group in the record. The groups' marks are 1 and 2; a closed tile's state is 1.
+fn write_line(rec: &mut [u8], group: usize, row: usize, column: usize)
+    requires { ⌜ recordSize ≤ length (now rec) ⌝ }
+    requires { ⌜ (2 ≤ group) × (group ≤ 4) × (row < 40) × (column < 40) ⌝ }
+    ensures { λ _. ⌜ Names (now (rec .entry)) group row column (now (rec .exit)) ⌝ }
+{
+    if group == 4 {
+        channel::set_state(rec, row, column, 1);
+        return;
+    }
+    channel::set_mark(rec, row, column, group - 1);
+}
+
+// The job of a text that reads, line by line.
 fn write_job(text: &[u8], rec: &mut [u8])
     requires { ⌜ recordSize ≤ length (now rec) ⌝ }
     requires { ⌜ Readable (now text) ⌝ }
@@ -39,13 +52,8 @@ fn write_job(text: &[u8], rec: &mut [u8])
         else {
             return;
         };
-        if group == 4 {
-            channel::set_state(rec, row, column, 1);
-            at = next;
-        } else {
-            channel::set_mark(rec, row, column, group - 1);
-            at = next;
-        }
+        write_line(rec, group, row, column);
+        at = next;
     }
 }
 

@@ -18,7 +18,7 @@ use Rattle.line.specs.declared.lines.Line.the-variants.{Group, End, Wrong}
 use Rattle.line.specs.Lines.{LineAt, ArrayAt}
 use Rattle.text.proofs.Standing.{open-wrong}
 use Rattle.text.proofs.Midway.{line-length}
-use Rattle.text.proofs.Writing.{Writing, writing-open, group-cell, group-rank, writing-closed, writing-marked, writing-ended, writing-wrong, not-both}
+use Rattle.text.proofs.Writing.{Writing, writing-open, group-cell, group-rank, writing-group, writing-ended, writing-wrong, not-both}
 use Rattle.line.proofs.lines.Line.{enum}
 use Rattle.text.proofs.into.write_job.Statement.{statement}
 use Rattle.text.proofs.into.write_job.Tie as tie
@@ -106,116 +106,53 @@ returns-2 c =
     ∙ (ap (over (unwiredRecord K)) (c5 .write-fresh .ensures)
     ∙ over-over K (fresh (p .0 .0) (p .0 .1 .0) (q .0) (q .1 .0) (q .1 .1 .0)) noLoads noLoads (now (c13 .args .rec)))
 
-set-state-requires : tie.Need-set-state-requires Inv-loop μ-loop
-set-state-requires c κs =
-    let c3 = c .before .before .before in
-    let c5 = c3 .before .before in
-    let c6 = c5 .before in
-    let c17 = c6 .before .before .before .before .before .before .before .before .before .before .before in
-    let t = now (c17 .args .text) in
-    let l = c6 .loop in
-    let p = c3 .group .given in
+write-line-requires : tie.Need-write-line-requires Inv-loop μ-loop
+write-line-requires c κs =
+    let c2 = c .before .before in
+    let c4 = c2 .before .before in
+    let c5 = c4 .before in
+    let c16 = c5 .before .before .before .before .before .before .before .before .before .before .before in
+    let t = now (c16 .args .text) in
+    let l = c5 .loop in
+    let p = c2 .group .given in
     let q = p .0 .1 in
-    let (K, h) = c17 .pre .1 in
-    let f = subst (LineAt t (l .at)) (p .1) (c5 .next-line .ensures) in
+    let (K, h) = c16 .pre .1 in
+    let f = subst (LineAt t (l .at)) (p .1) (c4 .next-line .ensures) in
     let b = group-cell (l .inv .3 K h) (l .inv .2) (p .0 .0) (q .0) (q .1 .0) (q .1 .1 .0) f in
-    (omega (arith, l .inv .0, l .inv .1), (b .0, b .1, omega arith))
+    let r = group-rank (l .inv .3 K h) (l .inv .2) (p .0 .0) (q .0) (q .1 .0) (q .1 .1 .0) f in
+    (omega (arith, l .inv .0, l .inv .1), (r .0, r .1, b .0, b .1))
 
 loop-less : tie.Need-loop-less Inv-loop μ-loop
 loop-less c =
-    let c6 = c .before .before .before .before .before .before in
-    let c8 = c6 .before .before in
-    let c9 = c8 .before in
-    let c20 = c9 .before .before .before .before .before .before .before .before .before .before .before in
-    let t = now (c20 .args .text) in
-    let l = c9 .loop in
-    let p = c6 .group .given in
-    let f = subst (LineAt t (l .at)) (p .1) (c8 .next-line .ensures) in
+    let c5 = c .before .before .before .before .before in
+    let c7 = c5 .before .before in
+    let c8 = c7 .before in
+    let c19 = c8 .before .before .before .before .before .before .before .before .before .before .before in
+    let t = now (c19 .args .text) in
+    let l = c8 .loop in
+    let p = c5 .group .given in
+    let f = subst (LineAt t (l .at)) (p .1) (c7 .next-line .ensures) in
     let b = line-length t (l .at) (p .0 .1 .1 .1 .0) (groupLine (f .0) (p .0 .1 .0) (p .0 .1 .1 .0)) (l .inv .2) (f .4) (f .5) in
     omega (arith, b .1, f .4)
 
 loop-again : tie.Need-loop-again Inv-loop μ-loop
 loop-again c =
     let c2 = c .before .before in
-    let c4 = c2 .before .before in
-    let c6 = c4 .before .before in
-    let c8 = c6 .before .before in
-    let c9 = c8 .before in
-    let c20 = c9 .before .before .before .before .before .before .before .before .before .before .before in
-    let t = now (c20 .args .text) in
-    let l = c9 .loop in
-    let p = c6 .group .given in
+    let c5 = c2 .before .before .before in
+    let c7 = c5 .before .before in
+    let c8 = c7 .before in
+    let c19 = c8 .before .before .before .before .before .before .before .before .before .before .before in
+    let t = now (c19 .args .text) in
+    let l = c8 .loop in
+    let p = c5 .group .given in
     let q = p .0 .1 in
-    let f = subst (LineAt t (l .at)) (p .1) (c8 .next-line .ensures) in (
+    let f = subst (LineAt t (l .at)) (p .1) (c7 .next-line .ensures) in (
       l .inv .0,
-      c2 .set-state .kept .0 ∙ l .inv .1,
+      c2 .write-line .kept .0 ∙ l .inv .1,
       f .4,
-      λ K h. writing-closed (l .inv .3 K h) (l .inv .2) (p .0 .0) (q .0) (q .1 .0) (q .1 .1 .0) f (l .inv .0) (c4 .if1 .taken)
-          (c2 .set-state .last .0) (c2 .set-state .ensures),
-    )
-
-sub-set-mark : tie.Need-sub-set-mark Inv-loop μ-loop
-sub-set-mark c =
-    let c3 = c .before .before .before in
-    let c5 = c3 .before .before in
-    let c6 = c5 .before in
-    let c17 = c6 .before .before .before .before .before .before .before .before .before .before .before in
-    let t = now (c17 .args .text) in
-    let l = c6 .loop in
-    let p = c3 .group .given in
-    let q = p .0 .1 in
-    let (K, h) = c17 .pre .1 in
-    let f = subst (LineAt t (l .at)) (p .1) (c5 .next-line .ensures) in
-    let b = group-rank (l .inv .3 K h) (l .inv .2) (p .0 .0) (q .0) (q .1 .0) (q .1 .1 .0) f in
-    omega (arith, b .0)
-
-set-mark-requires : tie.Need-set-mark-requires Inv-loop μ-loop
-set-mark-requires c κs =
-    let c3 = c .before .before .before in
-    let c5 = c3 .before .before in
-    let c6 = c5 .before in
-    let c17 = c6 .before .before .before .before .before .before .before .before .before .before .before in
-    let t = now (c17 .args .text) in
-    let l = c6 .loop in
-    let p = c3 .group .given in
-    let q = p .0 .1 in
-    let (K, h) = c17 .pre .1 in
-    let f = subst (LineAt t (l .at)) (p .1) (c5 .next-line .ensures) in
-    let b = group-cell (l .inv .3 K h) (l .inv .2) (p .0 .0) (q .0) (q .1 .0) (q .1 .1 .0) f in
-    let r = group-rank (l .inv .3 K h) (l .inv .2) (p .0 .0) (q .0) (q .1 .0) (q .1 .1 .0) f in
-    (omega (arith, l .inv .0, l .inv .1), (b .0, b .1, omega (arith, r .1)))
-
-loop-less-2 : tie.Need-loop-less-2 Inv-loop μ-loop
-loop-less-2 c =
-    let c6 = c .before .before .before .before .before .before in
-    let c8 = c6 .before .before in
-    let c9 = c8 .before in
-    let c20 = c9 .before .before .before .before .before .before .before .before .before .before .before in
-    let t = now (c20 .args .text) in
-    let l = c9 .loop in
-    let p = c6 .group .given in
-    let f = subst (LineAt t (l .at)) (p .1) (c8 .next-line .ensures) in
-    let b = line-length t (l .at) (p .0 .1 .1 .1 .0) (groupLine (f .0) (p .0 .1 .0) (p .0 .1 .1 .0)) (l .inv .2) (f .4) (f .5) in
-    omega (arith, b .1, f .4)
-
-loop-again-2 : tie.Need-loop-again-2 Inv-loop μ-loop
-loop-again-2 c =
-    let c2 = c .before .before in
-    let c4 = c2 .before .before in
-    let c6 = c4 .before .before in
-    let c8 = c6 .before .before in
-    let c9 = c8 .before in
-    let c20 = c9 .before .before .before .before .before .before .before .before .before .before .before in
-    let t = now (c20 .args .text) in
-    let l = c9 .loop in
-    let p = c6 .group .given in
-    let q = p .0 .1 in
-    let f = subst (LineAt t (l .at)) (p .1) (c8 .next-line .ensures) in (
-      l .inv .0,
-      c2 .set-mark .kept .0 ∙ l .inv .1,
-      f .4,
-      λ K h. writing-marked (l .inv .3 K h) (l .inv .2) (p .0 .0) (q .0) (q .1 .0) (q .1 .1 .0) f (l .inv .0) (c4 .if1 .left)
-          (c2 .set-mark .last .0) (c2 .set-mark .ensures),
+      λ K h. let w = l .inv .3 K h in
+          writing-group w (l .inv .2) (p .0 .0) (q .0) (q .1 .0) (q .1 .1 .0) f (c2 .write-line .last .0)
+          (c2 .write-line .ensures (w .reader .job) _ (f .0) (f .1) (l .inv .0) (w .here)),
     )
 
 pub write-job-spec : {M : Type 1} → statement M
@@ -234,10 +171,6 @@ write-job-spec =
     enum-known-group
     same-length
     returns-2
-    set-state-requires
+    write-line-requires
     loop-less
-    loop-again
-    sub-set-mark
-    set-mark-requires
-    loop-less-2
-    loop-again-2)
+    loop-again)
