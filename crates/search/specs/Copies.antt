@@ -19,8 +19,8 @@ use Rattle.model.specs.Wires.{isWired, wireCount}
 use Rattle.model.specs.Calls.{wiredIn, wiresIn}
 use Rattle.model.proofs.RecordOf.{inCells, cells-row, cells-column, plane-below}
 use Rattle.model.proofs.Over.{job-over, load-over, legal-over}
-use Rattle.search.specs.Laid.{BytesFit, SameButLoads}
-use Rattle.search.specs.Pins.{Held}
+use Rattle.augment.specs.Laid.{BytesFit, SameButLoads}
+use Rattle.augment.specs.Pins.{Held}
 
 -- ---- a loop that stores from the front
 

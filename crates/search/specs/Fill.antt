@@ -8,9 +8,9 @@ use lib.ListN.{getD}
 use Rattle.sums.specs.Counting.{when, sum}
 use Rattle.model.specs.Job.{Job}
 use Rattle.channel.specs.Map.{spots, want, starts}
-use Rattle.search.specs.Laid.{SameButLoads}
-use Rattle.search.specs.Marks.{marked}
-use Rattle.search.specs.Pins.{Held, Dead, Unwired, AllReached}
+use Rattle.augment.specs.Laid.{SameButLoads}
+use Rattle.augment.specs.Marks.{marked}
+use Rattle.augment.specs.Pins.{Held, Dead, Unwired, AllReached}
 
 -- no spot is marked
 pub record Cleared (t : List ℕ) : Type 0 where

@@ -16,14 +16,14 @@ use Rattle.model.specs.Record.{load}
 use Rattle.model.specs.Wires.{wireCount}
 use Rattle.channel.specs.Map.{spots, want, starts}
 use Rattle.channel.specs.Map.Network.Flows.{starts-wanted}
-use Rattle.search.specs.OneMore.{OneMore}
-use Rattle.search.specs.NoMore.{reached-smallest, reached-greatest}
-use Rattle.search.specs.Marks.{marked, marked-spot, marked-byte}
-use Rattle.search.specs.Pins.{Held, Dead, AnySpot, Answered}
-use Rattle.search.specs.Passing.{was-laid, was-nothing}
+use Rattle.augment.specs.OneMore.{OneMore}
+use Rattle.augment.specs.NoMore.{reached-smallest, reached-greatest}
+use Rattle.augment.specs.Marks.{marked, marked-spot, marked-byte}
+use Rattle.augment.specs.Pins.{Held, Dead, AnySpot, Answered}
+use Rattle.augment.specs.Passing.{was-laid, was-nothing}
 use Rattle.search.specs.Fill.{Cleared, More, Filling, Saturated, Filled, lacking}
-use Rattle.search.specs.declared.next.Next.{Next}
-use Rattle.search.specs.declared.next.Next.the-variants.{Laid, Nothing}
+use Rattle.augment.specs.declared.next.Next.{Next}
+use Rattle.augment.specs.declared.next.Next.the-variants.{Laid, Nothing}
 
 -- ---- no marks
 

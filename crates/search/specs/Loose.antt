@@ -7,9 +7,9 @@ use Rattle.model.specs.Job.{Job}
 use Rattle.model.specs.Loads.{Feasible, Sound}
 use Rattle.model.specs.Record.{load}
 use Rattle.channel.specs.Map.{spots, darts, view, starts}
-use Rattle.search.specs.Laid.{BytesFit, SameButLoads}
+use Rattle.augment.specs.Laid.{BytesFit, SameButLoads}
 use Rattle.audit.specs.Loops.{Room, Settled}
-use Rattle.search.specs.Pins.{Held}
+use Rattle.augment.specs.Pins.{Held}
 
 -- rec′ has the wires of rec's pins, and no more load anywhere
 pub record Loosened (J : Job) (rec rec′ : List ℕ) : Type 0 where

@@ -10,11 +10,11 @@ use Rattle.model.specs.Record.{recordSize, jobOf, Legal, over}
 use Rattle.model.specs.Calls as calls
 use Rattle.model.specs.Calls.{wiredIn, wiresIn, Shown}
 use Rattle.channel.specs.Map.{spots}
-use Rattle.search.specs.OneMore.{OneMore}
-use Rattle.search.specs.Pins.{Unwired}
+use Rattle.augment.specs.OneMore.{OneMore}
+use Rattle.augment.specs.Pins.{Unwired}
 use Rattle.search.specs.Fill.{Saturated}
-use Rattle.search.specs.declared.next.Next.{Next}
-use Rattle.search.specs.declared.next.Next.the-variants.{Laid, Nothing}
+use Rattle.augment.specs.declared.next.Next.{Next}
+use Rattle.augment.specs.declared.next.Next.the-variants.{Laid, Nothing}
 use Rattle.search.specs.declared.step.Progress.{Progress}
 use Rattle.search.specs.declared.step.Progress.the-variants.{Added, Full}
 

@@ -15,10 +15,10 @@ use Rattle.channel.specs.Map.{spots, rev, view, starts, laid}
 use Rattle.channel.specs.Map.Network.{net}
 use Rattle.channel.specs.Map.Network.Flows.{starts-count}
 use Rattle.channel.specs.Map.Fresh.{fresh-loops}
-use Rattle.search.specs.Laid.{laidAll, laid-last}
+use Rattle.augment.specs.Laid.{laidAll, laid-last}
 use Rattle.search.specs.Unlooped.{Lighter, takes-out}
 use Rattle.audit.specs.Loops.{ringDarts, Closed, Settled, Answer, free, ring}
-use Rattle.search.specs.Pins.{Held}
+use Rattle.augment.specs.Pins.{Held}
 use Rattle.search.specs.Loose.{Loosened, Untangled, Freed}
 use Rattle.audit.specs.declared.loops.Found.{Found}
 use Rattle.audit.specs.declared.loops.Found.the-variants.{Free, Ring}

@@ -23,8 +23,8 @@ use Rattle.wire.specs.Held.{sound-holds}
 use Rattle.channel.specs.Map.{spots, isStart, want, starts}
 use Rattle.channel.specs.Map.Starts.{pin-spot, want-start}
 use Rattle.channel.specs.Map.Network.Flows.{pin-starts, starts-wanted, starts-count, want-count}
-use Rattle.search.specs.Marks.{marked, is-marked}
-use Rattle.search.specs.Pins.{Held}
+use Rattle.augment.specs.Marks.{marked, is-marked}
+use Rattle.augment.specs.Pins.{Held}
 use Rattle.search.specs.Loose.{Loosened, Freed}
 use Rattle.search.specs.Rings.{loose-held, loose-wires}
 use Rattle.search.specs.Fill.{More, Filled, unwiredCount}

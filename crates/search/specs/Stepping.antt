@@ -7,16 +7,16 @@ use Rattle.model.specs.Job.{Job}
 use Rattle.model.specs.Record.{recordSize, jobOf, Legal, over}
 use Rattle.model.specs.Calls as calls
 use Rattle.channel.specs.Map.{spots}
-use Rattle.search.specs.OneMore.{OneMore}
-use Rattle.search.specs.Pins.{Held, Unwired}
+use Rattle.augment.specs.OneMore.{OneMore}
+use Rattle.augment.specs.Pins.{Held, Unwired}
 use Rattle.search.specs.Loose.{Freed}
 use Rattle.search.specs.Fill.{Saturated}
 use Rattle.search.specs.Filling.{held-more}
 use Rattle.search.specs.Copies.{front, over-whole, front-whole, front-length, front-held, new-length}
 use Rattle.search.specs.Outcome.{Extended, one, none, StepDid, more, full}
 use Rattle.search.specs.Added.{loose-one, wire-added, none-fits}
-use Rattle.search.specs.declared.next.Next.{Next}
-use Rattle.search.specs.declared.next.Next.the-variants.{Laid, Nothing}
+use Rattle.augment.specs.declared.next.Next.{Next}
+use Rattle.augment.specs.declared.next.Next.the-variants.{Laid, Nothing}
 use Rattle.search.specs.declared.step.Progress.the-variants.{Added, Full}
 
 module _ {J : Job} {rec rec′ : List ℕ} {y : Next} (x : Extended J rec rec′ y) where

@@ -25,8 +25,8 @@ use Rattle.channel.specs.Map.Network.Flows.{feasible-flow}
 use Rattle.channel.specs.Map.Network.Agree.{Agrees}
 use Rattle.channel.specs.Map.Network.FeasibleBytes.{agrees-feasible, agrees-starts}
 use Rattle.channel.specs.Map.Network.Least.{view-least}
-use Rattle.search.specs.Laid.{laidAll, BytesFit, Darts, SameButLoads, laid-kept, laid-agrees, same-darts}
-use Rattle.search.specs.OneMore.{path-darts}
+use Rattle.augment.specs.Laid.{laidAll, BytesFit, Darts, SameButLoads, laid-kept, laid-agrees, same-darts}
+use Rattle.augment.specs.OneMore.{path-darts}
 
 -- how many wires go along all darts together
 abbrev pub totalLoad : List ℕ → ℕ

@@ -4,12 +4,12 @@ ghost use Prim.Native.Nat.{_≤_};
 ghost use lib.ListN.{length};
 ghost use Rattle.model.specs.Record.{jobOf};
 ghost use Rattle.channel.specs.Map.{spots};
-ghost use Rattle.search.specs.Spread.{Room};
-ghost use Rattle.search.specs.Steps.{Whole};
-ghost use Rattle.search.specs.Pins.{Held};
+ghost use Rattle.augment.specs.Spread.{Room};
+ghost use Rattle.augment.specs.Steps.{Whole};
+ghost use Rattle.augment.specs.Pins.{Held};
 ghost use Rattle.search.specs.Fill.{Cleared, Filled};
-use crate::next::Next;
-use crate::next::next_wire;
+use augment::next::Next;
+use augment::next::next_wire;
 
 // No spot is marked.
 pub fn clear(marks: &mut [u8])

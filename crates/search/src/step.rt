@@ -1,12 +1,12 @@
 // Step: one wire more, if one fits. It works on a copy of the record, so that a record that takes no wire more is not touched.
 ghost use Rattle.model.specs.Record.{jobOf, Legal};
-ghost use Rattle.search.specs.Steps.{Whole};
-ghost use Rattle.search.specs.Pins.{Held};
+ghost use Rattle.augment.specs.Steps.{Whole};
+ghost use Rattle.augment.specs.Pins.{Held};
 ghost use Rattle.search.specs.Outcome.{Extended, StepDid};
 use crate::copy::copy;
-use crate::next::Next;
-use crate::next::next_wire;
 use crate::untangle::untangle;
+use augment::next::Next;
+use augment::next::next_wire;
 
 // One wire more is laid; or no wire more fits.
 pub enum Progress {

@@ -4,7 +4,7 @@ ghost use mathlib.Core.Path.{_≡_};
 ghost use mathlib.Core.List.{map};
 ghost use Prim.Native.Nat.{_-_, _≤_};
 ghost use Rattle.channel.specs.Map.{rev};
-ghost use Rattle.search.specs.Laid.{laidAll};
+ghost use Rattle.augment.specs.Laid.{laidAll};
 ghost use Rattle.audit.specs.Loops.{ringDarts};
 ghost use Rattle.search.specs.Loose.{Ringed, Tangled, Untangled, Laden, Freed};
 use audit::loops::Found;

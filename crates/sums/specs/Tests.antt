@@ -3,11 +3,21 @@ use mathlib.Core.Path.{_≡_, refl, sym, subst}
 use mathlib.Core.Logic.{_≢_, _⊎_, inl, inr}
 use mathlib.Core.Bool.{Bool, true, false, not, _&&_, _||_}
 use mathlib.Core.List.{List, [], _∷_, _++_, List·Memᴰ, List·Memᴰ·head, List·Memᴰ·tail, Memᴰ·append-left, Memᴰ·append-right}
-use Prim.Native.Nat.{ℕ, zero, suc, _+_, _<_}
+use Prim.Native.Nat.{ℕ, zero, suc, _+_, _≤_, _<_}
+use native.Mathlib.Decide.{decLt}
 use native.Mathlib.Nat.{not-suc-le-zero}
 use native.Mathlib.Omega.{arith}
 use lib.Dec.{T, eqb, eqb→eq, eqb-refl}
 use Rattle.sums.specs.Counting.{when, only, each, those, total, count}
+
+-- ---- order of numbers
+
+pub below-or : (a b : ℕ) → (a < b) ⊎ (b ≤ a)
+below-or a b = by (decLt a b)
+  where
+    by : Dec (a < b) → (a < b) ⊎ (b ≤ a)
+    by (yes p) = inl p
+    by (no p) = inr (omega arith)
 
 -- ---- equality of numbers
 

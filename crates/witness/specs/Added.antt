@@ -22,10 +22,10 @@ use Rattle.model.proofs.RecordOf.{length-record}
 use Rattle.model.proofs.LegalRecord.{legal-record}
 use Rattle.channel.specs.Map.Places.{chosen-cell}
 use Rattle.channel.specs.Map.Network.{unstarted-at}
-use Rattle.search.specs.Laid.{BytesFit, SameButLoads}
-use Rattle.search.specs.OneMore.{OneMore, unstarted-pin, wires-more, pin-gains, pin-keeps}
-use Rattle.search.specs.NoMore.{reached-smallest, reached-greatest}
-use Rattle.search.specs.Pins.{Held}
+use Rattle.augment.specs.Laid.{BytesFit, SameButLoads}
+use Rattle.augment.specs.OneMore.{OneMore, unstarted-pin, wires-more, pin-gains, pin-keeps}
+use Rattle.augment.specs.NoMore.{reached-smallest, reached-greatest}
+use Rattle.augment.specs.Pins.{Held}
 use Rattle.wire.specs.Held.{sound-holds}
 use Rattle.witness.specs.Damage.{LoopFree}
 use Rattle.witness.specs.NextWire.{NoWay, Wired, next-wire}

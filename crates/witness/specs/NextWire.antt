@@ -12,10 +12,10 @@ use Rattle.flow.specs.Network.{head}
 use Rattle.model.specs.Job.{Job}
 use Rattle.channel.specs.Map.{spots, want, outside, starts, moves}
 use Rattle.channel.specs.Map.Network.{net, net-tail, net-head, net-dart, dart-net, unstarted-at}
-use Rattle.search.specs.Laid.{laidAll}
-use Rattle.search.specs.OneMore.{OneMore, moves-path, lays-one}
-use Rattle.search.specs.NoMore.{Reached, from, onto, ClosedUnderMoves, NoneOutside}
-use Rattle.search.specs.Pins.{Held, Unwired}
+use Rattle.augment.specs.Laid.{laidAll}
+use Rattle.augment.specs.OneMore.{OneMore, moves-path, lays-one}
+use Rattle.augment.specs.NoMore.{Reached, from, onto, ClosedUnderMoves, NoneOutside}
+use Rattle.augment.specs.Pins.{Held, Unwired}
 use Rattle.search.specs.Loose.{Loosened}
 use Rattle.witness.specs.Decide.{some-or-all}
 use Rattle.witness.specs.Closure.{Closure, closure}

@@ -7,9 +7,9 @@ use native.Mathlib.Nat.{le-refl}
 use native.Mathlib.Omega.{arith}
 use Rattle.model.specs.Job.{Job}
 use Rattle.channel.specs.Map.{rev}
-use Rattle.search.specs.Laid.{laidAll}
+use Rattle.augment.specs.Laid.{laidAll}
 use Rattle.search.specs.Unlooped.{totalLoad, Lighter, takes-out}
-use Rattle.search.specs.Pins.{Held}
+use Rattle.augment.specs.Pins.{Held}
 use Rattle.search.specs.Loose.{Loosened}
 use Rattle.search.specs.Rings.{loose-none, loose-held, loose-more}
 use Rattle.witness.specs.Damage.{LoopFree, LoadedRing, loops?}

@@ -7,11 +7,11 @@ use denote.Ref.{now}
 use lib.ListN.{length}
 use Rattle.sums.specs.Counting.{when}
 use Rattle.model.specs.Record.{jobOf}
-use Rattle.search.specs.Spread.{Alike, Room}
-use Rattle.search.specs.Queue.{alike-refl, alike-then, alike-room}
+use Rattle.augment.specs.Spread.{Alike, Room}
+use Rattle.augment.specs.Queue.{alike-refl, alike-then, alike-room}
 use Rattle.search.specs.Fill.{Filling, lacking, left}
 use Rattle.search.specs.Filling.{filling-start, filling-clear, filling-laid, filling-less, filling-end}
-use Rattle.search.specs.Passing.{was-nothing}
+use Rattle.augment.specs.Passing.{was-nothing}
 use Rattle.search.proofs.fill.fill.Statement.{statement}
 use Rattle.search.proofs.fill.fill.Tie as tie
 

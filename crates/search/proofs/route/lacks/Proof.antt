@@ -3,7 +3,7 @@ use borrow.Author.Needs.{needs}
 use mathlib.Core.Path.{sym, _∙_}
 use native.Mathlib.Omega.{arith}
 use Rattle.channel.specs.Map.Numbers.{spots-is}
-use Rattle.search.specs.Answers.{yes-not, no-not}
+use Rattle.augment.specs.Answers.{yes-not, no-not}
 use Rattle.search.specs.Routing.{lacks-no-pin, lacks-no-wire, lacks-one}
 use Rattle.search.proofs.route.lacks.Statement.{statement}
 use Rattle.search.proofs.route.lacks.Tie as tie

@@ -2,7 +2,7 @@
 use borrow.Author.Needs.{needs}
 use native.Mathlib.Omega.{arith}
 use Rattle.channel.specs.Map.Numbers.{spots-is}
-use Rattle.search.specs.Marks.{marked-spot, marked-byte}
+use Rattle.augment.specs.Marks.{marked-spot, marked-byte}
 use Rattle.search.specs.Routing.{byte-near, byte-far}
 use Rattle.search.proofs.route.near_byte.Statement.{statement}
 use Rattle.search.proofs.route.near_byte.Tie as tie

@@ -8,7 +8,7 @@ use denote.Ref.{now}
 use lib.ListN.{length, getD}
 use Rattle.channel.specs.Map.Numbers.{darts-is}
 use Rattle.channel.specs.Map.{darts, rev, laid}
-use Rattle.search.specs.Laid.{laidAll}
+use Rattle.augment.specs.Laid.{laidAll}
 use Rattle.audit.specs.Loops.{ringDarts}
 use Rattle.search.specs.Rings.{out-none, out-more}
 use Rattle.search.proofs.untangle.take_out.Statement.{statement}

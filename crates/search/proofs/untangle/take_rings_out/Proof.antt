@@ -5,7 +5,7 @@ use native.Mathlib.Omega.{arith}
 use lib.ListN.{length}
 use Rattle.model.specs.Job.{Job}
 use Rattle.search.specs.Unlooped.{totalLoad}
-use Rattle.search.specs.Pins.{Held}
+use Rattle.augment.specs.Pins.{Held}
 use Rattle.search.specs.Loose.{Loosened}
 use Rattle.search.specs.Rings.{ring-out, loose-none, loose-held, loose-more, found-free, found-ring}
 use Rattle.search.proofs.untangle.take_rings_out.Statement.{statement}

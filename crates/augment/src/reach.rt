@@ -1,0 +1,120 @@
+// The search for a way out: breadth-first from one spot along moves, never entering a marked spot. It works on what is lent to it.
+ghost use Prim.Native.Nat.{_<_};
+ghost use Rattle.model.specs.Record.{jobOf};
+ghost use Rattle.augment.specs.Spread.{Room};
+ghost use Rattle.augment.specs.Steps.{Whole, Ready, Tried, Expanded, Searched, Fresh};
+use channel::can_move;
+use channel::head_of;
+use channel::is_outside;
+
+// The way out: slot k of the j-th spot in the queue, which has n; or there is none, and the queue has n.
+pub enum Way {
+    Out(usize, usize, usize),
+    Closed(usize),
+}
+
+// A slot that leads outside, and how many spots are in the queue; or that number alone.
+enum Step {
+    Exit(usize, usize),
+    More(usize),
+}
+
+// Slot k of the spot u, which is the h-th in the queue of n.
+fn attempt(
+    job: &[u8],
+    loads: &[u8],
+    u: usize,
+    k: usize,
+    h: usize,
+    marks: &mut [u8],
+    queue: &mut [u16],
+    parent: &mut [u16],
+    slot: &mut [u8],
+    n: usize,
+) -> Step
+    requires { ⌜ Ready (now job) (now loads) (now marks) (now queue) (now parent) (now slot) u h n × (k < 8) ⌝ }
+    ensures { λ s. ⌜ Tried (jobOf (now (job .entry))) (now (loads .entry)) u k h
+        (now (marks .entry)) (now (queue .entry)) (now (parent .entry)) (now (slot .entry)) n
+        (now (marks .exit)) (now (queue .exit)) (now (parent .exit)) (now (slot .exit)) s ⌝ }
+{
+    let d = 8 * u + k;
+    let v = head_of(d);
+    if marks[v] == 1 {
+        return Step::More(n);
+    }
+    if !can_move(job, loads, d) {
+        return Step::More(n);
+    }
+    if is_outside(job, v) {
+        return Step::Exit(k, n);
+    }
+    marks[v] = 1;
+    queue[n] = v as u16;
+    parent[n] = h as u16;
+    slot[n] = k as u8;
+    Step::More(n + 1)
+}
+
+// All slots of the spot u, which is the h-th in the queue of n, up to one that leads outside.
+fn expand(
+    job: &[u8],
+    loads: &[u8],
+    u: usize,
+    h: usize,
+    marks: &mut [u8],
+    queue: &mut [u16],
+    parent: &mut [u16],
+    slot: &mut [u8],
+    n: usize,
+) -> Step
+    requires { ⌜ Ready (now job) (now loads) (now marks) (now queue) (now parent) (now slot) u h n ⌝ }
+    ensures { λ s. ⌜ Expanded (jobOf (now (job .entry))) (now (loads .entry)) u h
+        (now (marks .entry)) (now (queue .entry)) (now (parent .entry)) (now (slot .entry)) n
+        (now (marks .exit)) (now (queue .exit)) (now (parent .exit)) (now (slot .exit)) s ⌝ }
+{
+    let mut m = n;
+    for k in 0..8 {
+        match attempt(job, loads, u, k, h, marks, queue, parent, slot, m) {
+            Step::Exit(a, b) => {
+                return Step::Exit(a, b);
+            }
+            Step::More(a) => {
+                m = a;
+            }
+        }
+    }
+    Step::More(m)
+}
+
+// From start to the outside, or to all that moves reach.
+pub fn reach(
+    job: &[u8],
+    loads: &[u8],
+    start: usize,
+    marks: &mut [u8],
+    queue: &mut [u16],
+    parent: &mut [u16],
+    slot: &mut [u8],
+) -> Way
+    requires { ⌜ Whole (now job) (now loads) × Room (now marks) (now queue) (now parent) (now slot) × Fresh (jobOf (now job)) (now marks) start ⌝ }
+    ensures { λ y. ⌜ Searched (jobOf (now (job .entry))) (now (loads .entry)) start
+        (now (marks .entry)) (now (marks .exit)) (now (queue .exit)) (now (parent .exit)) (now (slot .exit)) y ⌝ }
+{
+    marks[start] = 1;
+    queue[0] = start as u16;
+    let mut n = 1;
+    let mut h = 0;
+    while h < n {
+        let u = queue[h] as usize;
+        match expand(job, loads, u, h, marks, queue, parent, slot, n) {
+            Step::Exit(k, a) => {
+                return Way::Out(h, k, a);
+            }
+            Step::More(a) => {
+                n = a;
+            }
+        }
+        h += 1;
+    }
+    Way::Closed(n)
+}
