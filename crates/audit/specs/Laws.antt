@@ -1,13 +1,16 @@
 -- The tests of all cells, with those of the header and of the unused bytes, say exactly that the record is feasible. Assumes nothing.
-use mathlib.Core.Bool.{Bool, _&&_}
+use mathlib.Core.Path.{_≡_, refl, sym, subst}
+use mathlib.Core.Bool.{Bool, true, false, not, _&&_}
 use mathlib.Core.List.{List}
 use Prim.Native.Nat.{ℕ, _≤_, _<_}
+use borrow.Author.Tests.{not-false}
 use lib.Dec.{T}
 use lib.ListN.{length}
 use Rattle.sums.specs.Tests.{and-left, and-right, and-both}
 use Rattle.model.specs.Job.{Job, arrayFits, capsFit}
 use Rattle.model.specs.Record.{recordSize, jobOf}
 use Rattle.cell.specs.Cell.{valuesFit, linksFit, placesEven}
+use Rattle.cell.specs.Cell.Calm.{Calm, calm-links, calm-places}
 use Rattle.cell.specs.Cell.Links.{LoadsFit, links-all, links-pass}
 use Rattle.cell.specs.Cell.Places.{LoadsEven, places-all, places-pass}
 use Rattle.cell.specs.Cell.Values.{Values, values-all, values-pass}
@@ -25,6 +28,23 @@ module _ (rec : List ℕ) where
   -- a cell passes its tests
   unfoldable pub cellFits : ℕ → ℕ → Bool
   cellFits r c = valuesFit rec r c && (linksFit rec r c && placesEven rec r c)
+
+  -- as a program reads it: the values first, and no more for a calm cell
+  pub values-fail : (r c : ℕ) (v : Bool) → v ≡ valuesFit rec r c → not v ≡ true → false ≡ cellFits r c
+  unfolding cellFits
+  values-fail r c v e n = rw (sym e) (by v n)
+    where
+      by : (v : Bool) → not v ≡ true → false ≡ (v && (linksFit rec r c && placesEven rec r c))
+      by true h = absurd (subst T (sym h) tt)
+      by false h = refl
+
+  pub calm-fits : (r c : ℕ) (v : Bool) → v ≡ valuesFit rec r c → not v ≡ false → Calm rec r c → true ≡ cellFits r c
+  unfolding cellFits
+  calm-fits r c v e n k = rw (sym e, not-false v n, sym (calm-links rec r c k), sym (calm-places rec r c k)) refl
+
+  pub loads-left : (r c : ℕ) (v : Bool) → v ≡ valuesFit rec r c → not v ≡ false → (linksFit rec r c && placesEven rec r c) ≡ cellFits r c
+  unfolding cellFits
+  loads-left r c v e n = rw (sym e, not-false v n) refl
 
   pub array-fits : T numbersFit → T (arrayFits (J .rows) (J .columns))
   unfolding numbersFit

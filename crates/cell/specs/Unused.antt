@@ -1,15 +1,17 @@
 -- The bytes of a record that nothing uses, those behind the header's five numbers and the planes in reserve, and when all of them are 0. The definitions
 -- are shut. Assumes nothing.
 use mathlib.Core.Path.{_≡_, refl, sym, subst}
-use mathlib.Core.Bool.{Bool, _&&_}
+use mathlib.Core.Bool.{Bool, true, _&&_}
 use mathlib.Core.List.{List}
 use Prim.Native.Nat.{ℕ, _+_, _-_, _≤_, _<_}
+use native.Mathlib.Numerals.{add-one}
 use native.Mathlib.Omega.{arith}
+use borrow.Author.Tests.{eq-eqb}
 use lib.Dec.{T, eqb, eqb→eq}
 use lib.ListN.{getD}
 use Rattle.sums.specs.Counting.{sum}
 use Rattle.sums.specs.Sums.{sum-none, sum-tight}
-use Rattle.sums.specs.Tests.{and-left, and-right, and-both}
+use Rattle.sums.specs.Tests.{and-left, and-right, and-both, so, both-ways}
 use Rattle.model.specs.Record.{recordSize, reservePlane, offset, Unused}
 
 module _ (rec : List ℕ) where
@@ -20,10 +22,20 @@ module _ (rec : List ℕ) where
   pub unusedClear : Bool
   unusedClear = isClear 5 763 && isClear 26368 6400
 
-  -- as a program reads them
-  pub clear-is : (start n : ℕ) → eqb (sum n (λ i. getD rec (start + i) 0)) 0 ≡ isClear start n
-  unfolding isClear
-  clear-is start n = refl
+  -- as a program reads them, byte by byte
+  pub clear-none : (start : ℕ) → true ≡ isClear start 0
+  unfolding isClear sum
+  clear-none start = refl
+
+  pub clear-more : (start n : ℕ) → (isClear start n && eqb (getD rec (start + n) 0) 0) ≡ isClear start (n + 1)
+  unfolding isClear sum
+  clear-more start n = rw add-one (by (sum n (λ i. getD rec (start + i) 0)) (getD rec (start + n) 0))
+    where
+      by : (a b : ℕ) → (eqb a 0 && eqb b 0) ≡ eqb (a + b) 0
+      by a b =
+          both-ways (eqb a 0 && eqb b 0) (eqb (a + b) 0)
+          (λ t. so (eq-eqb (a + b) 0 (omega (arith, eqb→eq a 0 (and-left (eqb a 0) (eqb b 0) t), eqb→eq b 0 (and-right (eqb a 0) (eqb b 0) t)))))
+          (λ t. and-both (eqb a 0) (eqb b 0) (so (eq-eqb a 0 (omega (arith, eqb→eq (a + b) 0 t)))) (so (eq-eqb b 0 (omega (arith, eqb→eq (a + b) 0 t)))))
 
   pub unused-is : (isClear 5 763 && isClear 26368 6400) ≡ unusedClear
   unfolding unusedClear

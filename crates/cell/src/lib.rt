@@ -1,9 +1,11 @@
 // The tests of a record's cells, each in constant time: a cell's values, the bytes of its links, and the loads at its places. The test of the bytes that
 // nothing uses stands beside them.
+mod calm; // cells where nothing goes on
 mod links; // the bytes of a cell's links
 mod places; // the loads at a cell's places
 mod unused; // the bytes that nothing uses
 
+pub use calm::calm_cells;
 pub use unused::unused_clear;
 ghost use mathlib.Core.Path.{_≡_};
 ghost use Prim.Native.Nat.{_≤_, _<_};
@@ -18,7 +20,6 @@ use channel::pin_at;
 use channel::state_of;
 use links::corners;
 use links::held;
-use links::idle;
 use links::legs;
 use links::sides;
 use links::spokes;
@@ -31,8 +32,12 @@ pub fn values_fit(rec: &[u8], r: usize, c: usize) -> bool
     requires { ⌜ 32768 ≤ length (now rec) ⌝ }
     ensures { λ t. ⌜ t ≡ valuesFit (now (rec .entry)) r c ⌝ }
 {
-    (mark_of(rec, r, c) <= held(pin_at(rec, r, c), 2))
-        & (state_of(rec, r, c) <= held(is_tile(rec, r, c), 1))
+    let mark = mark_of(rec, r, c);
+    let state = state_of(rec, r, c);
+    if (mark == 0) & (state == 0) {
+        return true;
+    }
+    (mark <= held(pin_at(rec, r, c), 2)) & (state <= held(is_tile(rec, r, c), 1))
 }
 
 // Whether the bytes of its links are in order: in range, and with no more wires each way than there is room.
@@ -40,9 +45,6 @@ pub fn links_fit(rec: &[u8], r: usize, c: usize) -> bool
     requires { ⌜ (32768 ≤ length (now rec)) × (r < 40) × (c < 40) ⌝ }
     ensures { λ t. ⌜ t ≡ linksFit (now (rec .entry)) r c ⌝ }
 {
-    if idle(rec, r, c) {
-        return true;
-    }
     sides(rec, r, c) & (corners(rec, r, c) & (spokes(rec, r, c) & legs(rec, r, c)))
 }
 
@@ -51,8 +53,5 @@ pub fn places_even(rec: &[u8], r: usize, c: usize) -> bool
     requires { ⌜ (32768 ≤ length (now rec)) × (r < 40) × (c < 40) × T (arrayFits (jobOf (now rec) .rows) (jobOf (now rec) .columns)) ⌝ }
     ensures { λ t. ⌜ t ≡ placesEven (now (rec .entry)) r c ⌝ }
 {
-    if idle(rec, r, c) {
-        return tile(rec, r, c);
-    }
     tile(rec, r, c) & (centre(rec, r, c) & pins(rec, r, c))
 }

@@ -1,13 +1,12 @@
 // The bytes of a cell's 14 links, each held against the room that there is along its link and against it.
 ghost use mathlib.Core.Path.{_≡_};
-ghost use mathlib.Core.Bool.{true};
 ghost use Prim.Native.Nat.{_+_, _≤_, _<_};
 ghost use lib.ListN.{length, getD};
 ghost use Rattle.sums.specs.Counting.{when};
 ghost use Rattle.model.specs.Links.{isPlace, northSide, aheadOf};
 ghost use Rattle.model.specs.Record.{kinds, jobOf, cell};
 ghost use Rattle.cell.specs.Cell.{fits, leaving, sidesFit, fourFit, cornersFit, spokesFit, legsFit};
-ghost use Rattle.cell.specs.Cell.Idle.{Idle};
+use crate::calm::rest;
 use channel::header::byte;
 use channel::header::open_in;
 use channel::limits::leg_open;
@@ -23,20 +22,6 @@ pub fn held(test: bool, n: usize) -> usize
     ensures { λ r. ⌜ (r ≡ when test n) × (r ≤ n) ⌝ }
 {
     if test { n } else { 0 }
-}
-
-// Whether no wire goes along a link of the cell.
-pub fn idle(rec: &[u8], r: usize, c: usize) -> bool
-    requires { ⌜ (32768 ≤ length (now rec)) × (r < 40) × (c < 40) ⌝ }
-    ensures { λ t. ⌜ (t ≡ true → Idle (now (rec .entry)) r c) ⌝ }
-{
-    let mut sum: usize = 0;
-    let mut p = 2;
-    while p < 16 {
-        sum += byte(rec, p, r, c);
-        p += 1;
-    }
-    sum == 0
 }
 
 // Whether a byte has no more wires than may go along its link, and against it, where a wire may go that way.
@@ -88,6 +73,9 @@ pub fn spokes(rec: &[u8], r: usize, c: usize) -> bool
     requires { ⌜ (32768 ≤ length (now rec)) × (r < 40) × (c < 40) ⌝ }
     ensures { λ t. ⌜ t ≡ spokesFit (now (rec .entry)) r c ⌝ }
 {
+    if rest(rec, 8, r, c) {
+        return true;
+    }
     four_fit(rec, 8, r, c, 31)
 }
 
@@ -117,6 +105,9 @@ pub fn legs(rec: &[u8], r: usize, c: usize) -> bool
     requires { ⌜ (32768 ≤ length (now rec)) × (r < 40) × (c < 40) ⌝ }
     ensures { λ t. ⌜ t ≡ legsFit (now (rec .entry)) r c ⌝ }
 {
+    if rest(rec, 12, r, c) {
+        return true;
+    }
     let mark = mark_of(rec, r, c);
     let away = leaves(mark);
     let back = held(mark == 2, 31);

@@ -1,15 +1,14 @@
 // The loads at a cell's places: as many wires come as leave at n, e, s, w, at the centre and at a missing pin, and limits are kept.
 ghost use mathlib.Core.Path.{_≡_};
-ghost use mathlib.Core.Bool.{true};
 ghost use Prim.Native.Nat.{suc, _+_, _≤_, _<_};
 ghost use lib.Dec.{T};
 ghost use lib.ListN.{length};
 ghost use Rattle.model.specs.Job.{arrayFits};
 ghost use Rattle.model.specs.Links.{north, east, south, west, side, at};
 ghost use Rattle.model.specs.Record.{jobOf, forthPart, backPart};
-ghost use Rattle.cell.specs.Cell.{allFour, evenAt, tileEven, centreEven, pinsEven};
+ghost use Rattle.cell.specs.Cell.{evenAt, tileEven, centreEven, pinsEven};
 ghost use Rattle.cell.specs.Cell.Sums.{outTwo, outOne};
-use crate::links::idle;
+use crate::calm::rest;
 use channel::extra;
 use channel::header::byte;
 use channel::header::open_in;
@@ -101,25 +100,12 @@ fn west_even(rec: &[u8], r: usize, c: usize) -> bool
     )
 }
 
-// Whether no wire goes along a link to or from n, e, s, w of the tile.
-fn quiet(rec: &[u8], r: usize, c: usize) -> bool
-    requires { ⌜ (32768 ≤ length (now rec)) × (suc r < 40) × (suc c < 40) ⌝ }
-    ensures { λ t. ⌜ (t ≡ true → true ≡ allFour (λ d. evenAt (now (rec .entry)) (at (side d) r c))) ⌝ }
-{
-    let below = byte(rec, 2, r + 1, c) + byte(rec, 12, r + 1, c) + byte(rec, 15, r + 1, c + 1);
-    let beside = byte(rec, 3, r, c + 1) + byte(rec, 14, r, c + 1);
-    (below + beside == 0) & idle(rec, r, c)
-}
-
 // At all four of an open tile.
 pub fn tile(rec: &[u8], r: usize, c: usize) -> bool
     requires { ⌜ (32768 ≤ length (now rec)) × (r < 40) × (c < 40) × T (arrayFits (jobOf (now rec) .rows) (jobOf (now rec) .columns)) ⌝ }
     ensures { λ t. ⌜ t ≡ tileEven (now (rec .entry)) r c ⌝ }
 {
     if !open_in(rec, r, c) {
-        return true;
-    }
-    if quiet(rec, r, c) {
         return true;
     }
     north_even(rec, r, c) & (east_even(rec, r, c) & (south_even(rec, r, c) & west_even(rec, r, c)))
@@ -130,6 +116,9 @@ pub fn centre(rec: &[u8], r: usize, c: usize) -> bool
     requires { ⌜ (32768 ≤ length (now rec)) × (r < 40) × (c < 40) ⌝ }
     ensures { λ t. ⌜ t ≡ centreEven (now (rec .entry)) r c ⌝ }
 {
+    if rest(rec, 8, r, c) {
+        return true;
+    }
     if !open_in(rec, r, c) {
         return true;
     }

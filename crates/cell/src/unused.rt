@@ -3,20 +3,17 @@ ghost use mathlib.Core.Path.{_≡_};
 ghost use Prim.Native.Nat.{_+_, _≤_};
 ghost use lib.ListN.{length};
 ghost use Rattle.cell.specs.Unused.{isClear, unusedClear};
-use channel::header::wide;
 
-// Whether n bytes from `start` on are all 0.
+// Whether n bytes from `start` on are all 0. The loop has no way out, so that it can be made one of vectors.
 fn is_clear(rec: &[u8], start: usize, n: usize) -> bool
     requires { ⌜ (32768 ≤ length (now rec)) × (start + n ≤ 32768) ⌝ }
     ensures { λ t. ⌜ t ≡ isClear (now (rec .entry)) start n ⌝ }
 {
-    let mut sum: usize = 0;
-    let mut i = 0;
-    while i < n {
-        sum += wide(rec[start + i]);
-        i += 1;
+    let mut clear = true;
+    for i in 0..n {
+        clear = clear & (rec[start + i] == 0);
     }
-    sum == 0
+    clear
 }
 
 // Whether the bytes that nothing uses, behind the header's numbers and in the planes in reserve, are all 0.

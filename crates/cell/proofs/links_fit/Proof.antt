@@ -1,15 +1,8 @@
 -- `links_fit` meets its contract, part by part. Assumes nothing.
 use borrow.Author.Needs.{needs}
-use Rattle.cell.specs.Cell.Idle.{idle-links}
 use Rattle.cell.specs.Cell.Rooms.{links-are}
 use Rattle.cell.proofs.links_fit.Statement.{statement}
 use Rattle.cell.proofs.links_fit.Tie as tie
-
-idle-requires : tie.Need-idle-requires
-idle-requires c κs = search needs
-
-returns : tie.Need-returns
-returns c = idle-links _ _ _ (c .before .idle .ensures (c .if1 .taken))
 
 sides-requires : tie.Need-sides-requires
 sides-requires c κs = search needs
@@ -23,17 +16,15 @@ spokes-requires c κs = search needs
 legs-requires : tie.Need-legs-requires
 legs-requires c κs = search needs
 
-returns-2 : tie.Need-returns-2
-returns-2 c = let s = c .before .before .before .before .before .before .before .args in cc (links-are (s .rec .now) (s .r) (s .c))
+returns : tie.Need-returns
+returns c = let s = c .before .before .before .before .before .args in cc (links-are (s .rec .now) (s .r) (s .c))
 
 pub links-fit-spec : {M : Type 1} → statement M
 links-fit-spec =
     tie.close
     (tie.spec
-    idle-requires
-    returns
     sides-requires
     corners-requires
     spokes-requires
     legs-requires
-    returns-2)
+    returns)

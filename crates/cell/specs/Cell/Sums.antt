@@ -153,10 +153,6 @@ module _ (rec : List ℕ) (r c : ℕ) where
     unfolding tileEven
     tile-none = unasked (isOpen J r c) o (allFour (λ d. evenAt rec (at (side d) r c))) e
 
-    pub tile-quiet : not o ≡ false → true ≡ allFour (λ d. evenAt rec (at (side d) r c)) → true ≡ tileEven rec r c
-    unfolding tileEven
-    tile-quiet n q = rw (sym q) (asked (isOpen J r c) o true e n)
-
     pub tile-read : not o ≡ false → (x₁ x₂ x₃ x₄ : Bool) → x₁ ≡ evenAt rec (at (side north) r c) → x₂ ≡ evenAt rec (at (side east) r c)
         → x₃ ≡ evenAt rec (at (side south) r c) → x₄ ≡ evenAt rec (at (side west) r c) → (x₁ && (x₂ && (x₃ && x₄))) ≡ tileEven rec r c
     unfolding tileEven allFour

@@ -1,5 +1,5 @@
--- Tests at all four points of the compass, and tests of every cell of the grid: a cell beyond row or column 39 holds 0. Assumes nothing.
-use mathlib.Core.Path.{_≡_, refl, ap}
+-- Tests at all four points of the compass, two tests that hold, and tests of every cell of the grid: a cell beyond row or column 39 holds 0. Assumes nothing.
+use mathlib.Core.Path.{_≡_, refl, sym, ap, subst}
 use mathlib.Core.Bool.{Bool, true, false, not, _&&_, _||_}
 use mathlib.Core.List.{List}
 use Prim.Native.Nat.{ℕ, _≤_, _<_}
@@ -25,6 +25,14 @@ module _ (p : Compass → Bool) where
   four-all f =
       and-both (p north) (p east && (p south && p west)) (f north)
       (and-both (p east) (p south && p west) (f east) (and-both (p south) (p west) (f south) (f west)))
+
+pub first-true : (a b : Bool) → (a && b) ≡ true → a ≡ true
+first-true true b e = refl
+first-true false b e = e
+
+pub second-true : (a b : Bool) → (a && b) ≡ true → b ≡ true
+second-true true b e = e
+second-true false b e = absurd (subst T (sym e) tt)
 
 pub so-if : (a b : Bool) → (T a → T b) → T (not a || b)
 so-if true b f = f tt

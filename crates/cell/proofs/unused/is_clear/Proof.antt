@@ -1,36 +1,25 @@
--- `unused::is_clear` meets its contract. The loop's invariant: the sum is that of the bytes passed. The measure is what is left of the run. Assumes nothing.
-use borrow.Author.Needs.{needs}
-use mathlib.Core.Path.{_≡_, refl}
-use Prim.Native.Nat.{_+_, _-_, _*_, _≤_}
-use native.Mathlib.Numerals.{add-one}
+-- `unused::is_clear` meets its contract. The loop's invariant: the answer is that for the bytes passed. The measure is what is left of the run. Assumes nothing.
+use mathlib.Core.Path.{_≡_, ap, _∙_}
+use Prim.Native.Nat.{ℕ, _-_, _≤_}
 use native.Mathlib.Omega.{arith}
-use lib.ListN.{getD}
-use Rattle.sums.specs.Counting.{sum as total}
-use Rattle.cell.specs.Unused.{clear-is}
+use Rattle.cell.specs.Unused.{isClear, clear-none, clear-more}
 use Rattle.cell.proofs.unused.is_clear.Statement.{statement}
 use Rattle.cell.proofs.unused.is_clear.Tie as tie
 
 abbrev Inv-loop : tie.InvT-loop
-Inv-loop rec start n sum₀ i₀ sum i = (i ≤ n) × (sum ≤ 255 * i) × (sum ≡ total i (λ j. getD rec (start + j) 0))
+Inv-loop rec start n clear₀ i₀ clear i = (i ≤ n) × (clear ≡ isClear rec start i)
 
 abbrev μ-loop : tie.MeasureT-loop
-μ-loop rec start n sum₀ i₀ sum i = n - i
+μ-loop rec start n clear₀ i₀ clear i = n - i
 
 loop-holds : tie.Need-loop-holds Inv-loop μ-loop
-unfolding total
-loop-holds c = (omega arith, omega arith, refl)
+loop-holds c = (omega arith, clear-none _ _)
 
-add-wide : tie.Need-add-wide Inv-loop μ-loop
-add-wide c = omega arith
+add-clear : tie.Need-add-clear Inv-loop μ-loop
+add-clear c = omega arith
 
-shared-slice-read-wide : tie.Need-shared-slice-read-wide Inv-loop μ-loop
-shared-slice-read-wide c = omega arith
-
-wide-requires : tie.Need-wide-requires Inv-loop μ-loop
-wide-requires c κs = search needs
-
-add-sum : tie.Need-add-sum Inv-loop μ-loop
-add-sum c = omega arith
+shared-slice-read-clear : tie.Need-shared-slice-read-clear Inv-loop μ-loop
+shared-slice-read-clear c = omega arith
 
 add-i : tie.Need-add-i Inv-loop μ-loop
 add-i c = omega arith
@@ -39,15 +28,14 @@ loop-less : tie.Need-loop-less Inv-loop μ-loop
 loop-less c = omega arith
 
 loop-again : tie.Need-loop-again Inv-loop μ-loop
-unfolding total
-loop-again c = (omega arith, omega arith, rw add-one (omega arith))
+loop-again c = let l = c .before .before .loop in (omega arith, rw (l .inv .1) (clear-more _ _ (l .i)))
 
 returns : tie.Need-returns Inv-loop μ-loop
 returns c =
     let l = c .before .loop in
-    let s = c .before .before .before .args in
+    let s = c .before .before .args in
     let e : l .i ≡ s .n = omega arith in
-    rw (l .inv .2, e) (clear-is (s .rec .now) (s .start) (s .n))
+    l .inv .1 ∙ ap (λ (i : ℕ). isClear (s .rec .now) (s .start) i) e
 
 pub is-clear-spec : {M : Type 1} → statement M
 is-clear-spec =
@@ -56,10 +44,8 @@ is-clear-spec =
     Inv-loop
     μ-loop
     loop-holds
-    add-wide
-    shared-slice-read-wide
-    wide-requires
-    add-sum
+    add-clear
+    shared-slice-read-clear
     add-i
     loop-less
     loop-again
