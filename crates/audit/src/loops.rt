@@ -5,7 +5,7 @@ ghost use Prim.Native.Nat.{_+_, _*_, _≤_, _<_};
 ghost use lib.ListN.{length, set};
 ghost use Rattle.channel.specs.Map.{spots};
 ghost use Rattle.audit.specs.Loops.{Room, Answer, LoopStands};
-ghost use Rattle.audit.specs.Loops.Dfs.{Cleared, Scanned, Placed, Dfs, Turned, Searched, Traced, FreshTraced};
+ghost use Rattle.audit.specs.Loops.Dfs.{Cleared, Rest, Picked, Placed, Bared, Dfs, Turned, Searched, Traced, FreshTraced};
 
 // No closed chain; or the spots of one in st, and its slots in sl, from the first number to before the second.
 pub enum Found {
@@ -34,19 +34,23 @@ fn clear(fin: &mut [u16])
     }
 }
 
-// The first slot of u from k0 on that is loaded and leads to a spot that is not done; 5 or more if there is none.
-fn scan(rec: &[u8], fin: &[u16], u: usize, k0: usize) -> usize
-    requires { ⌜ (32768 ≤ length (now rec)) × (spots ≤ length (now fin)) × (u < spots) ⌝ }
-    ensures { λ k. ⌜ Scanned (now (rec .entry)) (now (fin .entry)) u k0 k ⌝ }
+// The first slot of u from that of s0 on that is loaded and leads to a spot that is not done, with 8 times the loaded slots from it on; 5 if there is none.
+fn scan(rec: &[u8], fin: &[u16], u: usize, s0: usize) -> usize
+    requires { ⌜ (spots ≤ length (now fin)) × (u < spots) × Rest (now rec) u s0 ⌝ }
+    ensures { λ s. ⌜ Picked (now (rec .entry)) (now (fin .entry)) u s0 s ⌝ }
 {
-    let mut k = channel::next_loaded(rec, u, k0);
-    while k < 5 {
-        if fin[channel::head_of(8 * u + k)] < 2 {
-            return k;
+    let mut left = s0 / 8;
+    let mut k = s0 % 8;
+    while left != 0 {
+        if left % 2 == 1 {
+            if fin[channel::head_of(8 * u + k)] < 2 {
+                return k + 8 * left;
+            }
         }
-        k = channel::next_loaded(rec, u, k + 1);
+        left /= 2;
+        k += 1;
     }
-    k
+    5
 }
 
 // One turn on a stack of n spots, with m done.
@@ -56,24 +60,24 @@ fn advance(rec: &[u8], fin: &mut [u16], st: &mut [u16], sl: &mut [u8], n: usize,
 {
     let i = n - 1;
     let u = st[i] as usize;
-    let k0 = sl[i] as usize;
-    let k = scan(rec, fin, u, k0);
-    if k >= 5 {
+    let s = scan(rec, fin, u, sl[i] as usize);
+    if s % 8 >= 5 {
         fin[u] = (m + 2) as u16;
         if i == 0 {
             return Turn::More(i, m + 1);
         }
-        sl[i - 1] += 1;
+        let t = sl[i - 1] as usize;
+        sl[i - 1] = (t % 8 + 1 + 8 * (t / 16)) as u8;
         return Turn::More(i, m + 1);
     }
-    sl[i] = k as u8;
-    let v = channel::head_of(8 * u + k);
+    sl[i] = s as u8;
+    let v = channel::head_of(8 * u + s % 8);
     if fin[v] == 1 {
         return Turn::Hit(v);
     }
     fin[v] = 1;
     st[n] = v as u16;
-    sl[n] = 0;
+    sl[n] = (8 * channel::loaded_slots(rec, v)) as u8;
     Turn::More(n + 1, m)
 }
 
@@ -92,6 +96,16 @@ fn place(st: &[u16], n: usize, v: usize) -> usize
     n
 }
 
+// The slots alone, of the first n.
+fn bare(sl: &mut [u8], n: usize)
+    requires { ⌜ n ≤ length (now sl) ⌝ }
+    ensures { λ _. ⌜ Bared (now (sl .entry)) n (now (sl .exit)) ⌝ }
+{
+    for i in 0..n {
+        sl[i] %= 8;
+    }
+}
+
 // All that the one spot on the stack leads to, with m0 done.
 fn descend(rec: &[u8], fin: &mut [u16], st: &mut [u16], sl: &mut [u8], m0: usize) -> Search
     requires { ⌜ Dfs (now rec) (now fin) (now st) (now sl) 1 m0 ⌝ }
@@ -106,6 +120,7 @@ fn descend(rec: &[u8], fin: &mut [u16], st: &mut [u16], sl: &mut [u8], m0: usize
                 m = b;
             }
             Turn::Hit(v) => {
+                bare(sl, n);
                 return Search::Ring(place(st, n, v), n);
             }
         }
@@ -121,14 +136,9 @@ fn explore(rec: &[u8], fin: &mut [u16], st: &mut [u16], sl: &mut [u8], r: usize,
     if fin[r] != 0 {
         return Search::Over(m);
     }
-    let k = scan(rec, fin, r, 0);
-    if k >= 5 {
-        fin[r] = (m + 2) as u16;
-        return Search::Over(m + 1);
-    }
     fin[r] = 1;
     st[0] = r as u16;
-    sl[0] = k as u8;
+    sl[0] = (8 * channel::loaded_slots(rec, r)) as u8;
     descend(rec, fin, st, sl, m)
 }
 

@@ -36,7 +36,7 @@ pub mod Laying
 pub mod Origins
 pub mod Fresh
 pub mod Laden
-pub mod NextLoaded
+pub mod LoadedSlots
 use mathlib.Core.Path.{_≡_}
 use mathlib.Core.Logic.{_⊎_}
 use mathlib.Core.Bool.{Bool, true, false, not, _&&_, _||_}

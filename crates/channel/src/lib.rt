@@ -30,7 +30,7 @@ pub use loads::carried;
 pub use loads::is_fresh;
 pub use loads::load_against;
 pub use loads::load_along;
-pub use loads::next_loaded;
+pub use loads::loaded_slots;
 pub use loads::origin;
 pub use loads::passing;
 pub use loads::same_run;

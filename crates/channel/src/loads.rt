@@ -9,7 +9,7 @@ ghost use Rattle.model.specs.Links.{pin, missing, centre, at};
 ghost use Rattle.model.specs.Loads.{arrivals, departures};
 ghost use Rattle.model.specs.Record.{forthPart, backPart, load};
 ghost use Rattle.channel.specs.Map.Fresh.{isFresh, SameRun};
-ghost use Rattle.channel.specs.Map.NextLoaded.{NextLoaded};
+ghost use Rattle.channel.specs.Map.LoadedSlots.{loadedFrom};
 ghost use Rattle.channel.specs.Map.Origins.{originOf};
 ghost use Rattle.channel.specs.Map.{inGrid, rowOf, columnOf, ownerCell, stepOf, carries, isPassDart, passedOf, view, opposed, address, placeOf};
 use crate::header::in_grid;
@@ -177,38 +177,17 @@ pub fn carried(rec: &[u8], d: usize) -> usize
     0
 }
 
-// Whether wires go along a dart of the cell x, by the word of its row, where x has all its neighbours: their links are on the grid.
+// Whether wires go along a dart of the cell x, by the word of its row, where x has all its neighbours: their links are on the grid. Nothing branches on
+// the byte.
 fn loaded_at(rec: &[u8], w: usize, x: usize) -> bool
     requires { ⌜ (32768 ≤ length (now rec)) × (w < 50000) × (w ≢ 1) × (41 ≤ x) × (x < 1600) ⌝ }
     ensures { λ b. ⌜ ((d : ℕ) → d / 64 ≡ x → placeOf (d % 64) ≡ w → b ≡ ltb 0 (view (now (rec .entry)) d)) ⌝ }
 {
-    if w == 0 {
-        return false;
-    }
     let b = wide(rec[w / 2 + x]);
-    if w % 2 == 0 {
-        return (0 < b) & (b < 32);
-    }
-    32 < b
+    ((w != 0) & (w % 2 == 0) & ((0 < b) & (b < 32))) | ((w % 2 != 0) & (32 < b))
 }
 
-// The first loaded one of the slots of u from k0 to 3, of such a cell; 4 or more if there is none.
-fn next_of_four(rec: &[u8], u: usize, k0: usize) -> usize
-    requires { ⌜ (32768 ≤ length (now rec)) × (41 ≤ u / 8) × (u / 8 < 1600) ⌝ }
-    ensures { λ k. ⌜ NextLoaded (now (rec .entry)) u 4 k0 k ⌝ }
-{
-    let word = place_word(2 * (u % 8));
-    let mut k = k0;
-    while k < 4 {
-        if loaded_at(rec, (word >> (k * 16)) % 65536, u / 8) {
-            return k;
-        }
-        k += 1;
-    }
-    k
-}
-
-// Whether wires go along slot 4 of u.
+// Whether wires go along slot 4 of u, in such a cell.
 fn last_loaded(rec: &[u8], u: usize) -> bool
     requires { ⌜ (32768 ≤ length (now rec)) × (41 ≤ u / 8) × (u / 8 < 1600) ⌝ }
     ensures { λ b. ⌜ b ≡ ltb 0 (view (now (rec .entry)) (8 * u + 4)) ⌝ }
@@ -220,38 +199,52 @@ fn last_loaded(rec: &[u8], u: usize) -> bool
     loaded_at(rec, w, u / 8)
 }
 
-// The first loaded slot of u from k0 on, in any cell; 5 or more if there is none.
-fn next_carried(rec: &[u8], u: usize, k0: usize) -> usize
-    requires { ⌜ (32768 ≤ length (now rec)) × (u < 13128) ⌝ }
-    ensures { λ k. ⌜ NextLoaded (now (rec .entry)) u 5 k0 k ⌝ }
+// A test as a bit.
+fn bit(b: bool) -> usize
+    ensures { λ r. ⌜ r ≡ when b 1 ⌝ }
 {
-    let mut k = k0;
-    while k < 5 {
-        if carried(rec, 8 * u + k) != 0 {
-            return k;
-        }
-        k += 1;
-    }
-    k
+    if b { 1 } else { 0 }
 }
 
-// The first loaded slot of u from k0 on; 5 or more if there is none. Slots 5 to 7 carry nothing.
-pub fn next_loaded(rec: &[u8], u: usize, k0: usize) -> usize
+// The loaded slots of u as bits, in such a cell.
+fn slots_inside(rec: &[u8], u: usize) -> usize
+    requires { ⌜ (32768 ≤ length (now rec)) × (41 ≤ u / 8) × (u / 8 < 1600) ⌝ }
+    ensures { λ r. ⌜ r ≡ loadedFrom (now (rec .entry)) u 0 ⌝ }
+{
+    let word = place_word(2 * (u % 8));
+    let mut r = bit(last_loaded(rec, u));
+    let mut k: usize = 4;
+    while 0 < k {
+        k -= 1;
+        r = 2 * r + bit(loaded_at(rec, (word >> (k * 16)) % 65536, u / 8));
+    }
+    r
+}
+
+// The same in any cell.
+fn slots_anywhere(rec: &[u8], u: usize) -> usize
     requires { ⌜ (32768 ≤ length (now rec)) × (u < 13128) ⌝ }
-    ensures { λ k. ⌜ NextLoaded (now (rec .entry)) u 5 k0 k ⌝ }
+    ensures { λ r. ⌜ r ≡ loadedFrom (now (rec .entry)) u 0 ⌝ }
+{
+    let mut r = 0;
+    let mut k = 5;
+    while 0 < k {
+        k -= 1;
+        r = 2 * r + bit(carried(rec, 8 * u + k) != 0);
+    }
+    r
+}
+
+// The loaded slots of u as bits, slot 0 the lowest. Slots 5 to 7 carry nothing.
+pub fn loaded_slots(rec: &[u8], u: usize) -> usize
+    requires { ⌜ (32768 ≤ length (now rec)) × (u < 13128) ⌝ }
+    ensures { λ r. ⌜ r ≡ loadedFrom (now (rec .entry)) u 0 ⌝ }
 {
     let x = u / 8;
     if (x < 41) | (1600 <= x) {
-        return next_carried(rec, u, k0);
+        return slots_anywhere(rec, u);
     }
-    let k = next_of_four(rec, u, k0);
-    if k != 4 {
-        return k;
-    }
-    if last_loaded(rec, u) {
-        return 4;
-    }
-    5
+    slots_inside(rec, u)
 }
 
 // The spot that the wires of the i-th load byte leave; 13,128 where it is 0.

@@ -1,14 +1,15 @@
 -- The state of the loop finder. fin has 0 for a spot that is not seen, 1 for one on the stack, and 2 more than the number of those done before it for one
--- that is done; st and sl have the spots on the stack and the slots at which they stand. Assumes nothing.
+-- that is done; st has the spots on the stack, and sl the slots at which they stand, each with 8 times the loaded slots from it on, as bits. Assumes nothing.
 use mathlib.Core.Path.{_≡_}
 use mathlib.Core.Logic.{_≢_}
 use mathlib.Core.List.{List}
-use Prim.Native.Nat.{ℕ, _+_, _-_, _*_, _/_, _≤_, _<_}
+use Prim.Native.Nat.{ℕ, _+_, _-_, _*_, _/_, _%_, _≤_, _<_}
 use lib.Dec.{T, eqb}
 use lib.ListN.{getD}
 use Rattle.sums.specs.Counting.{when, sum}
 use Rattle.channel.specs.Map.{spots, rev, view}
 use Rattle.channel.specs.Map.Fresh.{isFresh}
+use Rattle.channel.specs.Map.LoadedSlots.{loadedFrom}
 use Rattle.channel.specs.Map.Origins.{originOf}
 use Rattle.audit.specs.Loops.{Room, Closed}
 use Rattle.audit.specs.declared.loops.Turn.{Turn}
@@ -29,10 +30,23 @@ pub record Cleared (fin : List ℕ) : Type 0 where
 
 -- k is the first slot of u from k0 on that leads to a spot that is not done, or 5 or more
 pub record Scanned (rec fin : List ℕ) (u k0 k : ℕ) : Type 0 where
-  pub from : k0 ≤ k
   pub past : (j v : ℕ) → k0 ≤ j → j < k → Edge rec u j v → 2 ≤ getD fin v 0
   pub edge : k < 5 → Edge rec u k (rev (8 * u + k) / 8)
   pub live : k < 5 → getD fin (rev (8 * u + k) / 8) 0 < 2
+
+-- beside a slot of u, s has 8 times the loaded slots from it on
+abbrev pub Rest : List ℕ → ℕ → ℕ → Type 0
+Rest rec u s = s / 8 ≡ loadedFrom rec u (s % 8)
+
+-- the slot of s is found from that of s0 on
+pub record Picked (rec fin : List ℕ) (u s0 s : ℕ) : Type 0 where
+  pub found : Scanned rec fin u (s0 % 8) (s % 8)
+  pub rest : Rest rec u s
+  pub byte : s < 256
+
+-- the slots alone, of the first n
+pub record Bared (sl : List ℕ) (n : ℕ) (sl' : List ℕ) : Type 0 where
+  pub slot : (i : ℕ) → i < n → getD sl' i 0 ≡ getD sl i 0 % 8
 
 -- i is where v first stands among the first n of st, or n
 pub record Placed (st : List ℕ) (n v i : ℕ) : Type 0 where
@@ -52,8 +66,9 @@ pub record Dfs (rec fin st sl : List ℕ) (n m : ℕ) : Type 0 where
   pub on : (i : ℕ) → i < n → (getD st i 0 < spots) × (getD fin (getD st i 0) 0 ≡ 1)
   pub off : (u : ℕ) → u < spots → getD fin u 0 ≡ 1 → (i : ℕ) × (i < n) × (getD st i 0 ≡ u)
   pub apart : (i j : ℕ) → i < j → j < n → getD st i 0 ≢ getD st j 0
-  pub link : (i : ℕ) → i + 1 < n → Edge rec (getD st i 0) (getD sl i 0) (getD st (i + 1) 0)
-  pub past : (i : ℕ) → i < n → (k v : ℕ) → k < getD sl i 0 → Edge rec (getD st i 0) k v → 2 ≤ getD fin v 0
+  pub link : (i : ℕ) → i + 1 < n → Edge rec (getD st i 0) (getD sl i 0 % 8) (getD st (i + 1) 0)
+  pub past : (i : ℕ) → i < n → (k v : ℕ) → k < getD sl i 0 % 8 → Edge rec (getD st i 0) k v → 2 ≤ getD fin v 0
+  pub rest : (i : ℕ) → i < n → Rest rec (getD st i 0) (getD sl i 0)
   pub falls : (u : ℕ) → u < spots → 2 ≤ getD fin u 0 → (k v : ℕ) → Edge rec u k v → (2 ≤ getD fin v 0) × (getD fin v 0 < getD fin u 0)
 
 -- what was seen stays seen
@@ -64,7 +79,7 @@ Kept fin fin' = (u : ℕ) → getD fin u 0 ≢ 0 → getD fin' u 0 ≢ 0
 pub data Turned (rec fin : List ℕ) (n : ℕ) (fin' st' sl' : List ℕ) : Turn → Type 0 where
   more : {n' m' : ℕ} → Dfs rec fin' st' sl' n' m' → Kept fin fin' → unseen fin' + unseen fin' + n' < unseen fin + unseen fin + n
       → Turned rec fin n fin' st' sl' (More n' m')
-  hit : {v m' : ℕ} → Dfs rec fin' st' sl' n m' → Edge rec (getD st' (n - 1) 0) (getD sl' (n - 1) 0) v → getD fin' v 0 ≡ 1
+  hit : {v m' : ℕ} → Dfs rec fin' st' sl' n m' → Edge rec (getD st' (n - 1) 0) (getD sl' (n - 1) 0 % 8) v → getD fin' v 0 ≡ 1
       → Turned rec fin n fin' st' sl' (Hit v)
 
 -- the search from one spot: all that was seen is done; or a ring stands

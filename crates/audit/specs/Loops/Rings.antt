@@ -19,7 +19,7 @@ use Rattle.channel.specs.Map.Network.{net, path-along}
 use Rattle.channel.specs.Map.Network.Loops.{FallsFrom}
 use Rattle.channel.specs.Map.Origins.{loaded-slot}
 use Rattle.audit.specs.Loops.{ringDarts, Closed}
-use Rattle.audit.specs.Loops.Dfs.{Edge, Dfs, Placed}
+use Rattle.audit.specs.Loops.Dfs.{Edge, Dfs, Bared, Placed}
 use Rattle.audit.specs.Loops.Marks.{below-or}
 use Rattle.audit.specs.Loops.Stack.{edge-node}
 
@@ -38,13 +38,17 @@ loaded-edge rec d ld l =
 pub done-falls : {rec fin st sl : List ℕ} {n m : ℕ} → Dfs rec fin st sl n m → FallsFrom 2 rec (λ u. getD fin u 0)
 done-falls {rec} s = record { fall = λ d ld l b. s .falls (d / 8) (tail-spot d ld) b (d % 8) (rev d / 8) (loaded-edge rec d ld l) }
 
-module _ {rec fin st sl : List ℕ} {n m : ℕ} (s : Dfs rec fin st sl n m) {x : ℕ} (back : Edge rec (getD st (n - 1) 0) (getD sl (n - 1) 0) x) where
+-- sl has the slots alone
+module _ {rec fin st sl₀ sl : List ℕ} {n m : ℕ} (s : Dfs rec fin st sl₀ n m) (b : Bared sl₀ n sl) {x : ℕ} (back : Edge rec (getD st (n - 1) 0) (getD sl₀ (n - 1) 0 % 8) x) where
+  link : (i : ℕ) → i + 1 < n → Edge rec (getD st i 0) (getD sl i 0) (getD st (i + 1) 0)
+  link i l = rw (b .slot i (omega arith)) (s .link i l)
+
   last : (i : ℕ) → i + 1 ≡ n → Edge rec (getD st i 0) (getD sl i 0) x
-  last i e = let p : n - 1 ≡ i = omega arith in subst (λ (y : ℕ). Edge rec (getD st y 0) (getD sl y 0) x) p back
+  last i e = let p : n - 1 ≡ i = omega arith in rw (b .slot i (omega arith)) (subst (λ (y : ℕ). Edge rec (getD st y 0) (getD sl₀ y 0 % 8) x) p back)
 
   -- the edge at each spot of the stack
   edge-at : (i : ℕ) → i < n → (v : ℕ) × Edge rec (getD st i 0) (getD sl i 0) v
-  edge-at i l = ⊎-elim (λ e. (x, last i e)) (λ h. (getD st (i + 1) 0, s .link i h)) (next i l)
+  edge-at i l = ⊎-elim (λ e. (x, last i e)) (λ h. (getD st (i + 1) 0, link i h)) (next i l)
     where
       next : (i : ℕ) → i < n → (i + 1 ≡ n) ⊎ (i + 1 < n)
       next i h = eq-or-lt-of-le (omega arith)
@@ -76,7 +80,7 @@ module _ {rec fin st sl : List ℕ} {n m : ℕ} (s : Dfs rec fin st sl n m) {x :
       path-along J {d = 8 * getD st j 0 + getD sl j 0} {u = u} (slot-dart _ _ (g .spot) (omega (arith, g .slot))) (omega (arith, g .slot)) (g .laden)
       (not-again c (suc j) j (omega arith) (omega arith))
       (climb J c (suc j) (rev (8 * getD st j 0 + getD sl j 0) / 8) (omega arith)
-      (λ l. rw add-one at (s .link j (omega arith) .leads)) (λ l. last j (omega arith) .leads))
+      (λ l. rw add-one at (link j (omega arith) .leads)) (λ l. last j (omega arith) .leads))
 
   closed : (j : ℕ) → j < n → getD st j 0 ≡ x → Closed rec st sl j n
   closed j l e =

@@ -1,44 +1,80 @@
--- The slots of one spot, as the loop finder scans them: from one loaded slot to the next, until one leads to a spot that is not done. Assumes nothing.
-use mathlib.Core.Path.{refl, subst}
-use mathlib.Core.Logic.{⊎-elim}
+-- The slots of one spot, as the loop finder scans them: the loaded ones as bits, the lowest first, until one leads to a spot that is not done. Assumes nothing.
+use mathlib.Core.Path.{_≡_, refl, sym, ap, subst, _∙_}
+use mathlib.Core.Logic.{_≢_, ⊎-elim}
 use mathlib.Core.List.{List}
-use Prim.Native.Nat.{ℕ, _+_, _*_, _/_, _≤_, _<_}
+use Prim.Native.Nat.{ℕ, zero, suc, _+_, _-_, _*_, _/_, _%_, _≤_, _<_}
 use native.Mathlib.Omega.{arith}
 use borrow.Author.Count.{below-more}
 use lib.ListN.{getD}
 use Rattle.channel.specs.Map.{spots, rev, view}
-use Rattle.channel.specs.Map.NextLoaded.{NextLoaded}
-use Rattle.audit.specs.Loops.Dfs.{Edge, Scanned}
-use Rattle.audit.specs.Loops.Marks.{below-or}
+use Rattle.channel.specs.Map.LoadedSlots.{loadedFrom, from-end, from-small, from-some, from-laden, from-idle, from-half}
+use Rattle.audit.specs.Loops.Dfs.{Edge, Rest, Picked}
+use Rattle.audit.specs.Loops.Marks.{same-or, below-or}
 
--- the slots of u from k0 to before k lead only to spots that are done; slot k, if it is below 5, is loaded
-pub record Scanning (rec fin : List ℕ) (u k0 k : ℕ) : Type 0 where
-  pub from : k0 ≤ k
+-- left has the loaded slots of u from k on, and those from k0 to before k lead only to spots that are done
+pub record Scanning (rec fin : List ℕ) (u k0 left k : ℕ) : Type 0 where
+  pub rest : left ≡ loadedFrom rec u k
   pub past : (j v : ℕ) → k0 ≤ j → j < k → Edge rec u j v → 2 ≤ getD fin v 0
-  pub here : k < 5 → 0 < view rec (8 * u + k)
 
-module _ {rec fin : List ℕ} {u k0 k : ℕ} where
-  pub scan-first : NextLoaded rec u 5 k0 k → Scanning rec fin u k0 k
-  scan-first n = record { from = n .from; past = λ j v a b e. absurd (omega (arith, n .past j a b, e .laden)); here = n .here }
+-- where none is left none is loaded
+none-left : (rec : List ℕ) (u k : ℕ) → loadedFrom rec u k ≡ 0 → (j : ℕ) → k ≤ j → j < 5 → view rec (8 * u + j) ≡ 0
+none-left rec u k z j l h = from-idle rec u j h (λ e. omega (arith, e, ap (loadedFrom rec u) q, gone (j - k) (omega arith)))
+  where
+    q : k + (j - k) ≡ j
+    q = omega arith
 
-  module _ (s : Scanning rec fin u k0 k) where
-    pub scan-next : {k' : ℕ} → 2 ≤ getD fin (rev (8 * u + k) / 8) 0 → NextLoaded rec u 5 (k + 1) k' → Scanning rec fin u k0 k'
-    scan-next {k'} d n = record { from = omega (arith, s .from, n .from); past = past; here = n .here }
-      where
-        past : (j v : ℕ) → k0 ≤ j → j < k' → Edge rec u j v → 2 ≤ getD fin v 0
-        past j v a b e =
-            ⊎-elim
-            (λ h.
-            below-more (λ j. k0 ≤ j → Edge rec u j v → 2 ≤ getD fin v 0) k (λ j b a. s .past j v a b)
-            (λ a e. subst (λ (x : ℕ). 2 ≤ getD fin x 0) (e .leads) d) j h a e)
-            (λ h. absurd (omega (arith, n .past j h b, e .laden)))
-            (below-or j (k + 1))
+    gone : (c : ℕ) → k + c ≤ 5 → loadedFrom rec u (k + c) ≡ 0
+    gone zero l = ap (loadedFrom rec u) (omega arith) ∙ z
+    gone (suc c) l =
+        let p : k + suc c ≡ k + c + 1 = omega arith in
+        omega (arith, ap (loadedFrom rec u) p, from-half rec u (k + c) (omega arith), gone c (omega arith))
 
-    pub scan-ends : u < spots → (k < 5 → getD fin (rev (8 * u + k) / 8) 0 < 2) → Scanned rec fin u k0 k
-    scan-ends l h =
+module _ {rec fin : List ℕ} {u : ℕ} (s0 : ℕ) where
+  pub scan-first : Rest rec u s0 → Scanning rec fin u (s0 % 8) (s0 / 8) (s0 % 8)
+  scan-first r = record { rest = r; past = λ j v a b. absurd (omega arith) }
+
+  module _ {left k : ℕ} (s : Scanning rec fin u (s0 % 8) left k) where
+    pub scan-slot : left ≢ 0 → k < 5
+    scan-slot n = from-some rec u k (λ z. n (s .rest ∙ z))
+
+    -- a slot is passed that is not loaded, or leads to a spot that is done
+    pub scan-next : left ≢ 0 → (left % 2 ≡ 1 → 2 ≤ getD fin (rev (8 * u + k) / 8) 0) → Scanning rec fin u (s0 % 8) (left / 2) (k + 1)
+    scan-next n d =
         record {
-          from = s .from;
-          past = s .past;
-          edge = λ q. record { spot = l; slot = q; laden = s .here q; leads = refl };
-          live = h;
+          rest = ap (λ (x : ℕ). x / 2) (s .rest) ∙ from-half rec u k (scan-slot n);
+          past = λ j v a b. below-more (λ j. s0 % 8 ≤ j → Edge rec u j v → 2 ≤ getD fin v 0) k (λ j b a. s .past j v a b) (λ a. here v) j b a;
+        }
+      where
+        here : (v : ℕ) → Edge rec u k v → 2 ≤ getD fin v 0
+        here v e =
+            ⊎-elim
+            (λ o. subst (λ (x : ℕ). 2 ≤ getD fin x 0) (e .leads) (d o))
+            (λ o. absurd (omega (arith, e .laden, from-idle rec u k (e .slot) (λ q. o (ap (λ (x : ℕ). x % 2) (s .rest) ∙ q)))))
+            (same-or (left % 2) 1)
+
+    pub scan-found : left ≢ 0 → left % 2 ≡ 1 → u < spots → getD fin (rev (8 * u + k) / 8) 0 < 2 → Picked rec fin u s0 (k + 8 * left)
+    scan-found n o lu live =
+        let l : k < 5 = scan-slot n in
+        let z : (k + 8 * left) % 8 ≡ k = omega arith in
+        let laden : 0 < view rec (8 * u + k) = from-laden rec u k l (sym (ap (λ (x : ℕ). x % 2) (s .rest)) ∙ o) in
+        record {
+          found = rw z (record { past = s .past; edge = λ q. record { spot = lu; slot = l; laden = laden; leads = refl }; live = λ q. live });
+          rest = rw z (omega (arith, s .rest));
+          byte = omega (arith, s .rest, from-small rec u k);
+        }
+
+    pub scan-ends : left ≡ 0 → Picked rec fin u s0 5
+    scan-ends z =
+        record {
+          found = record {
+            past = λ j v b h e.
+                ⊎-elim
+                (λ q. s .past j v b q e)
+                (λ q. absurd (omega (arith, e .laden, none-left rec u k (sym (s .rest) ∙ z) j q (e .slot))))
+                (below-or j k);
+            edge = λ q. absurd (omega arith);
+            live = λ q. absurd (omega arith);
+          };
+          rest = sym (from-end rec u 5 (omega arith));
+          byte = omega arith;
         }

@@ -3,7 +3,7 @@
 use mathlib.Core.Path.{_≡_, sym, ap, subst, _∙_}
 use mathlib.Core.Logic.{_≢_, _⊎_, ⊎-elim}
 use mathlib.Core.List.{List}
-use Prim.Native.Nat.{ℕ, suc, _+_, _*_, _≤_, _<_}
+use Prim.Native.Nat.{ℕ, suc, _+_, _*_, _%_, _≤_, _<_}
 use native.Mathlib.Nat.{eq-or-lt-of-le}
 use native.Mathlib.Numerals.{add-two}
 use native.Mathlib.Omega.{arith}
@@ -13,7 +13,7 @@ use lib.Seq.{getD-set-same, getD-set-other}
 use Rattle.channel.specs.Map.{spots}
 use Rattle.channel.specs.Map.Numbers.{slot-dart, head-spot}
 use Rattle.audit.specs.Loops.{Room}
-use Rattle.audit.specs.Loops.Dfs.{Edge, Cleared, unseen, Dfs}
+use Rattle.audit.specs.Loops.Dfs.{Edge, Cleared, Rest, unseen, Dfs}
 use Rattle.audit.specs.Loops.Marks.{same-or, after, blanks-le, unseen-less, unseen-same}
 
 -- an edge leads to a spot
@@ -40,6 +40,7 @@ dfs-start {fin = fin} r c =
       apart = λ i j a b. absurd (omega arith);
       link = λ i l. absurd (omega arith);
       past = λ i l. absurd (omega arith);
+      rest = λ i l. absurd (omega arith);
       falls = λ u l h. absurd (omega (arith, c .all u l));
     }
 
@@ -55,8 +56,8 @@ module _ {rec fin st sl : List ℕ} {n m : ℕ} (d : Dfs rec fin st sl n m) wher
   dfs-empty l = let e : n ≡ 0 = omega arith in subst (λ (x : ℕ). Dfs rec fin st sl x m) e d
 
   -- the slot of the top moves on
-  pub dfs-slot : (i k : ℕ) → n ≡ i + 1 → Below rec fin (getD st i 0) k → Dfs rec fin st (set sl i k) n m
-  dfs-slot i k e p =
+  pub dfs-slot : (i s : ℕ) → n ≡ i + 1 → Below rec fin (getD st i 0) (s % 8) → Rest rec (getD st i 0) s → Dfs rec fin st (set sl i s) n m
+  dfs-slot i s e p r =
       let li : i < length sl = omega (arith, d .count, d .room .slots) in
       record {
         room = record { whole = d .room .whole; marks = d .room .marks; stack = d .room .stack; slots = simp length-set (d .room .slots) };
@@ -65,15 +66,16 @@ module _ {rec fin st sl : List ℕ} {n m : ℕ} (d : Dfs rec fin st sl n m) wher
         on = d .on;
         off = d .off;
         apart = d .apart;
-        link = λ x lx. rw (getD-set-other sl i x k 0 (λ q. omega arith)) (d .link x lx);
-        past = λ x lx j v. ⊎-elim (λ w. rw (w .1, w .0) (p j v)) (λ w. rw (w .1) (d .past x lx j v)) (after sl i k x li);
+        link = λ x lx. rw (getD-set-other sl i x s 0 (λ q. omega arith)) (d .link x lx);
+        past = λ x lx j v. ⊎-elim (λ w. rw (w .1, w .0) (p j v)) (λ w. rw (w .1) (d .past x lx j v)) (after sl i s x li);
+        rest = λ x lx. ⊎-elim (λ w. rw (w .1, w .0) r) (λ w. rw (w .1) (d .rest x lx)) (after sl i s x li);
         falls = d .falls;
       }
 
-  -- a spot that was not seen goes on the stack, at slot k
-  pub dfs-push : (v k : ℕ) → v < spots → getD fin v 0 ≡ 0 → ((i : ℕ) → n ≡ i + 1 → Edge rec (getD st i 0) (getD sl i 0) v) → Below rec fin v k
-      → Dfs rec (set fin v 1) (set st n v) (set sl n k) (n + 1) m
-  dfs-push v k lv ev edge below =
+  -- a spot that was not seen goes on the stack, at the slot of s
+  pub dfs-push : (v s : ℕ) → v < spots → getD fin v 0 ≡ 0 → ((i : ℕ) → n ≡ i + 1 → Edge rec (getD st i 0) (getD sl i 0 % 8) v) → Below rec fin v (s % 8)
+      → Rest rec v s → Dfs rec (set fin v 1) (set st n v) (set sl n s) (n + 1) m
+  dfs-push v s lv ev edge below r =
       let lf : v < length fin = omega (arith, d .room .marks) in
       let z : unseen (set fin v 1) + 1 ≡ unseen fin = unseen-less fin v lv lf 0 ev in
       let ls : n < length st = omega (arith, d .count, d .room .stack) in
@@ -84,7 +86,7 @@ module _ {rec fin st sl : List ℕ} {n m : ℕ} (d : Dfs rec fin st sl n m) wher
       let still : (i : ℕ) → i < n → getD (set fin v 1) (getD st i 0) 0 ≡ 1 =
       λ i h. same (getD st i 0) (omega (arith, d .on i h .1)) ∙ d .on i h .1 in
       let top : getD (set st n v) n 0 ≡ v = getD-set-same st n v 0 ls in
-      let lowk : (i : ℕ) → i < n → getD (set sl n k) i 0 ≡ getD sl i 0 = λ i h. getD-set-other sl n i k 0 (λ e. omega arith) in
+      let lowk : (i : ℕ) → i < n → getD (set sl n s) i 0 ≡ getD sl i 0 = λ i h. getD-set-other sl n i s 0 (λ e. omega arith) in
       let two : (x : ℕ) → 2 ≤ getD fin x 0 → 2 ≤ getD (set fin v 1) x 0 = λ x h. rw (same x (omega arith)) h in
       let done : (x : ℕ) → 2 ≤ getD (set fin v 1) x 0 → getD (set fin v 1) x 0 ≡ getD fin x 0 =
       λ x h. ⊎-elim (λ w. absurd (omega (arith, w .1))) (λ w. w .1) (after fin v 1 x lf) in
@@ -114,7 +116,11 @@ module _ {rec fin st sl : List ℕ} {n m : ℕ} (d : Dfs rec fin st sl n m) wher
         past = λ i li j x. ⊎-elim
             (λ w. rw (w .1, w .0, top) (λ h e. two x (below j x h e)))
             (λ w. rw (w .1, low i (omega (arith, w .0))) (λ h e. two x (d .past i (omega (arith, w .0)) j x h e)))
-            (after sl n k i lk);
+            (after sl n s i lk);
+        rest = λ i li. ⊎-elim
+            (λ w. rw (w .1, w .0, top) r)
+            (λ w. rw (w .1, low i (omega (arith, w .0))) (d .rest i (omega (arith, w .0))))
+            (after sl n s i lk);
         falls = λ x lx h j y e.
             let hx : getD (set fin v 1) x 0 ≡ getD fin x 0 = done x h in
             let (a, b) = d .falls x lx (omega arith) j y e in
@@ -144,6 +150,7 @@ module _ {rec fin st sl : List ℕ} {n m : ℕ} (d : Dfs rec fin st sl n m) wher
         apart = λ a b ab lb. d .apart a b ab (omega arith);
         link = λ j lj. d .link j (omega arith);
         past = λ j lj k v q e. let b : 2 ≤ getD fin v 0 = d .past j (omega arith) k v q e in omega (arith, two v b);
+        rest = λ j lj. d .rest j (omega arith);
         falls = λ x lx q k v e. ⊎-elim
             (λ w.
             let b : 2 ≤ getD fin v 0 = out k v (subst (λ (y : ℕ). Edge rec y k v) (w .0) e) in
@@ -164,9 +171,3 @@ module _ {rec fin st sl : List ℕ} {n m : ℕ} (d : Dfs rec fin st sl n m) wher
     where
       below : (j : ℕ) → j < n → getD st j 0 ≢ getD st i 0 → j < i
       below j l ne = ⊎-elim (λ q. absurd (ne (ap (λ (y : ℕ). getD st y 0) q))) (λ h. h) (eq-or-lt-of-le (omega arith))
-
-  -- a spot that was not seen is done at once
-  pub dfs-leaf : (u : ℕ) → u < spots → getD fin u 0 ≡ 0 → Out rec fin u → Dfs rec (set fin u (m + 2)) st sl n (m + 1)
-  dfs-leaf u lu e out =
-      let s : unseen (set fin u (m + 2)) + 1 ≡ unseen fin = rw add-two (unseen-less fin u lu (omega (arith, d .room .marks)) (suc m) e) in
-      dfs-done u n lu (omega arith) (omega arith) (λ j l q. omega (arith, d .on j l .1, ap (λ (y : ℕ). getD fin y 0) q)) (λ j l q. l) (omega arith) out

@@ -2,30 +2,35 @@
 use mathlib.Core.Path.{_≡_, sym, ap, subst, _∙_}
 use mathlib.Core.Logic.{_≢_, ⊎-elim}
 use mathlib.Core.List.{List}
-use Prim.Native.Nat.{ℕ, suc, _+_, _-_, _*_, _/_, _≤_, _<_}
+use Prim.Native.Nat.{ℕ, suc, _+_, _-_, _*_, _/_, _%_, _≤_, _<_}
 use native.Mathlib.Numerals.{add-two}
 use native.Mathlib.Omega.{arith}
 use borrow.Author.Count.{below-more}
 use lib.ListN.{length, getD, set}
 use lib.Seq.{getD-set-same}
 use Rattle.channel.specs.Map.{spots, rev}
+use Rattle.channel.specs.Map.LoadedSlots.{loadedFrom, from-half}
 use Rattle.channel.specs.Map.Origins.{originOf}
 use Rattle.audit.specs.Loops.{Closed}
-use Rattle.audit.specs.Loops.Dfs.{Edge, Scanned, unseen, Dfs, Kept, Turned, more, hit, Searched, over, ring, Traced}
+use Rattle.audit.specs.Loops.Dfs.{Edge, Rest, Picked, unseen, Dfs, Kept, Turned, more, hit, Searched, over, ring, Traced}
 use Rattle.audit.specs.Loops.Marks.{below-or, after, unseen-less, unseen-same, kept-set}
-use Rattle.audit.specs.Loops.Stack.{edge-node, Below, dfs-slot, dfs-push, dfs-pop, dfs-leaf}
+use Rattle.audit.specs.Loops.Stack.{edge-node, Below, dfs-slot, dfs-push, dfs-pop}
 use Rattle.audit.specs.declared.loops.Turn.{Turn}
 use Rattle.audit.specs.declared.loops.Turn.the-variants.{More, Hit}
 use Rattle.audit.specs.declared.loops.Search.{Search}
 use Rattle.audit.specs.declared.loops.Search.the-variants.{Over, Ring}
 
+-- at slot 0 all are left
+all-left : (rec : List ℕ) (u r : ℕ) → r ≡ loadedFrom rec u 0 → Rest rec u (8 * r)
+all-left rec u r e = let z : 0 ≡ 8 * r % 8 = omega arith in let q : 8 * r / 8 ≡ r = omega arith in q ∙ (e ∙ ap (loadedFrom rec u) z)
+
 -- ---- a turn, after the slots of the top were scanned
 
-module _ {rec fin st sl : List ℕ} {n m k : ℕ} (d : Dfs rec fin st sl n m) (l0 : 0 < n) (s : Scanned rec fin (getD st (n - 1) 0) (getD sl (n - 1) 0) k) where
-  past : Below rec fin (getD st (n - 1) 0) k
-  past j v l e = ⊎-elim (λ h. d .past (n - 1) (omega arith) j v h e) (λ h. s .past j v h l e) (below-or j (getD sl (n - 1) 0))
+module _ {rec fin st sl : List ℕ} {n m s : ℕ} (d : Dfs rec fin st sl n m) (l0 : 0 < n) (p : Picked rec fin (getD st (n - 1) 0) (getD sl (n - 1) 0) s) where
+  past : Below rec fin (getD st (n - 1) 0) (s % 8)
+  past j v l e = ⊎-elim (λ h. d .past (n - 1) (omega arith) j v h e) (λ h. p .found .past j v h l e) (below-or j (getD sl (n - 1) 0 % 8))
 
-  pub turn-pop : 5 ≤ k → Turned rec fin n (set fin (getD st (n - 1) 0) (m + 2)) st sl (More (n - 1) (m + 1))
+  pub turn-pop : 5 ≤ s % 8 → Turned rec fin n (set fin (getD st (n - 1) 0) (m + 2)) st sl (More (n - 1) (m + 1))
   turn-pop l =
       let u = getD st (n - 1) 0 in
       let (lu, eu) = d .on (n - 1) (omega arith) in
@@ -34,50 +39,61 @@ module _ {rec fin st sl : List ℕ} {n m k : ℕ} (d : Dfs rec fin st sl n m) (l
       let kept : Kept fin (set fin u (m + 2)) = rw add-two (kept-set fin u (suc m) lf) in
       more (dfs-pop d (n - 1) (omega arith) (λ j v e. past j v (omega (arith, e .slot)) e)) kept (omega arith)
 
-  -- the spot below has this one behind it
-  pub turn-next : 5 ≤ k → (i : ℕ) → n ≡ i + 2
-      → Turned rec fin n (set fin (getD st (n - 1) 0) (m + 2)) st (set sl i (getD sl i 0 + 1)) (More (n - 1) (m + 1))
+  -- the spot below has this one behind it, and stands at its next slot
+  pub turn-next : 5 ≤ s % 8 → (i : ℕ) → n ≡ i + 2
+      → Turned rec fin n (set fin (getD st (n - 1) 0) (m + 2)) st (set sl i (getD sl i 0 % 8 + 1 + 8 * (getD sl i 0 / 16))) (More (n - 1) (m + 1))
   turn-next l i e = by (turn-pop l)
     where
       by : Turned rec fin n (set fin (getD st (n - 1) 0) (m + 2)) st sl (More (n - 1) (m + 1))
-          → Turned rec fin n (set fin (getD st (n - 1) 0) (m + 2)) st (set sl i (getD sl i 0 + 1)) (More (n - 1) (m + 1))
-      by (more d' kept less) = more (dfs-slot d' i (getD sl i 0 + 1) (omega arith) below) kept less
+          → Turned rec fin n (set fin (getD st (n - 1) 0) (m + 2)) st (set sl i (getD sl i 0 % 8 + 1 + 8 * (getD sl i 0 / 16))) (More (n - 1) (m + 1))
+      by (more d' kept less) = more (dfs-slot d' i (getD sl i 0 % 8 + 1 + 8 * (getD sl i 0 / 16)) (omega arith) (rw (← slot) below) rest) kept less
         where
-          done : (v : ℕ) → Edge rec (getD st i 0) (getD sl i 0) v → 2 ≤ getD (set fin (getD st (n - 1) 0) (m + 2)) v 0
+          edge : Edge rec (getD st i 0) (getD sl i 0 % 8) (getD st (i + 1) 0)
+          edge = d .link i (omega arith)
+
+          slot : getD sl i 0 % 8 + 1 ≡ (getD sl i 0 % 8 + 1 + 8 * (getD sl i 0 / 16)) % 8
+          slot = omega (arith, edge .slot)
+
+          rest : Rest rec (getD st i 0) (getD sl i 0 % 8 + 1 + 8 * (getD sl i 0 / 16))
+          rest = rw (← slot)
+              (omega (arith, edge .slot, d .rest i (omega arith), from-half rec (getD st i 0) (getD sl i 0 % 8) (edge .slot)))
+
+          done : (v : ℕ) → Edge rec (getD st i 0) (getD sl i 0 % 8) v → 2 ≤ getD (set fin (getD st (n - 1) 0) (m + 2)) v 0
           done v g =
               let p : n - 1 ≡ i + 1 = omega arith in
               let lf : getD st (n - 1) 0 < length fin = omega (arith, d .on (n - 1) (omega arith) .0, d .room .marks) in
-              let q : getD st (n - 1) 0 ≡ v = ap (λ (x : ℕ). getD st x 0) p ∙ (sym (d .link i (omega arith) .leads) ∙ g .leads) in
+              let q : getD st (n - 1) 0 ≡ v = ap (λ (x : ℕ). getD st x 0) p ∙ (sym (edge .leads) ∙ g .leads) in
               subst (λ (x : ℕ). 2 ≤ getD (set fin (getD st (n - 1) 0) (m + 2)) x 0) q (omega (arith, getD-set-same fin (getD st (n - 1) 0) (m + 2) 0 lf))
 
-          below : (j v : ℕ) → j < getD sl i 0 + 1 → Edge rec (getD st i 0) j v → 2 ≤ getD (set fin (getD st (n - 1) 0) (m + 2)) v 0
-          below j v lj = below-more (λ j. Edge rec (getD st i 0) j v → 2 ≤ getD (set fin (getD st (n - 1) 0) (m + 2)) v 0) (getD sl i 0)
+          below : Below rec (set fin (getD st (n - 1) 0) (m + 2)) (getD st i 0) (getD sl i 0 % 8 + 1)
+          below j v lj = below-more (λ j. Edge rec (getD st i 0) j v → 2 ≤ getD (set fin (getD st (n - 1) 0) (m + 2)) v 0) (getD sl i 0 % 8)
               (λ j h g. d' .past i (omega arith) j v h g) (done v) j lj
 
-  module _ {v : ℕ} (l5 : k < 5) (ev : v ≡ rev (8 * getD st (n - 1) 0 + k) / 8) where
+  module _ {v : ℕ} (l5 : s % 8 < 5) (ev : v ≡ rev (8 * getD st (n - 1) 0 + s % 8) / 8) where
     -- the slot is stored, and the edge of the top stands on the stack
-    aim : Dfs rec fin st (set sl (n - 1) k) n m
-    aim = dfs-slot d (n - 1) k (omega arith) past
+    aim : Dfs rec fin st (set sl (n - 1) s) n m
+    aim = dfs-slot d (n - 1) s (omega arith) past (p .rest)
 
-    aimed : Edge rec (getD st (n - 1) 0) (getD (set sl (n - 1) k) (n - 1) 0) v
+    aimed : Edge rec (getD st (n - 1) 0) (getD (set sl (n - 1) s) (n - 1) 0 % 8) v
     aimed =
         let lk : n - 1 < length sl = omega (arith, d .count, d .room .slots) in
-        rw (getD-set-same sl (n - 1) k 0 lk, ev) (s .edge l5)
+        rw (getD-set-same sl (n - 1) s 0 lk, ev) (p .found .edge l5)
 
-    pub turn-hit : getD fin v 0 ≡ 1 → Turned rec fin n fin st (set sl (n - 1) k) (Hit v)
+    pub turn-hit : getD fin v 0 ≡ 1 → Turned rec fin n fin st (set sl (n - 1) s) (Hit v)
     turn-hit e = hit aim aimed e
 
     pub new-spot : getD fin v 0 ≢ 1 → (v < spots) × (getD fin v 0 ≡ 0)
-    new-spot ne = let w : getD fin v 0 < 2 = rw ev (s .live l5) in (edge-node aimed, omega (arith, ne))
+    new-spot ne = let w : getD fin v 0 < 2 = rw ev (p .found .live l5) in (edge-node aimed, omega (arith, ne))
 
-    pub turn-push : getD fin v 0 ≢ 1 → Turned rec fin n (set fin v 1) (set st n v) (set (set sl (n - 1) k) n 0) (More (n + 1) m)
-    turn-push ne =
+    pub turn-push : getD fin v 0 ≢ 1 → (r : ℕ) → r ≡ loadedFrom rec v 0
+        → Turned rec fin n (set fin v 1) (set st n v) (set (set sl (n - 1) s) n (8 * r)) (More (n + 1) m)
+    turn-push ne r er =
         let (lv, z) = new-spot ne in
         let lf : v < length fin = omega (arith, d .room .marks) in
         more
-        (dfs-push aim v 0 lv z
-        (λ i e. let p : n - 1 ≡ i = omega arith in subst (λ (y : ℕ). Edge rec (getD st y 0) (getD (set sl (n - 1) k) y 0) v) p aimed)
-        (λ j x h. absurd (omega arith)))
+        (dfs-push aim v (8 * r) lv z
+        (λ i e. let p : n - 1 ≡ i = omega arith in subst (λ (y : ℕ). Edge rec (getD st y 0) (getD (set sl (n - 1) s) y 0 % 8) v) p aimed)
+        (λ j x h. absurd (omega arith)) (all-left rec v r er))
         (kept-set fin v 0 lf)
         (omega (arith, unseen-less fin v lv lf 0 z))
 
@@ -91,11 +107,11 @@ module _ {rec fin : List ℕ} {n : ℕ} {fin' st' sl' : List ℕ} {t : Turn} (d 
           → Dfs rec fin' st' sl' n' m' × Kept fin fin' × (unseen fin' + unseen fin' + n' < unseen fin + unseen fin + n)
       by (more s k l) = (s, k, l)
 
-  pub took-hit : {v : ℕ} → t ≡ Hit v → (m' : ℕ) × Dfs rec fin' st' sl' n m' × Edge rec (getD st' (n - 1) 0) (getD sl' (n - 1) 0) v × (getD fin' v 0 ≡ 1)
+  pub took-hit : {v : ℕ} → t ≡ Hit v → (m' : ℕ) × Dfs rec fin' st' sl' n m' × Edge rec (getD st' (n - 1) 0) (getD sl' (n - 1) 0 % 8) v × (getD fin' v 0 ≡ 1)
   took-hit {v} e = by (subst (λ (x : Turn). Turned rec fin n fin' st' sl' x) e d)
     where
       by : Turned rec fin n fin' st' sl' (Hit v)
-          → (m' : ℕ) × Dfs rec fin' st' sl' n m' × Edge rec (getD st' (n - 1) 0) (getD sl' (n - 1) 0) v × (getD fin' v 0 ≡ 1)
+          → (m' : ℕ) × Dfs rec fin' st' sl' n m' × Edge rec (getD st' (n - 1) 0) (getD sl' (n - 1) 0 % 8) v × (getD fin' v 0 ≡ 1)
       by (hit {m' = m'} s a b) = (m', s, a, b)
 
 module _ {rec fin fin' st' sl' : List ℕ} {a : Search} (d : Searched rec fin fin' st' sl' a) where
@@ -127,15 +143,8 @@ module _ {rec fin st sl : List ℕ} {m : ℕ} (d : Dfs rec fin st sl 0 m) (r : �
   pub search-seen : getD fin r 0 ≢ 0 → Searched rec (set fin r 1) fin st sl (Over m)
   search-seen s = over d (kept-with fin fin r marked s (λ u h. h))
 
-  module _ (e : getD fin r 0 ≡ 0) {k : ℕ} (s : Scanned rec fin r 0 k) where
-    pub search-leaf : 5 ≤ k → Searched rec (set fin r 1) (set fin r (m + 2)) st sl (Over (m + 1))
-    search-leaf h =
-        let kept : Kept fin (set fin r (m + 2)) = rw add-two (kept-set fin r (suc m) marked) in
-        over (dfs-leaf d r l e (λ j v g. s .past j v (omega arith) (omega (arith, g .slot)) g))
-        (kept-with fin (set fin r (m + 2)) r marked (λ z. omega (arith, getD-set-same fin r (m + 2) 0 marked)) kept)
-
-    pub dfs-root : Dfs rec (set fin r 1) (set st 0 r) (set sl 0 k) 1 m
-    dfs-root = dfs-push d r k l e (λ i q. absurd (omega arith)) (λ j v h g. s .past j v (omega arith) h g)
+  pub dfs-root : getD fin r 0 ≡ 0 → (a : ℕ) → a ≡ loadedFrom rec r 0 → Dfs rec (set fin r 1) (set st 0 r) (set sl 0 (8 * a)) 1 m
+  dfs-root e a q = dfs-push d r (8 * a) l e (λ i q. absurd (omega arith)) (λ j v h. absurd (omega arith)) (all-left rec r a q)
 
 -- ---- the search from the spot of a load byte
 

@@ -9,10 +9,10 @@ use borrow.Author.Tests.{eqb-false, ltb-false, leb-false, lt-ltb}
 use lib.Dec.{T, eqb, eqb·suc-zero, leb, ltb, ltb→lt, lt→ltb}
 use lib.ListN.{getD}
 use Rattle.sums.specs.Counting.{when}
-use Rattle.sums.specs.Tests.{below, below-at, and-left, and-right, and-both, both-ways}
+use Rattle.sums.specs.Tests.{Same, same, other, same?, below, below-at, and-left, and-right, and-both, both-ways}
 use Rattle.model.specs.Record.{forthPart, backPart}
 use Rattle.channel.specs.Map.{inGrid, links, owners, signs, codes, carries, isPassage, isPassDart, view, kindOf, ownerOf, signOf, codeOf, placeOf}
-use Rattle.channel.specs.Map.Bools.{if-so, is-off}
+use Rattle.channel.specs.Map.Bools.{if-so, is-off, or-false}
 use Rattle.channel.specs.Map.Bounds.{owner-bound, sign-bound, code-bound}
 use Rattle.channel.specs.Map.Bytes.{kept-in, along-forth, along-back, carries-no-pass, view-link, view-none}
 
@@ -86,7 +86,7 @@ module _ (rec : List ℕ) (d w : ℕ) (e : placeOf (d % 64) ≡ w) where
   unfolding isPassDart
   no-pass f = ap (λ (b : Bool). b && inGrid (d / 64)) f
 
-  pub unladen : w ≡ 0 → false ≡ ltb 0 (view rec d)
+  unladen : w ≡ 0 → false ≡ ltb 0 (view rec d)
   unladen z = by w row z
     where
       by : (v : ℕ) → Row (d % 64) v → v ≡ 0 → false ≡ ltb 0 (view rec d)
@@ -111,17 +111,29 @@ module _ (rec : List ℕ) (d w : ℕ) (e : placeOf (d % 64) ≡ w) where
     at-link : getD rec (w / 2 + x) 0 ≡ getD rec (3927 + 1600 * kindOf (d % 64) + (d / 64 + ownerOf (d % 64))) 0
     at-link = ap (λ (y : ℕ). getD rec y 0) (omega (arith, stands .word, sign-bound (d % 64) (omega arith)))
 
-    pub laden-forth : w % 2 ≡ 0 → (b : ℕ) → b ≡ getD rec (w / 2 + x) 0 → (ltb 0 b && ltb b 32) ≡ ltb 0 (view rec d)
+    laden-forth : w % 2 ≡ 0 → (b : ℕ) → b ≡ getD rec (w / 2 + x) 0 → (ltb 0 b && ltb b 32) ≡ ltb 0 (view rec d)
     laden-forth z b q =
         let k = kept-in rec d (ownerOf (d % 64)) refl (kindOf (d % 64)) refl (omega arith) (omega (arith, owner-bound (d % 64) (omega arith))) in
         let s : signOf (d % 64) ≡ 0 = omega (arith, stands .word, sign-bound (d % 64) (omega arith)) in
         forth-test b ∙ ap (ltb 0) (along-forth rec d b (signOf (d % 64)) (q ∙ (at-link ∙ k)) refl s ∙ view-link rec d (stands .carried))
 
-    pub laden-back : w % 2 ≢ 0 → (b : ℕ) → b ≡ getD rec (w / 2 + x) 0 → ltb 32 b ≡ ltb 0 (view rec d)
+    laden-back : w % 2 ≢ 0 → (b : ℕ) → b ≡ getD rec (w / 2 + x) 0 → ltb 32 b ≡ ltb 0 (view rec d)
     laden-back z b q =
         let k = kept-in rec d (ownerOf (d % 64)) refl (kindOf (d % 64)) refl (omega arith) (omega (arith, owner-bound (d % 64) (omega arith))) in
         let s : signOf (d % 64) ≢ 0 = λ y. z (omega (arith, stands .word)) in
         back-test b ∙ ap (ltb 0) (along-back rec d b (signOf (d % 64)) (q ∙ (at-link ∙ k)) refl s ∙ view-link rec d (stands .carried))
+
+  -- by the way that the word says, and the byte
+  pub laden : (x : ℕ) → d / 64 ≡ x → w ≢ 1 → 41 ≤ x → x < 1600 → (b : ℕ) → b ≡ getD rec (w / 2 + x) 0
+      → (((not (eqb w 0) && eqb (w % 2) 0) && (ltb 0 b && ltb b 32)) || (not (eqb (w % 2) 0) && ltb 32 b)) ≡ ltb 0 (view rec d)
+  laden x h p l m b q = by (eqb w 0) (same? w 0) (eqb (w % 2) 0) (same? (w % 2) 0)
+    where
+      by : (s : Bool) → Same w 0 s → (t : Bool) → Same (w % 2) 0 t
+          → (((not s && t) && (ltb 0 b && ltb b 32)) || (not t && ltb 32 b)) ≡ ltb 0 (view rec d)
+      by true (same y) true (same z) = unladen y
+      by true (same y) false (other z) = absurd (z (omega arith))
+      by false (other y) true (same z) = or-false (ltb 0 b && ltb b 32) ∙ laden-forth x h y p l m z b q
+      by false (other y) false (other z) = laden-back x h y p l m z b q
 
 -- ---- by the word of four slots
 

@@ -4,6 +4,7 @@ use Prim.Native.Nat.{_-_, _<_}
 use native.Mathlib.Omega.{arith}
 use denote.Ref.{now}
 use lib.ListN.{getD, length-set}
+use Rattle.channel.specs.Map.LoadedSlots.{from-small}
 use Rattle.channel.specs.Map.Numbers.{spots-is}
 use Rattle.channel.specs.Map.{spots}
 use Rattle.audit.specs.Loops.Marks.{unseen-less}
@@ -27,16 +28,16 @@ top c = c .pre .0 .on (c .args .n - 1) (omega arith) .0
 cast-u : tie.Need-cast-u
 cast-u c = omega (arith, top (c .before .before .before .before .before))
 
-slice-read-k0 : tie.Need-slice-read-k0
-slice-read-k0 c = search needs
+slice-read-scan : tie.Need-slice-read-scan
+slice-read-scan c = search needs
 
-cast-k0 : tie.Need-cast-k0
-cast-k0 c = omega (arith, c .slice-known5 .given (c .before .before .before .before .before .before .args .n - 1))
+cast-scan : tie.Need-cast-scan
+cast-scan c = omega (arith, c .slice-known5 .given (c .before .before .before .before .before .before .before .args .n - 1))
 
 scan-requires : tie.Need-scan-requires
 scan-requires c κs =
     let s = c .before .before .before .before .before .before .before in
-    (s .pre .0 .room .whole, s .pre .0 .room .marks, top s)
+    (s .pre .0 .room .marks, top s, s .pre .0 .rest (s .args .n - 1) (omega arith))
 
 add-fin : tie.Need-add-fin
 add-fin c = search needs
@@ -63,16 +64,29 @@ returns c =
     let p = c .before .before .before .before .before .before .before .before .before .before .pre in
     turn-pop (p .0) (p .1) (c .before .before .scan .ensures) (c .before .if1 .taken)
 
-sub-sl : tie.Need-sub-sl
-sub-sl c = search needs
+sub-t : tie.Need-sub-t
+sub-t c = search needs
 
-slice-read-sl : tie.Need-slice-read-sl
-slice-read-sl c = search needs
+slice-read-t : tie.Need-slice-read-t
+slice-read-t c = search needs
+
+cast-t : tie.Need-cast-t
+cast-t c = omega (arith, c .slice-known6 .given (c .before .before .before .before .before .before .before .before .before .before .before .args .n - 1 - 1))
 
 add-sl : tie.Need-add-sl
-add-sl c =
-    let s = c .before .before .before .before .before .before .before .before .before .before .before in
-    omega (arith, s .pre .0 .link (s .args .n - 1 - 1) (omega arith) .slot)
+add-sl c = search needs
+
+mul-sl : tie.Need-mul-sl
+mul-sl c = omega (arith, c .slice-known6 .given (c .before .before .before .before .before .before .before .before .before .before .before .args .n - 1 - 1))
+
+add-sl-2 : tie.Need-add-sl-2
+add-sl-2 c = omega (arith, c .slice-known6 .given (c .before .before .before .before .before .before .before .before .before .before .before .args .n - 1 - 1))
+
+cast-sl : tie.Need-cast-sl
+cast-sl c = omega (arith, c .slice-known6 .given (c .before .before .before .before .before .before .before .before .before .before .before .args .n - 1 - 1))
+
+sub-sl : tie.Need-sub-sl
+sub-sl c = search needs
 
 slice-write-sl : tie.Need-slice-write-sl
 slice-write-sl c = search needs
@@ -91,8 +105,8 @@ returns-2 c =
     let s = c .before .before .before .before .before .before .before .before .before .before .before in
     turn-next (s .pre .0) (s .pre .1) (c .before .before .before .scan .ensures) (c .before .before .if1 .taken) (s .args .n - 1 - 1) (omega arith)
 
-cast-sl : tie.Need-cast-sl
-cast-sl c = search needs
+cast-sl-2 : tie.Need-cast-sl-2
+cast-sl-2 c = search needs
 
 slice-write-sl-2 : tie.Need-slice-write-sl-2
 slice-write-sl-2 c = search needs
@@ -153,13 +167,26 @@ slice-write-st c =
     let p = c .before .before .before .before .before .before .before .before .before .before .before .before .pre in
     omega (arith, space c, p .0 .room .stack)
 
+loaded-slots-requires : tie.Need-loaded-slots-requires
+loaded-slots-requires c κs = search needs
+
+mul-sl-2 : tie.Need-mul-sl-2
+mul-sl-2 c =
+    let r = now (c .before .before .before .before .before .before .before .before .before .before .before .before .before .args .rec) in
+    omega (arith, c .loaded-slots .ensures, from-small r (c .before .before .before .head-of .result) 0)
+
+cast-sl-3 : tie.Need-cast-sl-3
+cast-sl-3 c =
+    let r = now (c .before .before .before .before .before .before .before .before .before .before .before .before .before .args .rec) in
+    omega (arith, c .loaded-slots .ensures, from-small r (c .before .before .before .head-of .result) 0)
+
 slice-write-sl-3 : tie.Need-slice-write-sl-3
 slice-write-sl-3 c =
-    let p = c .before .before .before .before .before .before .before .before .before .before .before .before .pre in
-    simp length-set (omega (arith, space c, p .0 .room .slots))
+    let p = c .before .before .before .before .before .before .before .before .before .before .before .before .before .pre in
+    simp length-set (omega (arith, space (c .before), p .0 .room .slots))
 
-add-t30 : tie.Need-add-t30
-add-t30 c = search needs
+add-t12 : tie.Need-add-t12
+add-t12 c = search needs
 
 same-length-6 : tie.Need-same-length-6
 same-length-6 c = search needs
@@ -172,11 +199,11 @@ same-length-8 c = search needs
 
 returns-4 : tie.Need-returns-4
 returns-4 c =
-    let s = c .before .before .before .before .before .before .before .before .before .before .before .before in
-    let k = c .before .before .before .before .scan in
-    let i = c .before .before .before .if1 in
-    let h = c .before .before .head-of in
-    turn-push (s .pre .0) (s .pre .1) (k .ensures) (i .left) (h .ensures .0) (c .if3 .left)
+    let s = c .before .before .before .before .before .before .before .before .before .before .before .before .before in
+    let k = c .before .before .before .before .before .scan in
+    let i = c .before .before .before .before .if1 in
+    let h = c .before .before .before .head-of in
+    turn-push (s .pre .0) (s .pre .1) (k .ensures) (i .left) (h .ensures .0) (c .before .if3 .left) _ (c .loaded-slots .ensures)
 
 pub advance-spec : {M : Type 1} → statement M
 advance-spec =
@@ -186,8 +213,8 @@ advance-spec =
     mul-u
     slice-read-u
     cast-u
-    slice-read-k0
-    cast-k0
+    slice-read-scan
+    cast-scan
     scan-requires
     add-fin
     cast-fin
@@ -196,15 +223,20 @@ advance-spec =
     add-t25
     same-length
     returns
-    sub-sl
-    slice-read-sl
+    sub-t
+    slice-read-t
+    cast-t
     add-sl
+    mul-sl
+    add-sl-2
+    cast-sl
+    sub-sl
     slice-write-sl
     add-t22
     same-length-2
     same-length-3
     returns-2
-    cast-sl
+    cast-sl-2
     slice-write-sl-2
     mul-head-of
     add-head-of
@@ -219,8 +251,11 @@ advance-spec =
     cast-st
     mul-st
     slice-write-st
+    loaded-slots-requires
+    mul-sl-2
+    cast-sl-3
     slice-write-sl-3
-    add-t30
+    add-t12
     same-length-6
     same-length-7
     same-length-8

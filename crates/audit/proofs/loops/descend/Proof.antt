@@ -40,35 +40,29 @@ loop-again c =
 enum-known-v : tie.Need-enum-known-v Inv-loop μ-loop
 enum-known-v c = search needs
 
+bare-requires : tie.Need-bare-requires Inv-loop μ-loop
+bare-requires c κs =
+    let (m, s, e, h) = took-hit (c .before .before .before .before .before .before .before .before .before .before .advance .ensures) (c .before .before .v .given .1) in
+    omega (arith, s .count, s .room .slots)
+
 place-requires : tie.Need-place-requires Inv-loop μ-loop
 place-requires c κs =
-    let a = c .before .before .before .before .before .before .before .before .before .before .advance in
-    let (m, s, e, h) = took-hit (a .ensures) (c .before .before .v .given .1) in
+    let (m, s, e, h) = took-hit (c .before .before .before .before .before .before .before .before .before .before .before .before .before .before .advance .ensures) (c .before .before .before .before .before .before .v .given .1) in
     omega (arith, s .count, s .room .stack)
 
 same-length : tie.Need-same-length Inv-loop μ-loop
-same-length c =
-    let a = c .before .before .before .before .before .before .before .before .before .before .before .advance in
-    let l = c .before .before .before .before .before .before .before .before .before .before .before .before .before .before .before .before .loop in
-    a .kept .1 .0 ∙ l .inv .0
+same-length c = c .before .before .before .before .before .before .before .before .before .before .before .before .before .before .before .advance .kept .1 .0 ∙ c .before .before .before .before .before .before .before .before .before .before .before .before .before .before .before .before .before .before .before .before .loop .inv .0
 
 same-length-2 : tie.Need-same-length-2 Inv-loop μ-loop
-same-length-2 c =
-    let a = c .before .before .before .before .before .before .before .before .before .before .before .advance in
-    let l = c .before .before .before .before .before .before .before .before .before .before .before .before .before .before .before .before .loop in
-    a .kept .1 .1 .0 ∙ l .inv .1
+same-length-2 c = c .before .before .before .before .before .before .before .before .before .before .before .before .before .before .before .advance .kept .1 .1 .0 ∙ c .before .before .before .before .before .before .before .before .before .before .before .before .before .before .before .before .before .before .before .before .loop .inv .1
 
 same-length-3 : tie.Need-same-length-3 Inv-loop μ-loop
-same-length-3 c =
-    let a = c .before .before .before .before .before .before .before .before .before .before .before .advance in
-    let l = c .before .before .before .before .before .before .before .before .before .before .before .before .before .before .before .before .loop in
-    a .kept .1 .1 .1 .0 ∙ l .inv .2
+same-length-3 c = c .before .before .before .before .bare .kept .0 ∙ (c .before .before .before .before .before .before .before .before .before .before .before .before .before .before .before .advance .kept .1 .1 .1 .0 ∙ c .before .before .before .before .before .before .before .before .before .before .before .before .before .before .before .before .before .before .before .before .loop .inv .2)
 
 returns : tie.Need-returns Inv-loop μ-loop
 returns c =
-    let a = c .before .before .before .before .before .before .before .before .before .before .before .advance in
-    let (m, s, e, h) = took-hit (a .ensures) (c .before .before .before .v .given .1) in
-    ring (hit-closed s e _ h (c .place .ensures))
+    let (m, s, e, h) = took-hit (c .before .before .before .before .before .before .before .before .before .before .before .before .before .before .before .advance .ensures) (c .before .before .before .before .before .before .before .v .given .1) in
+    ring (hit-closed s (c .before .before .before .before .bare .ensures) e _ h (c .place .ensures))
 
 same-length-4 : tie.Need-same-length-4 Inv-loop μ-loop
 same-length-4 c = c .before .loop .inv .0
@@ -94,6 +88,7 @@ descend-spec =
     loop-less
     loop-again
     enum-known-v
+    bare-requires
     place-requires
     same-length
     same-length-2

@@ -1,0 +1,99 @@
+-- The loaded slots of a spot as bits, slot 0 the lowest: what is left of them from a slot on. Assumes nothing.
+use mathlib.Core.Path.{_≡_, refl, ap, _∙_}
+use mathlib.Core.Logic.{_≢_}
+use mathlib.Core.Bool.{Bool, true, false}
+use mathlib.Core.List.{List}
+use Prim.Native.Nat.{ℕ, zero, suc, _+_, _-_, _*_, _/_, _%_, _≤_, _<_}
+use native.Mathlib.Decide.{decLt}
+use native.Mathlib.Numerals.{add-one}
+use native.Mathlib.Omega.{arith}
+use borrow.Author.Tests.{ltb-true, ltb-false}
+use lib.Dec.{ltb}
+use Rattle.sums.specs.Counting.{when}
+use Rattle.channel.specs.Map.{view}
+
+-- the last c of the five slots of u
+lastSlots : List ℕ → ℕ → ℕ → ℕ
+lastSlots rec u zero = 0
+lastSlots rec u (suc c) = when (ltb 0 (view rec (8 * u + (4 - c)))) 1 + 2 * lastSlots rec u c
+
+-- those from slot k on
+pub loadedFrom : List ℕ → ℕ → ℕ → ℕ
+loadedFrom rec u k = lastSlots rec u (5 - k)
+
+pub bit-small : (b : Bool) → when b 1 < 2
+bit-small true = omega arith
+bit-small false = omega arith
+
+module _ (rec : List ℕ) (u : ℕ) where
+  -- no slot is left
+  pub from-end : (k : ℕ) → 5 ≤ k → loadedFrom rec u k ≡ 0
+  unfolding loadedFrom lastSlots
+  from-end k l = let e : 5 - k ≡ 0 = omega arith in ap (lastSlots rec u) e
+
+  -- slot k is the lowest bit, and half of it is what is left after slot k
+  pub from-slot : (k : ℕ) → k < 5 → loadedFrom rec u k ≡ when (ltb 0 (view rec (8 * u + k))) 1 + 2 * loadedFrom rec u (k + 1)
+  unfolding loadedFrom lastSlots
+  from-slot k l =
+      let c : ℕ = 5 - (k + 1) in
+      let e : 5 - k ≡ suc c = omega arith in
+      let q : 4 - c ≡ k = omega arith in
+      ap (lastSlots rec u) e ∙ ap (λ (x : ℕ). when (ltb 0 (view rec (8 * u + x))) 1 + 2 * lastSlots rec u c) q
+
+  less : (k : ℕ) → loadedFrom rec u (k + 1) ≤ loadedFrom rec u k
+  less k = by (decLt k 5)
+    where
+      by : Dec (k < 5) → loadedFrom rec u (k + 1) ≤ loadedFrom rec u k
+      by (yes l) = omega (arith, from-slot k l)
+      by (no n) = omega (arith, from-end (k + 1) (omega arith))
+
+  pub from-small : (k : ℕ) → loadedFrom rec u k < 32
+  from-small zero =
+      let a : loadedFrom rec u 0 ≡ when (ltb 0 (view rec (8 * u + 0))) 1 + 2 * loadedFrom rec u 1 = from-slot 0 (omega arith) in
+      let b : loadedFrom rec u 1 ≡ when (ltb 0 (view rec (8 * u + 1))) 1 + 2 * loadedFrom rec u 2 = from-slot 1 (omega arith) in
+      let c : loadedFrom rec u 2 ≡ when (ltb 0 (view rec (8 * u + 2))) 1 + 2 * loadedFrom rec u 3 = from-slot 2 (omega arith) in
+      let d : loadedFrom rec u 3 ≡ when (ltb 0 (view rec (8 * u + 3))) 1 + 2 * loadedFrom rec u 4 = from-slot 3 (omega arith) in
+      let e : loadedFrom rec u 4 ≡ when (ltb 0 (view rec (8 * u + 4))) 1 + 2 * loadedFrom rec u 5 = from-slot 4 (omega arith) in
+      let z : loadedFrom rec u 5 ≡ 0 = from-end 5 (omega arith) in
+      omega (arith, a, b, c, d, e, z, small 0, small 1, small 2, small 3, small 4)
+    where
+      small : (k : ℕ) → when (ltb 0 (view rec (8 * u + k))) 1 < 2
+      small k = bit-small (ltb 0 (view rec (8 * u + k)))
+  from-small (suc k) = omega (arith, from-small k, rw add-one at (less k))
+
+  -- the last slot, and then the one before slot k
+  pub from-last : (b : Bool) → b ≡ ltb 0 (view rec (8 * u + 4)) → when b 1 ≡ loadedFrom rec u 4
+  from-last b q = omega (arith, from-slot 4 (omega arith), from-end 5 (omega arith), ap (λ (b : Bool). when b 1) q)
+
+  pub from-before : (k r : ℕ) (b : Bool) → 0 < k → k ≤ 5 → r ≡ loadedFrom rec u k → b ≡ ltb 0 (view rec (8 * u + (k - 1)))
+      → 2 * r + when b 1 ≡ loadedFrom rec u (k - 1)
+  from-before k r b p l e q =
+      let n : k - 1 + 1 ≡ k = omega arith in
+      omega (arith, from-slot (k - 1) (omega arith), ap (loadedFrom rec u) n, ap (λ (b : Bool). when b 1) q)
+
+  module _ (k : ℕ) where
+    -- a slot is left
+    pub from-some : loadedFrom rec u k ≢ 0 → k < 5
+    from-some n = by (decLt k 5)
+      where
+        by : Dec (k < 5) → k < 5
+        by (yes l) = l
+        by (no o) = absurd (n (from-end k (omega arith)))
+
+    module _ (l : k < 5) where
+      pub from-laden : loadedFrom rec u k % 2 ≡ 1 → 0 < view rec (8 * u + k)
+      from-laden e = by (ltb 0 (view rec (8 * u + k))) refl
+        where
+          by : (b : Bool) → ltb 0 (view rec (8 * u + k)) ≡ b → 0 < view rec (8 * u + k)
+          by true q = ltb-true 0 (view rec (8 * u + k)) q
+          by false q = absurd (omega (arith, from-slot k l, ap (λ (b : Bool). when b 1) q))
+
+      pub from-idle : loadedFrom rec u k % 2 ≢ 1 → view rec (8 * u + k) ≡ 0
+      from-idle n = by (ltb 0 (view rec (8 * u + k))) refl
+        where
+          by : (b : Bool) → ltb 0 (view rec (8 * u + k)) ≡ b → view rec (8 * u + k) ≡ 0
+          by true q = absurd (n (omega (arith, from-slot k l, ap (λ (b : Bool). when b 1) q)))
+          by false q = omega (arith, ltb-false 0 (view rec (8 * u + k)) q)
+
+      pub from-half : loadedFrom rec u k / 2 ≡ loadedFrom rec u (k + 1)
+      from-half = omega (arith, from-slot k l, bit-small (ltb 0 (view rec (8 * u + k))))
