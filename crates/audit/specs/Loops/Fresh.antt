@@ -12,7 +12,7 @@ use Rattle.channel.specs.Map.Fresh.{isFresh}
 use Rattle.channel.specs.Map.Origins.{originOf}
 use Rattle.audit.specs.Loops.{Settled, Closed}
 use Rattle.audit.specs.Loops.Dfs.{Dfs, Kept, over, ring, Traced, Begun, FreshTraced}
-use Rattle.audit.specs.Loops.Marks.{below-or}
+use Rattle.sums.specs.Tests.{below-or}
 use Rattle.audit.specs.Loops.Rings.{done-falls}
 use Rattle.audit.specs.Loops.Stack.{seen-done}
 use Rattle.audit.specs.Loops.Turns.{was-over}

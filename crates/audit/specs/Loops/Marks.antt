@@ -4,7 +4,7 @@ use mathlib.Core.Logic.{_≢_, _⊎_, inl, inr, ⊎-elim}
 use mathlib.Core.Bool.{Bool, true, false}
 use mathlib.Core.List.{List}
 use Prim.Native.Nat.{ℕ, zero, suc, _+_, _≤_, _<_}
-use native.Mathlib.Decide.{ℕ-discrete, decLt}
+use native.Mathlib.Decide.{ℕ-discrete}
 use native.Mathlib.Omega.{arith}
 use lib.Dec.{eqb}
 use lib.ListN.{length, getD, set}
@@ -20,13 +20,6 @@ same-or a b = by (ℕ-discrete a b)
     by : Dec (a ≡ b) → (a ≡ b) ⊎ (a ≢ b)
     by (yes p) = inl p
     by (no p) = inr p
-
-pub below-or : (a b : ℕ) → (a < b) ⊎ (b ≤ a)
-below-or a b = by (decLt a b)
-  where
-    by : Dec (a < b) → (a < b) ⊎ (b ≤ a)
-    by (yes p) = inl p
-    by (no p) = inr (omega arith)
 
 -- what stands at x after a store at v
 pub after : (t : List ℕ) (v a x : ℕ) → v < length t → ((x ≡ v) × (getD (set t v a) x 0 ≡ a)) ⊎ ((x ≢ v) × (getD (set t v a) x 0 ≡ getD t x 0))

@@ -20,7 +20,7 @@ use Rattle.channel.specs.Map.Network.Loops.{FallsFrom}
 use Rattle.channel.specs.Map.Origins.{loaded-slot}
 use Rattle.audit.specs.Loops.{ringDarts, Closed}
 use Rattle.audit.specs.Loops.Dfs.{Edge, Dfs, Bared, Placed}
-use Rattle.audit.specs.Loops.Marks.{below-or}
+use Rattle.sums.specs.Tests.{below-or}
 use Rattle.audit.specs.Loops.Stack.{edge-node}
 
 -- a loaded dart is an edge of its spot

@@ -9,7 +9,8 @@ use lib.ListN.{getD}
 use Rattle.channel.specs.Map.{spots, rev, view}
 use Rattle.channel.specs.Map.LoadedSlots.{loadedFrom, from-end, from-small, from-some, from-laden, from-idle, from-half}
 use Rattle.audit.specs.Loops.Dfs.{Edge, Rest, Picked}
-use Rattle.audit.specs.Loops.Marks.{same-or, below-or}
+use Rattle.sums.specs.Tests.{below-or}
+use Rattle.audit.specs.Loops.Marks.{same-or}
 
 -- left has the loaded slots of u from k on, and those from k0 to before k lead only to spots that are done
 pub record Scanning (rec fin : List ℕ) (u k0 left k : ℕ) : Type 0 where

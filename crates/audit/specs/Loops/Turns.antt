@@ -13,7 +13,8 @@ use Rattle.channel.specs.Map.LoadedSlots.{loadedFrom, from-half}
 use Rattle.channel.specs.Map.Origins.{originOf}
 use Rattle.audit.specs.Loops.{Closed}
 use Rattle.audit.specs.Loops.Dfs.{Edge, Rest, Picked, unseen, Dfs, Kept, Turned, more, hit, Searched, over, ring, Traced}
-use Rattle.audit.specs.Loops.Marks.{below-or, after, unseen-less, unseen-same, kept-set}
+use Rattle.sums.specs.Tests.{below-or}
+use Rattle.audit.specs.Loops.Marks.{after, unseen-less, unseen-same, kept-set}
 use Rattle.audit.specs.Loops.Stack.{edge-node, Below, dfs-slot, dfs-push, dfs-pop}
 use Rattle.audit.specs.declared.loops.Turn.{Turn}
 use Rattle.audit.specs.declared.loops.Turn.the-variants.{More, Hit}
