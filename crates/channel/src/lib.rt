@@ -1,5 +1,6 @@
 // The channel map in code: the constant table, the job and the loads of a record, limits and moves. A crate above calls these functions by their contracts.
 pub mod table; // the table's rows, and the way back of a dart
+pub mod ahead; // the slots that lead to spots with no mark
 pub mod header; // the job that a record holds
 pub mod loads; // how many wires go along a dart
 pub mod limits; // how many wires a dart takes
@@ -7,6 +8,7 @@ pub mod places; // the places that darts lead to
 pub mod moves; // the moves of the search, and what a move stores
 pub mod write; // a new job, one mark or state, no wires
 
+pub use ahead::unmarked;
 pub use header::chosen_at;
 pub use header::columns;
 pub use header::diagonal;
