@@ -16,7 +16,7 @@ use Rattle.model.specs.Record.{loadPlane, cell, jobOf, load}
 use Rattle.cell.specs.Cell.{allFour, fits, room, linkFits, sidesFit, cornersFit, spokesFit, legsFit, linksFit}
 use Rattle.cell.specs.Cell.{evenAt, passesAt, tileEven, centreEven, startsOne, missingEven, pinsEven, placesEven}
 use Rattle.cell.specs.Cell.Tests.{first-true, second-true}
-use Rattle.cell.specs.Cell.Sums.{outTwo, outOne, two-none, one-none, north-even, east-even, south-even, west-even}
+use Rattle.cell.specs.Cell.Sums.{two-none, one-none, north-even, east-even, south-even, west-even}
 
 -- the bytes of four planes from p on are 0
 pub record Rest (rec : List ℕ) (p r c : ℕ) : Type 0 where
@@ -57,7 +57,7 @@ module _ (rec : List ℕ) (r c : ℕ) where
 
   link-rest : (k : LinkKind) → cell rec (loadPlane k) r c ≡ 0 → linkFits rec k r c ≡ true
   unfolding linkFits fits
-  link-rest k e = rw (e, leb·zero (room J (go k r c))) refl
+  link-rest k e = rw (e, leb·zero) refl
 
   corners-rest : Rest rec 4 r c → true ≡ cornersFit rec r c
   unfolding cornersFit allFour
