@@ -37,6 +37,7 @@ pub mod Origins
 pub mod Fresh
 pub mod Laden
 pub mod NextLoaded
+pub mod Ahead
 use mathlib.Core.Path.{_≡_}
 use mathlib.Core.Logic.{_⊎_}
 use mathlib.Core.Bool.{Bool, true, false, not, _&&_, _||_}

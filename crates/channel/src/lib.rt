@@ -1,5 +1,6 @@
 // The channel map in code: the constant table, the job and the loads of a record, limits and moves. A crate above calls these functions by their contracts.
 pub mod table; // the table's rows, and the way back of a dart
+pub mod ahead; // the slots that lead to spots with no mark
 pub mod header; // the job that a record holds
 pub mod loads; // how many wires go along a dart
 pub mod limits; // how many wires a dart takes
@@ -11,6 +12,7 @@ mod cell_places; // the loads at a cell's places
 pub mod cell; // all tests of a cell
 pub mod unused; // the bytes that nothing uses
 
+pub use ahead::unmarked;
 pub use cell::links_fit;
 pub use cell::places_even;
 pub use cell::values_fit;

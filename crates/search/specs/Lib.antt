@@ -12,6 +12,7 @@ pub mod Marks
 pub mod Spread
 pub mod Steps
 pub mod Queue
+pub mod Slots
 pub mod Ways
 pub mod Pins
 pub mod Shut

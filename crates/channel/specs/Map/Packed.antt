@@ -38,7 +38,7 @@ seatWords = 0x3938_2921_1911_1810 ∷ 0x0000_0b0a_0908_3b3a ∷ 0x1a12_132b_231b
 -- ---- the parts of a word
 
 -- one computed test of the n parts of each of the m words
-part : (m n : ℕ) (f g : ℕ → ℕ → ℕ) → T (below m (λ k. below n (λ j. eqb (f k j) (g k j)))) → {k w : ℕ} → k < m → k ≡ w → (j : ℕ) → j < n → f w j ≡ g k j
+pub part : (m n : ℕ) (f g : ℕ → ℕ → ℕ) → T (below m (λ k. below n (λ j. eqb (f k j) (g k j)))) → {k w : ℕ} → k < m → k ≡ w → (j : ℕ) → j < n → f w j ≡ g k j
 part m n f g t {k} l e j h =
     subst (λ (w : ℕ). f w j ≡ g k j) e
     (eqb→eq _ _ (below-at n (λ j. eqb (f k j) (g k j)) (below-at m (λ k. below n (λ j. eqb (f k j) (g k j))) t k l) j h))

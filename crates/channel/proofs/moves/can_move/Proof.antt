@@ -1,12 +1,16 @@
 -- `moves::can_move` meets its contract, code by code. Assumes nothing.
 use borrow.Author.Needs.{needs}
 use mathlib.Core.Path.{_≡_, sym, _∙_}
-use Prim.Native.Nat.{_%_, _<_}
+use mathlib.Core.Logic.{_≢_}
+use mathlib.Core.Bool.{_||_}
+use Prim.Native.Nat.{ℕ, zero-le, _%_, _≤_, _<_}
 use native.Mathlib.Omega.{arith}
+use lib.Dec.{T, eqb}
 use Rattle.model.specs.Record.{jobOf}
 use Rattle.channel.specs.Map.{codeOf}
 use Rattle.channel.specs.Map.Numbers.{is-dart}
 use Rattle.channel.specs.Map.Codes.{from-three}
+use Rattle.channel.specs.Map.Packed.{not-least}
 use Rattle.channel.specs.Map.Moving.{none-moves, centre-back-moves, missing-back-moves, link-back-moves, high-code}
 use Rattle.channel.proofs.moves.can_move.Statement.{statement}
 use Rattle.channel.proofs.moves.can_move.Tie as tie
@@ -19,18 +23,6 @@ side-move-requires c κs = search needs
 
 corner-move-requires : tie.Need-corner-move-requires
 corner-move-requires c κs = search needs
-
-spoke-move-requires : tie.Need-spoke-move-requires
-spoke-move-requires c κs =
-    let s = c .before .before .before .before in
-    let e : codeOf (s .args .d % 64) ≡ 3 = sym (c .before .code-of .ensures) ∙ c .match .keys4 in
-    (omega arith, omega arith, omega arith, from-three (codeOf (s .args .d % 64)) (omega arith) (omega arith))
-
-spoke-move-requires-2 : tie.Need-spoke-move-requires-2
-spoke-move-requires-2 c κs =
-    let s = c .before .before .before .before in
-    let e : codeOf (s .args .d % 64) ≡ 4 = sym (c .before .code-of .ensures) ∙ c .match .keys5 in
-    (omega arith, omega arith, omega arith, from-three (codeOf (s .args .d % 64)) (omega arith) (omega arith))
 
 centre-move-requires : tie.Need-centre-move-requires
 centre-move-requires c κs = search needs
@@ -49,6 +41,15 @@ centre-back-requires c κs = search needs
 
 missing-back-requires : tie.Need-missing-back-requires
 missing-back-requires c κs = search needs
+
+-- below 5 and none of 0, 1, 2
+spoke-code : (x y : ℕ) → x ≡ y → ((Unit {0} × (x ≢ 0)) × (x ≢ 1)) × (x ≢ 2) → x < 5 → T (eqb y 3 || eqb y 4)
+spoke-code x y e r m = let l : 3 ≤ x = not-least x 2 (not-least x 1 (not-least x 0 zero-le (r .0 .0 .1)) (r .0 .1)) (r .1) in from-three y (omega arith) (omega arith)
+
+spoke-move-requires : tie.Need-spoke-move-requires
+spoke-move-requires c κs =
+    let s = c .before .before .before .before .before in
+    (s .pre .0, s .pre .1, s .pre .2, spoke-code _ _ (c .before .before .code-of .ensures) (c .before .match .rest .0 .0 .0 .0 .0 .0) (c .if1 .taken))
 
 load-against-requires : tie.Need-load-against-requires
 load-against-requires c κs = search needs
@@ -77,35 +78,32 @@ returns-7 : tie.Need-returns-7
 returns-7 c = search needs
 
 returns-8 : tie.Need-returns-8
-returns-8 c = search needs
-
-returns-9 : tie.Need-returns-9
-returns-9 c = search needs
-
-returns-10 : tie.Need-returns-10
-returns-10 c =
+returns-8 c =
     let s = c .before .before .before .before .before in
     centre-back-moves (jobOf (s .args .job .now)) (s .args .loads .now) (s .args .d) (is-dart (s .pre .2))
-    (sym (c .before .before .code-of .ensures) ∙ c .before .match .keys10) _
+    (sym (c .before .before .code-of .ensures) ∙ c .before .match .keys8) _
     (c .centre-back .ensures)
+
+returns-9 : tie.Need-returns-9
+returns-9 c =
+    let s = c .before .before .before .before .before in
+    missing-back-moves (jobOf (s .args .job .now)) (s .args .loads .now) (s .args .d) (is-dart (s .pre .2))
+    (sym (c .before .before .code-of .ensures) ∙ c .before .match .keys9) _
+    (c .missing-back .ensures)
+
+returns-10 : tie.Need-returns-10
+returns-10 c = search needs
 
 returns-11 : tie.Need-returns-11
 returns-11 c =
-    let s = c .before .before .before .before .before in
-    missing-back-moves (jobOf (s .args .job .now)) (s .args .loads .now) (s .args .d) (is-dart (s .pre .2))
-    (sym (c .before .before .code-of .ensures) ∙ c .before .match .keys11) _
-    (c .missing-back .ensures)
-
-returns-12 : tie.Need-returns-12
-returns-12 c =
-    let s = c .before .before .before .before .before in
-    let e = c .before .before .code-of .ensures in
-    let n = c .before .match .rest in
+    let s = c .before .before .before .before .before .before in
+    let e = c .before .before .before .code-of .ensures in
+    let i = c .before .if1 .left in
+    let n = c .before .before .match .rest in
     let o = n .0 .0 in
     let h : 8 < codeOf (s .args .d % 64) =
-    high-code (codeOf (s .args .d % 64)) (λ q. o .0 .0 .0 .0 .0 .0 .0 .0 .1 (e ∙ q)) (λ q. o .0 .0 .0 .0 .0 .0 .0 .1 (e ∙ q))
-    (λ q. o .0 .0 .0 .0 .0 .0 .1 (e ∙ q))
-    (λ q. o .0 .0 .0 .0 .0 .1 (e ∙ q)) (λ q. o .0 .0 .0 .0 .1 (e ∙ q)) (λ q. o .0 .0 .0 .1 (e ∙ q)) (λ q. o .0 .0 .1 (e ∙ q)) (λ q. o .0 .1 (e ∙ q))
+    high-code (codeOf (s .args .d % 64)) (λ q. o .0 .0 .0 .0 .0 .0 .1 (e ∙ q)) (λ q. o .0 .0 .0 .0 .0 .1 (e ∙ q)) (λ q. o .0 .0 .0 .0 .1 (e ∙ q))
+    (λ q. omega (arith, e, i)) (λ q. omega (arith, e, i)) (λ q. o .0 .0 .0 .1 (e ∙ q)) (λ q. o .0 .0 .1 (e ∙ q)) (λ q. o .0 .1 (e ∙ q))
     (λ q. o .1 (e ∙ q)) in
     link-back-moves (jobOf (s .args .job .now)) (s .args .loads .now) (s .args .d) (is-dart (s .pre .2)) h (λ q. n .0 .1 (e ∙ q)) (λ q. n .1 (e ∙ q)) _
     (c .load-against .ensures .0)
@@ -117,14 +115,13 @@ can-move-spec =
     code-of-requires
     side-move-requires
     corner-move-requires
-    spoke-move-requires
-    spoke-move-requires-2
     centre-move-requires
     into-move-requires
     pin-move-requires
     missing-move-requires
     centre-back-requires
     missing-back-requires
+    spoke-move-requires
     load-against-requires
     returns
     returns-2
@@ -136,5 +133,4 @@ can-move-spec =
     returns-8
     returns-9
     returns-10
-    returns-11
-    returns-12)
+    returns-11)
