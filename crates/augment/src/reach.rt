@@ -1,11 +1,13 @@
 // The search for a way out: breadth-first from one spot along moves, never entering a marked spot. It works on what is lent to it.
 ghost use Prim.Native.Nat.{_<_};
 ghost use Rattle.model.specs.Record.{jobOf};
+ghost use Rattle.augment.specs.Slots.{Lowest};
 ghost use Rattle.augment.specs.Spread.{Room};
 ghost use Rattle.augment.specs.Steps.{Whole, Ready, Tried, Expanded, Searched, Fresh};
 use channel::can_move;
 use channel::head_of;
 use channel::is_outside;
+use channel::unmarked;
 
 // The way out: slot k of the j-th spot in the queue, which has n; or there is none, and the queue has n.
 pub enum Way {
@@ -38,11 +40,11 @@ fn attempt(
         (now (marks .exit)) (now (queue .exit)) (now (parent .exit)) (now (slot .exit)) s ⌝ }
 {
     let d = 8 * u + k;
-    let v = head_of(d);
-    if marks[v] == 1 {
+    if !can_move(job, loads, d) {
         return Step::More(n);
     }
-    if !can_move(job, loads, d) {
+    let v = head_of(d);
+    if marks[v] == 1 {
         return Step::More(n);
     }
     if is_outside(job, v) {
@@ -55,7 +57,15 @@ fn attempt(
     Step::More(n + 1)
 }
 
-// All slots of the spot u, which is the h-th in the queue of n, up to one that leads outside.
+// The place of the lowest bit of 1.
+fn lowest(x: usize) -> usize
+    requires { ⌜ (0 < x) × (x < 256) ⌝ }
+    ensures { λ r. ⌜ Lowest x r ⌝ }
+{
+    usize::trailing_zeros(x) as usize
+}
+
+// All slots of the spot u, which is the h-th in the queue of n, up to one that leads outside: those that lead to spots with no mark as it begins.
 fn expand(
     job: &[u8],
     loads: &[u8],
@@ -73,7 +83,11 @@ fn expand(
         (now (marks .exit)) (now (queue .exit)) (now (parent .exit)) (now (slot .exit)) s ⌝ }
 {
     let mut m = n;
-    for k in 0..8 {
+    let mut k = 0;
+    let mut left = unmarked(marks, u);
+    while left != 0 {
+        let skip = lowest(left);
+        k += skip;
         match attempt(job, loads, u, k, h, marks, queue, parent, slot, m) {
             Step::Exit(a, b) => {
                 return Step::Exit(a, b);
@@ -82,6 +96,8 @@ fn expand(
                 m = a;
             }
         }
+        k += 1;
+        left = left >> (skip + 1);
     }
     Step::More(m)
 }

@@ -18,28 +18,29 @@ mul-d c = search (needs, spots-is)
 add-d : tie.Need-add-d
 add-d c = search (needs, spots-is)
 
-head-of-requires : tie.Need-head-of-requires
-head-of-requires c κs = search (needs, spots-is)
-
-slice-read-if1 : tie.Need-slice-read-if1
-slice-read-if1 c = search (needs, spots-is)
-
-returns : tie.Need-returns
-returns c = old (λ m. rw (← c .before .before .head-of .ensures .0) (c .if1 .taken))
-
 can-move-requires : tie.Need-can-move-requires
 can-move-requires c κs = search (needs, spots-is)
 
+returns : tie.Need-returns
+returns c = old (λ m. absurd (no-not (c .before .can-move .ensures) (c .if1 .taken) m))
+
+head-of-requires : tie.Need-head-of-requires
+head-of-requires c κs = search (needs, spots-is)
+
+slice-read-if2 : tie.Need-slice-read-if2
+slice-read-if2 c = search (needs, spots-is)
+
 returns-2 : tie.Need-returns-2
-returns-2 c = old (λ m. absurd (no-not (c .before .can-move .ensures) (c .if2 .taken) m))
+returns-2 c = old (λ m. rw (← c .before .before .head-of .ensures .0) (c .if2 .taken))
 
 is-outside-requires : tie.Need-is-outside-requires
 is-outside-requires c κs = search needs
 
 returns-3 : tie.Need-returns-3
 returns-3 c =
-    exit (yes-not (c .before .before .before .can-move .ensures) (c .before .before .if2 .left))
-    (rw (← c .before .before .before .before .before .before .head-of .ensures .0) (yes (c .before .is-outside .ensures) (c .if3 .taken)))
+    let c4 = c .before .before .before .before in
+    exit (yes-not (c4 .before .before .can-move .ensures) (c4 .before .if1 .left))
+    (rw (← c4 .head-of .ensures .0) (yes (c .before .is-outside .ensures) (c .if3 .taken)))
 
 slice-write-marks : tie.Need-slice-write-marks
 slice-write-marks c = search (needs, spots-is)
@@ -53,12 +54,11 @@ mul-queue c = search needs
 -- a spot that is not marked leaves room
 room : (c : tie.Else3) → c .before .before .before .before .before .before .before .before .before .before .before .before .before .args .n < spots
 room c =
-    let c6 = c .before .before .before .before .before .before in
-    let c13 = c6 .before .before .before .before .before .before .before in
-    let s = c13 in
-    let v = c6 .head-of in
+    let c4 = c .before .before .before .before in
+    let s = c4 .before .before .before .before .before .before .before .before .before in
+    let v = c4 .head-of in
     let l : v .result < length (now (s .args .marks)) = omega (arith, spots-is, v .ensures .1, s .pre .0 .room .marks) in
-    omega (arith, s .pre .0 .count, mark-less (now (s .args .marks)) (v .result) (omega (arith, spots-is, v .ensures .1)) l (c .before .before .before .before .if1 .left))
+    omega (arith, s .pre .0 .count, mark-less (now (s .args .marks)) (v .result) (omega (arith, spots-is, v .ensures .1)) l (c .before .before .if2 .left))
 
 slice-write-queue : tie.Need-slice-write-queue
 slice-write-queue c =
@@ -101,9 +101,10 @@ same-length-4 c = search needs
 
 returns-4 : tie.Need-returns-4
 returns-4 c =
-    let v = c .before .before .before .before .before .before .head-of in
-    new (v .result) (omega (arith, spots-is, v .ensures .1)) (v .ensures .0) (yes-not (c .before .before .before .can-move .ensures) (c .before .before .if2 .left))
-    (no (c .before .is-outside .ensures) (c .if3 .left)) (c .before .before .before .before .if1 .left)
+    let c4 = c .before .before .before .before in
+    let v = c4 .head-of in
+    new (v .result) (omega (arith, spots-is, v .ensures .1)) (v .ensures .0) (yes-not (c4 .before .before .can-move .ensures) (c4 .before .if1 .left))
+    (no (c .before .is-outside .ensures) (c .if3 .left)) (c .before .before .if2 .left)
 
 pub attempt-spec : {M : Type 1} → statement M
 attempt-spec =
@@ -111,10 +112,10 @@ attempt-spec =
     (tie.spec
     mul-d
     add-d
-    head-of-requires
-    slice-read-if1
-    returns
     can-move-requires
+    returns
+    head-of-requires
+    slice-read-if2
     returns-2
     is-outside-requires
     returns-3

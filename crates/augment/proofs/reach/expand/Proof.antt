@@ -1,9 +1,11 @@
--- `reach::expand` meets its contract: the slots below k were tried. Assumes nothing.
+-- `reach::expand` meets its contract: the slots below k were tried, or led to marked spots as the spot was taken up. Assumes nothing.
 use borrow.Author.Needs.{needs}
-use Prim.Native.Nat.{_-_, _≤_}
-use mathlib.Core.Path.{_≡_, _∙_}
+use Prim.Native.Nat.{_-_}
+use mathlib.Core.Path.{_∙_}
 use native.Mathlib.Omega.{arith}
 use Rattle.model.specs.Record.{jobOf}
+use Rattle.channel.specs.Map.Numbers.{spots-is}
+use Rattle.augment.specs.Slots.{Rest, rest-all, left-small, none-left, next-slot, passed-off, rest-more, grown-past}
 use Rattle.augment.specs.Spread.{Alike}
 use Rattle.augment.specs.Steps.{Grown, more}
 use Rattle.augment.specs.Queue.{alike-refl, alike-then, grown-none, grown-more, grown-exit}
@@ -11,26 +13,40 @@ use Rattle.augment.proofs.reach.expand.Statement.{statement}
 use Rattle.augment.proofs.reach.expand.Tie as tie
 
 abbrev Inv-loop : tie.InvT-loop
-Inv-loop job loads u h marks₀ queue₀ parent₀ slot₀ n m₀ k₀ marks queue parent slot m k =
-    (k ≤ 8) × Alike marks₀ queue₀ parent₀ slot₀ marks queue parent slot
+Inv-loop job loads u h marks₀ queue₀ parent₀ slot₀ n m₀ k₀ left₀ marks queue parent slot m k left =
+    Alike marks₀ queue₀ parent₀ slot₀ marks queue parent slot
     × Grown (jobOf job) loads u k h marks₀ queue₀ parent₀ slot₀ n marks queue parent slot m
+    × Rest left₀ k left
 
 abbrev μ-loop : tie.MeasureT-loop
-μ-loop job loads u h marks₀ queue₀ parent₀ slot₀ n m₀ k₀ marks queue parent slot m k = 8 - k
+μ-loop job loads u h marks₀ queue₀ parent₀ slot₀ n m₀ k₀ left₀ marks queue parent slot m k left = 8 - k
+
+unmarked-requires : tie.Need-unmarked-requires Inv-loop μ-loop
+unmarked-requires c κs =
+    let p = c .before .before .before .before .before .before .before .pre in
+    (omega (arith, spots-is, p .room .marks), omega (arith, spots-is, p .spot))
 
 loop-holds : tie.Need-loop-holds Inv-loop μ-loop
 loop-holds c =
-    let c6 = c .before .before .before .before .before .before in
-    (omega arith, alike-refl _ _ _ _, grown-none (c6 .pre .room) (c6 .pre .count))
+    let p = c .before .before .before .before .before .before .before .before .pre in
+    (alike-refl _ _ _ _, grown-none (p .room) (p .count), rest-all _)
+
+lowest-requires : tie.Need-lowest-requires Inv-loop μ-loop
+lowest-requires c κs =
+    (omega (arith, c .loop-test .taken), left-small (c .before .before .unmarked .ensures) (c .before .loop .inv .2))
+
+add-k : tie.Need-add-k Inv-loop μ-loop
+add-k c = omega (arith, next-slot (c .before .before .before .unmarked .ensures) (c .before .before .loop .inv .2) (c .lowest .ensures))
 
 attempt-requires : tie.Need-attempt-requires Inv-loop μ-loop
 attempt-requires c κs =
-    let c5 = c .before .before .before .before .before in
-    let c12 = c5 .before .before .before .before .before .before .before in
-    let p = c12 .pre in
-    let g = c5 .loop .inv .2 in (
+    let c4 = c .before .before .before .before in
+    let c6 = c4 .before .before in
+    let c7 = c6 .before in
+    let p = c7 .before .before .before .before .before .before .before .before .pre in
+    let g = c6 .loop .inv .1 in (
       record { whole = p .whole; room = g .room; count = g .count; early = omega (arith, p .early, g .up); spot = p .spot },
-      omega (arith, c .before .before .before .before .loop-test .taken),
+      next-slot (c7 .unmarked .ensures) (c6 .loop .inv .2) (c4 .lowest .ensures),
     )
 
 enum-known-a : tie.Need-enum-known-a Inv-loop μ-loop
@@ -39,72 +55,110 @@ enum-known-a c = search needs
 same-length : tie.Need-same-length Inv-loop μ-loop
 same-length c =
     let c11 = c .before .before .before .before .before .before .before .before .before .before .before in
-    let c17 = c11 .before .before .before .before .before .before in
-    c11 .attempt .kept .1 .1 .1 .1 .1 .0 ∙ c17 .loop .inv .1 .marks
+    let c18 = c11 .before .before .before .before .before .before .before in
+    c11 .attempt .kept .1 .1 .1 .1 .1 .0 ∙ c18 .loop .inv .0 .marks
 
 same-length-2 : tie.Need-same-length-2 Inv-loop μ-loop
 same-length-2 c =
     let c11 = c .before .before .before .before .before .before .before .before .before .before .before in
-    let c17 = c11 .before .before .before .before .before .before in
-    c11 .attempt .kept .1 .1 .1 .1 .1 .1 .0 ∙ c17 .loop .inv .1 .queue
+    let c18 = c11 .before .before .before .before .before .before .before in
+    c11 .attempt .kept .1 .1 .1 .1 .1 .1 .0 ∙ c18 .loop .inv .0 .queue
 
 same-length-3 : tie.Need-same-length-3 Inv-loop μ-loop
 same-length-3 c =
     let c11 = c .before .before .before .before .before .before .before .before .before .before .before in
-    let c17 = c11 .before .before .before .before .before .before in
-    c11 .attempt .kept .1 .1 .1 .1 .1 .1 .1 .0 ∙ c17 .loop .inv .1 .parents
+    let c18 = c11 .before .before .before .before .before .before .before in
+    c11 .attempt .kept .1 .1 .1 .1 .1 .1 .1 .0 ∙ c18 .loop .inv .0 .parents
 
 same-length-4 : tie.Need-same-length-4 Inv-loop μ-loop
 same-length-4 c =
     let c11 = c .before .before .before .before .before .before .before .before .before .before .before in
-    let c17 = c11 .before .before .before .before .before .before in
-    c11 .attempt .kept .1 .1 .1 .1 .1 .1 .1 .1 .0 ∙ c17 .loop .inv .1 .slots
+    let c18 = c11 .before .before .before .before .before .before .before in
+    c11 .attempt .kept .1 .1 .1 .1 .1 .1 .1 .1 .0 ∙ c18 .loop .inv .0 .slots
 
 returns : tie.Need-returns Inv-loop μ-loop
 returns c =
     let c11 = c .before .before .before .before .before .before .before .before .before .before .before in
-    let c16 = c11 .before .before .before .before .before in
-    let c17 = c16 .before in
-    let c24 = c17 .before .before .before .before .before .before .before in
-    grown-exit (c17 .loop .inv .2) (c24 .pre .early) (omega (arith, c16 .loop-test .taken)) (c11 .attempt .ensures) (c .before .a .given .1)
+    let w = c11 .before .before .before .before .before .lowest .ensures in
+    let c18 = c11 .before .before .before .before .before .before .before in
+    let c19 = c18 .before in
+    let b = c19 .unmarked .ensures in
+    let s = c18 .loop .inv in
+    grown-exit (grown-past (s .1) (passed-off b (s .2) w)) (c19 .before .before .before .before .before .before .before .before .pre .early) (next-slot b (s .2) w) (c11 .attempt .ensures) (c .before .a .given .1)
 
 enum-known-a-2 : tie.Need-enum-known-a-2 Inv-loop μ-loop
 enum-known-a-2 c = search needs
 
-add-k : tie.Need-add-k Inv-loop μ-loop
-add-k c = search needs
+add-k-2 : tie.Need-add-k-2 Inv-loop μ-loop
+add-k-2 c =
+    let c11 = c .before .before .before .before .before .before .before .before .before .before .before in
+    let w = c11 .before .before .before .before .before .lowest .ensures in
+    let c18 = c11 .before .before .before .before .before .before .before in
+    let c19 = c18 .before in
+    let b = c19 .unmarked .ensures in
+    let s = c18 .loop .inv in
+    omega (arith, next-slot b (s .2) w)
+
+add-left : tie.Need-add-left Inv-loop μ-loop
+add-left c =
+    let c11 = c .before .before .before .before .before .before .before .before .before .before .before in
+    let w = c11 .before .before .before .before .before .lowest .ensures in
+    let c18 = c11 .before .before .before .before .before .before .before in
+    let c19 = c18 .before in
+    let b = c19 .unmarked .ensures in
+    let s = c18 .loop .inv in
+    omega (arith, next-slot b (s .2) w)
+
+shr-left : tie.Need-shr-left Inv-loop μ-loop
+shr-left c =
+    let c11 = c .before .before .before .before .before .before .before .before .before .before .before in
+    let w = c11 .before .before .before .before .before .lowest .ensures in
+    let c18 = c11 .before .before .before .before .before .before .before in
+    let c19 = c18 .before in
+    let b = c19 .unmarked .ensures in
+    let s = c18 .loop .inv in
+    omega (arith, next-slot b (s .2) w)
 
 loop-less : tie.Need-loop-less Inv-loop μ-loop
 loop-less c =
-    let c16 = c .before .before .before .before .before .before .before .before .before .before .before .before .before .before .before .before in
-    omega (arith, c16 .loop-test .taken)
+    let c11 = c .before .before .before .before .before .before .before .before .before .before .before in
+    let w = c11 .before .before .before .before .before .lowest .ensures in
+    let c18 = c11 .before .before .before .before .before .before .before in
+    let c19 = c18 .before in
+    let b = c19 .unmarked .ensures in
+    let s = c18 .loop .inv in
+    omega (arith, next-slot b (s .2) w)
 
 loop-again : tie.Need-loop-again Inv-loop μ-loop
 loop-again c =
     let c11 = c .before .before .before .before .before .before .before .before .before .before .before in
-    let c16 = c11 .before .before .before .before .before in
-    let c17 = c16 .before in
-    let c24 = c17 .before .before .before .before .before .before .before in
+    let w = c11 .before .before .before .before .before .lowest .ensures in
+    let c18 = c11 .before .before .before .before .before .before .before in
+    let c19 = c18 .before in
+    let b = c19 .unmarked .ensures in
+    let s = c18 .loop .inv in
     let k = c11 .attempt .kept .1 .1 .1 .1 .1 in (
-      omega (arith, c16 .loop-test .taken),
-      alike-then (c17 .loop .inv .1) (k .0) (k .1 .0) (k .1 .1 .0) (k .1 .1 .1 .0),
-      grown-more (c17 .loop .inv .2) (c24 .pre .early) (omega (arith, c16 .loop-test .taken)) (c11 .attempt .ensures) (c .before .a2 .given .1),
+      alike-then (s .0) (k .0) (k .1 .0) (k .1 .1 .0) (k .1 .1 .1 .0),
+      grown-more (grown-past (s .1) (passed-off b (s .2) w)) (c19 .before .before .before .before .before .before .before .before .pre .early) (next-slot b (s .2) w) (c11 .attempt .ensures) (c .before .a2 .given .1),
+      rest-more b (s .2) w,
     )
 
 same-length-5 : tie.Need-same-length-5 Inv-loop μ-loop
-same-length-5 c = c .before .loop .inv .1 .marks
+same-length-5 c = c .before .loop .inv .0 .marks
 
 same-length-6 : tie.Need-same-length-6 Inv-loop μ-loop
-same-length-6 c = c .before .loop .inv .1 .queue
+same-length-6 c = c .before .loop .inv .0 .queue
 
 same-length-7 : tie.Need-same-length-7 Inv-loop μ-loop
-same-length-7 c = c .before .loop .inv .1 .parents
+same-length-7 c = c .before .loop .inv .0 .parents
 
 same-length-8 : tie.Need-same-length-8 Inv-loop μ-loop
-same-length-8 c = c .before .loop .inv .1 .slots
+same-length-8 c = c .before .loop .inv .0 .slots
 
 returns-2 : tie.Need-returns-2 Inv-loop μ-loop
-returns-2 c = let e : c .before .loop .k ≡ 8 = omega arith in more (rw e at (c .before .loop .inv .2))
+returns-2 c =
+    let s = c .before .loop .inv in
+    more (grown-past (s .1) (none-left (c .before .before .unmarked .ensures) (s .2) (c .loop-test .left)))
 
 pub expand-spec : {M : Type 1} → statement M
 expand-spec =
@@ -112,7 +166,10 @@ expand-spec =
     (tie.spec
     Inv-loop
     μ-loop
+    unmarked-requires
     loop-holds
+    lowest-requires
+    add-k
     attempt-requires
     enum-known-a
     same-length
@@ -121,7 +178,9 @@ expand-spec =
     same-length-4
     returns
     enum-known-a-2
-    add-k
+    add-k-2
+    add-left
+    shr-left
     loop-less
     loop-again
     same-length-5

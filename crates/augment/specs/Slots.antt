@@ -1,0 +1,97 @@
+-- The slots of a spot that are still to be tried, as the bits of a number: those that lead to spots with no mark as the spot is taken up. Assumes nothing.
+use mathlib.Core.Path.{_≡_, refl, sym, ap, _∙_}
+use mathlib.Core.Bool.{Bool, true, false, not, _&&_, _||_}
+use mathlib.Core.List.{List}
+use Prim.Native.Nat.{ℕ, _+_, _-_, _*_, _/_, _%_, _^_, _≤_, _<_}
+use native.Mathlib.Nat.{pow-le-pow-right, div-eq-of-lt, zero-div, div-div-eq-div-mul, div-le-self}
+use native.Mathlib.Omega.{arith}
+use borrow.Author.Tests.{ltb-true, ltb-false}
+use lib.Count.{trailingZeros}
+use lib.Dec.{T, eqb, eqb→eq, ltb, ltb→lt, lt→ltb}
+use lib.ListN.{getD}
+use lib.Pow.{pow-add}
+use Rattle.sums.specs.Tests.{below, below-at, and-left, and-right, if-so}
+use Rattle.model.specs.Job.{Job}
+use Rattle.channel.specs.Map.{rev, moves}
+use Rattle.channel.specs.Map.Ahead.{Bits, unset, marked}
+use Rattle.augment.specs.Steps.{Grown}
+
+-- ---- the lowest bit
+
+-- the lowest bit of 1 of x stands at r
+pub record Lowest (x r : ℕ) : Type 0 where
+  pub here : x / 2 ^ r % 2 ≡ 1
+  pub under : (j : ℕ) → j < r → x / 2 ^ j % 2 ≡ 0
+
+unfoldable isLowest : ℕ → ℕ → Bool
+isLowest x r = ltb r 8 && (eqb (x / 2 ^ r % 2) 1 && below 8 (λ j. not (ltb j r) || eqb (x / 2 ^ j % 2) 0))
+
+lowest-test : (x r : ℕ) → T (isLowest x r) → Lowest x r
+unfolding isLowest
+lowest-test x r t =
+    let s = and-right (ltb r 8) _ t in
+    record {
+      here = eqb→eq _ _ (and-left (eqb (x / 2 ^ r % 2) 1) _ s);
+      under = λ j l. eqb→eq _ _ (if-so (ltb j r) _ (below-at 8 (λ j. not (ltb j r) || eqb (x / 2 ^ j % 2) 0) (and-right (eqb (x / 2 ^ r % 2) 1) _ s) j
+          (omega (arith, ltb→lt r 8 (and-left (ltb r 8) _ t)))) (lt→ltb j r l));
+    }
+
+pub lowest-is : (x : ℕ) → 0 < x → x < 256 → Lowest x (trailingZeros 64 x)
+unfolding below isLowest trailingZeros
+lowest-is x s l =
+    lowest-test x (trailingZeros 64 x)
+    (if-so (ltb 0 x) _ (below-at 256 (λ x. not (ltb 0 x) || isLowest x (trailingZeros 64 x)) tt x l) (lt→ltb 0 x s))
+
+-- ---- what is left of the bits
+
+-- k slots are passed, and the bits of r above them are left
+pub record Rest (r k left : ℕ) : Type 0 where
+  pub upto : k ≤ 8
+  pub bits : left ≡ r / 2 ^ k
+
+pub rest-all : (r : ℕ) → Rest r 0 r
+rest-all r = record { upto = omega arith; bits = omega arith }
+
+module _ {f : ℕ → ℕ} {r k left : ℕ} (b : Bits 8 f r) (s : Rest r k left) where
+  pub left-small : left < 256
+  left-small = omega (arith, s .bits, b .small, div-le-self r (2 ^ k))
+
+  beyond : (i : ℕ) → left / 2 ^ i ≡ r / 2 ^ (k + i)
+  beyond i = ap (λ (x : ℕ). x / 2 ^ i) (s .bits) ∙ div-div-eq-div-mul r (2 ^ k) (2 ^ i) ∙ ap (λ (x : ℕ). r / x) (sym (pow-add 2 k i))
+
+  off : (j : ℕ) → k ≤ j → j < 8 → left / 2 ^ (j - k) % 2 ≡ 0 → f j ≡ 0
+  off j l m e =
+      let q : k + (j - k) ≡ j = omega arith in
+      sym (b .each j m) ∙ ap (λ (x : ℕ). r / 2 ^ x % 2) (sym q) ∙ ap (λ (x : ℕ). x % 2) (sym (beyond (j - k))) ∙ e
+
+  -- no bit is left
+  pub none-left : left ≡ 0 → (j : ℕ) → k ≤ j → j < 8 → f j ≡ 0
+  none-left z j l m = off j l m (ap (λ (x : ℕ). x / 2 ^ (j - k) % 2) z ∙ ap (λ (x : ℕ). x % 2) (zero-div (2 ^ (j - k))))
+
+  module _ {i : ℕ} (w : Lowest left i) where
+    -- the next bit is one of the eight
+    pub next-slot : k + i < 8
+    next-slot = by (ltb (k + i) 8) refl
+      where
+        by : (a : Bool) → ltb (k + i) 8 ≡ a → k + i < 8
+        by true e = ltb-true (k + i) 8 e
+        by false e =
+            let p : 2 ^ 8 ≤ 2 ^ (k + i) = pow-le-pow-right {n = 2} (omega arith) (ltb-false (k + i) 8 e) in
+            let z : left / 2 ^ i ≡ 0 = beyond i ∙ div-eq-of-lt (omega (arith, b .small)) in
+            absurd (omega (arith, w .here))
+
+    pub passed-off : (j : ℕ) → k ≤ j → j < k + i → f j ≡ 0
+    passed-off j l m = off j l (omega (arith, next-slot)) (w .under (j - k) (omega arith))
+
+    pub rest-more : Rest r (k + i + 1) (left / 2 ^ (i + 1))
+    rest-more = record { upto = omega (arith, next-slot); bits = beyond (i + 1) ∙ ap (λ (x : ℕ). r / 2 ^ x) (omega arith) }
+
+-- slots that lead to marked spots are tried
+pub grown-past : {J : Job} {rec : List ℕ} {u k k' h : ℕ} {t q f w : List ℕ} {n : ℕ} {t' q' f' w' : List ℕ} {n' : ℕ} → Grown J rec u k h t q f w n t' q' f' w' n'
+    → ((j : ℕ) → k ≤ j → j < k' → unset t (rev (8 * u + j) / 8) ≡ 0) → Grown J rec u k' h t q f w n t' q' f' w' n'
+grown-past {J} {rec} {u} {k} {k'} {t = t} {t' = t'} g z =
+    record { room = g .room; count = g .count; up = g .up; keep = g .keep; marks = g .marks; done = λ j l m. by j l m (ltb j k) refl; spread = g .spread }
+  where
+    by : (j : ℕ) → j < k' → T (moves J rec (8 * u + j)) → (a : Bool) → ltb j k ≡ a → getD t' (rev (8 * u + j) / 8) 0 ≡ 1
+    by j l m true e = g .done j (ltb-true j k e) m
+    by j l m false e = g .marks (rev (8 * u + j) / 8) (marked t (rev (8 * u + j) / 8) (z j (ltb-false j k e) l))
