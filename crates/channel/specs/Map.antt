@@ -38,6 +38,7 @@ pub mod Fresh
 pub mod Laden
 pub mod LoadedSlots
 pub mod Ahead
+pub mod Slots
 use mathlib.Core.Path.{_≡_}
 use mathlib.Core.Logic.{_⊎_}
 use mathlib.Core.Bool.{Bool, true, false, not, _&&_, _||_}

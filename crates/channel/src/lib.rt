@@ -6,6 +6,7 @@ pub mod loads; // how many wires go along a dart
 pub mod limits; // how many wires a dart takes
 pub mod places; // the places that darts lead to
 pub mod moves; // the moves of the search, and what a move stores
+pub mod slots; // the slots along which the search may move
 pub mod write; // a new job, one mark or state, no wires
 
 pub use ahead::unmarked;
@@ -41,6 +42,7 @@ pub use moves::is_outside;
 pub use moves::is_start;
 pub use moves::lay;
 pub use moves::wire_starts;
+pub use slots::move_slots;
 pub use table::head_of;
 pub use table::reverse;
 pub use write::set_mark;

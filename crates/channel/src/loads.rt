@@ -23,14 +23,14 @@ use crate::table::seat_of;
 use crate::table::sign_of;
 
 // What a byte has along the link's positive way.
-fn forth(b: usize) -> usize
+pub fn forth(b: usize) -> usize
     ensures { λ r. ⌜ (r ≡ forthPart b) × (r ≤ b) ⌝ }
 {
     if b < 32 { b } else { 0 }
 }
 
 // What it has against it.
-fn back(b: usize) -> usize
+pub fn back(b: usize) -> usize
     ensures { λ r. ⌜ (r ≡ backPart b) × (r ≤ b) ⌝ }
 {
     if b < 32 { 0 } else { b - 32 }
@@ -200,8 +200,8 @@ fn last_loaded(rec: &[u8], u: usize) -> bool
 }
 
 // A test as a bit.
-fn bit(b: bool) -> usize
-    ensures { λ r. ⌜ r ≡ when b 1 ⌝ }
+pub fn bit(b: bool) -> usize
+    ensures { λ r. ⌜ (r ≡ when b 1) × (r < 2) ⌝ }
 {
     if b { 1 } else { 0 }
 }

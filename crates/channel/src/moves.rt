@@ -81,7 +81,7 @@ fn corner_move(job: &[u8], loads: &[u8], d: usize) -> bool
 }
 
 // To or from a centre: no wire the other way.
-fn spoke_move(job: &[u8], loads: &[u8], d: usize) -> bool
+pub fn spoke_move(job: &[u8], loads: &[u8], d: usize) -> bool
     requires { ⌜ (32768 ≤ length (now job)) × (32768 ≤ length (now loads)) × (d < 105024) × T (eqb (codeOf (d % 64)) 3 || eqb (codeOf (d % 64)) 4) ⌝ }
     ensures { λ b. ⌜ b ≡ moves (jobOf (now (job .entry))) (now (loads .entry)) d ⌝ }
 {
@@ -118,7 +118,7 @@ fn pin_move(job: &[u8], loads: &[u8], d: usize) -> bool
 }
 
 // Through a centre: fewer than its limit pass.
-fn centre_move(job: &[u8], loads: &[u8], d: usize) -> bool
+pub fn centre_move(job: &[u8], loads: &[u8], d: usize) -> bool
     requires { ⌜ (32768 ≤ length (now job)) × (32768 ≤ length (now loads)) × (d < 105024) × (codeOf (d % 64) ≡ 5) ⌝ }
     ensures { λ b. ⌜ b ≡ moves (jobOf (now (job .entry))) (now (loads .entry)) d ⌝ }
 {
@@ -140,7 +140,7 @@ fn missing_move(job: &[u8], loads: &[u8], d: usize) -> bool
 }
 
 // Back through a centre: some wire passes.
-fn centre_back(loads: &[u8], d: usize) -> bool
+pub fn centre_back(loads: &[u8], d: usize) -> bool
     requires { ⌜ (32768 ≤ length (now loads)) × (d < 105024) ⌝ }
     ensures { λ b. ⌜ b ≡ throughCentre (now (loads .entry)) (d / 64) ⌝ }
 {

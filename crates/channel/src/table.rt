@@ -27,7 +27,7 @@ const SEATS: [usize; 4] = [
 
 // Twice the place of the link's byte, counted from the dart's cell, and 1 more against the link's positive way; 1 from an entry to its exit, and 0 where
 // no wire goes: 16 bits for each of four rows.
-const PLACES: [usize; 16] = [
+pub const PLACES: [usize; 16] = [
     0x0000_0000_0000_0000,
     0x0000_0000_0000_0001,
     0xc12e_b4ae_a82e_9bae,

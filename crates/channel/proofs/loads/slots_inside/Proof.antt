@@ -5,7 +5,7 @@ use Prim.Native.Nat.{ℕ, _+_, _-_, _*_, _%_, _≤_, _<_}
 use native.Mathlib.Omega.{arith}
 use denote.Ref.{now}
 use Rattle.channel.specs.Map.Laden.{place-bound, no-passage, slot-test}
-use Rattle.channel.specs.Map.LoadedSlots.{loadedFrom, bit-small, from-small, from-last, from-before}
+use Rattle.channel.specs.Map.LoadedSlots.{loadedFrom, from-small, from-last, from-before}
 use Rattle.channel.proofs.loads.slots_inside.Statement.{statement}
 use Rattle.channel.proofs.loads.slots_inside.Tie as tie
 
@@ -28,7 +28,7 @@ bit-requires : tie.Need-bit-requires Inv-loop μ-loop
 bit-requires c κs = search needs
 
 loop-holds : tie.Need-loop-holds Inv-loop μ-loop
-loop-holds c = (omega arith, c .bit .ensures ∙ from-last _ _ _ (c .before .last-loaded .ensures))
+loop-holds c = (omega arith, c .bit .ensures .0 ∙ from-last _ _ _ (c .before .last-loaded .ensures))
 
 sub-k : tie.Need-sub-k Inv-loop μ-loop
 sub-k c = search needs
@@ -66,7 +66,7 @@ add-r : tie.Need-add-r Inv-loop μ-loop
 add-r c =
     let l = c .before .before .before .loop in
     let s = c .before .before .before .before .before .before .before .before .args in
-    omega (arith, l .inv .1, from-small (now (s .rec)) (s .u) (l .k), c .bit2 .ensures, bit-small (c .before .loaded-at .result))
+    omega (arith, l .inv .1, from-small (now (s .rec)) (s .u) (l .k), c .bit2 .ensures .1)
 
 loop-less : tie.Need-loop-less Inv-loop μ-loop
 loop-less c = omega (arith, c .before .before .loop-test .taken)
@@ -80,7 +80,7 @@ loop-again c =
     let h : l .k - 1 < 4 = omega (arith, l .inv .0, t) in
     let q = slot-test (now (s .rec)) (s .u) (l .k - 1) _ _ h (p .ensures (l .k - 1) h) (c .before .loaded-at .ensures) in (
       omega (arith, l .inv .0),
-      ap (λ (x : ℕ). 2 * l .r + x) (c .bit2 .ensures) ∙ from-before (now (s .rec)) (s .u) (l .k) (l .r) _ t (omega (arith, l .inv .0)) (l .inv .1) q,
+      ap (λ (x : ℕ). 2 * l .r + x) (c .bit2 .ensures .0) ∙ from-before (now (s .rec)) (s .u) (l .k) (l .r) _ t (omega (arith, l .inv .0)) (l .inv .1) q,
     )
 
 returns : tie.Need-returns Inv-loop μ-loop
