@@ -10,11 +10,12 @@ use lib.Dec.{T, eqb, eqb·suc-zero, leb, ltb, ltb→lt, lt→ltb}
 use lib.ListN.{getD}
 use Rattle.sums.specs.Counting.{when}
 use Rattle.sums.specs.Tests.{Same, same, other, same?, below, below-at, and-left, and-right, and-both, both-ways}
-use Rattle.model.specs.Record.{forthPart, backPart}
+use Rattle.model.specs.Record.{forthPart, backPart, load}
+use Rattle.channel.specs.Map.{ownerCell, stepOf, opposed, address}
 use Rattle.channel.specs.Map.{inGrid, links, owners, signs, codes, carries, isPassage, isPassDart, view, kindOf, ownerOf, signOf, codeOf, placeOf}
 use Rattle.channel.specs.Map.Bools.{if-so, is-off, or-false}
 use Rattle.channel.specs.Map.Bounds.{owner-bound, sign-bound, code-bound}
-use Rattle.channel.specs.Map.Bytes.{kept-in, along-forth, along-back, carries-no-pass, view-link, view-none}
+use Rattle.channel.specs.Map.Bytes.{kept-in, along-forth, along-back, against-forth, against-back, carries-no-pass, view-link, view-none}
 
 -- ---- tests of a load
 
@@ -111,17 +112,35 @@ module _ (rec : List ℕ) (d w : ℕ) (e : placeOf (d % 64) ≡ w) where
     at-link : getD rec (w / 2 + x) 0 ≡ getD rec (3927 + 1600 * kindOf (d % 64) + (d / 64 + ownerOf (d % 64))) 0
     at-link = ap (λ (y : ℕ). getD rec y 0) (omega (arith, stands .word, sign-bound (d % 64) (omega arith)))
 
-    laden-forth : w % 2 ≡ 0 → (b : ℕ) → b ≡ getD rec (w / 2 + x) 0 → (ltb 0 b && ltb b 32) ≡ ltb 0 (view rec d)
-    laden-forth z b q =
-        let k = kept-in rec d (ownerOf (d % 64)) refl (kindOf (d % 64)) refl (omega arith) (omega (arith, owner-bound (d % 64) (omega arith))) in
-        let s : signOf (d % 64) ≡ 0 = omega (arith, stands .word, sign-bound (d % 64) (omega arith)) in
-        forth-test b ∙ ap (ltb 0) (along-forth rec d b (signOf (d % 64)) (q ∙ (at-link ∙ k)) refl s ∙ view-link rec d (stands .carried))
+    kept-at : (b : ℕ) → b ≡ getD rec (w / 2 + x) 0 → b ≡ when (inGrid (ownerCell d)) (getD rec (address d) 0)
+    kept-at b q =
+        q ∙ (at-link ∙ kept-in rec d (ownerOf (d % 64)) refl (kindOf (d % 64)) refl (omega arith) (omega (arith, owner-bound (d % 64) (omega arith))))
 
-    laden-back : w % 2 ≢ 0 → (b : ℕ) → b ≡ getD rec (w / 2 + x) 0 → ltb 32 b ≡ ltb 0 (view rec d)
-    laden-back z b q =
-        let k = kept-in rec d (ownerOf (d % 64)) refl (kindOf (d % 64)) refl (omega arith) (omega (arith, owner-bound (d % 64) (omega arith))) in
-        let s : signOf (d % 64) ≢ 0 = λ y. z (omega (arith, stands .word)) in
-        back-test b ∙ ap (ltb 0) (along-back rec d b (signOf (d % 64)) (q ∙ (at-link ∙ k)) refl s ∙ view-link rec d (stands .carried))
+    sign-even : w % 2 ≡ 0 → signOf (d % 64) ≡ 0
+    sign-even z = omega (arith, stands .word, sign-bound (d % 64) (omega arith))
+
+    sign-odd : w % 2 ≢ 0 → signOf (d % 64) ≢ 0
+    sign-odd z = λ y. z (omega (arith, stands .word))
+
+    -- what goes along the dart's link its way, and the other way, by the byte
+    module _ (b : ℕ) (q : b ≡ getD rec (w / 2 + x) 0) where
+      pub even-along : w % 2 ≡ 0 → forthPart b ≡ when (inGrid (ownerCell d)) (load rec (stepOf d))
+      even-along z = along-forth rec d b (signOf (d % 64)) (kept-at b q) refl (sign-even z)
+
+      pub odd-along : w % 2 ≢ 0 → backPart b ≡ when (inGrid (ownerCell d)) (load rec (stepOf d))
+      odd-along z = along-back rec d b (signOf (d % 64)) (kept-at b q) refl (sign-odd z)
+
+      pub even-against : w % 2 ≡ 0 → backPart b ≡ opposed rec d
+      even-against z = against-back rec d b (signOf (d % 64)) (kept-at b q) refl (sign-even z)
+
+      pub odd-against : w % 2 ≢ 0 → forthPart b ≡ opposed rec d
+      odd-against z = against-forth rec d b (signOf (d % 64)) (kept-at b q) refl (sign-odd z)
+
+      laden-forth : w % 2 ≡ 0 → (ltb 0 b && ltb b 32) ≡ ltb 0 (view rec d)
+      laden-forth z = forth-test b ∙ ap (ltb 0) (even-along z ∙ view-link rec d (stands .carried))
+
+      laden-back : w % 2 ≢ 0 → ltb 32 b ≡ ltb 0 (view rec d)
+      laden-back z = back-test b ∙ ap (ltb 0) (odd-along z ∙ view-link rec d (stands .carried))
 
   -- by the way that the word says, and the byte
   pub laden : (x : ℕ) → d / 64 ≡ x → w ≢ 1 → 41 ≤ x → x < 1600 → (b : ℕ) → b ≡ getD rec (w / 2 + x) 0
@@ -132,8 +151,8 @@ module _ (rec : List ℕ) (d w : ℕ) (e : placeOf (d % 64) ≡ w) where
           → (((not s && t) && (ltb 0 b && ltb b 32)) || (not t && ltb 32 b)) ≡ ltb 0 (view rec d)
       by true (same y) true (same z) = unladen y
       by true (same y) false (other z) = absurd (z (omega arith))
-      by false (other y) true (same z) = or-false (ltb 0 b && ltb b 32) ∙ laden-forth x h y p l m z b q
-      by false (other y) false (other z) = laden-back x h y p l m z b q
+      by false (other y) true (same z) = or-false (ltb 0 b && ltb b 32) ∙ laden-forth x h y p l m b q z
+      by false (other y) false (other z) = laden-back x h y p l m b q z
 
 -- ---- by the word of four slots
 

@@ -21,7 +21,7 @@ lastSlots rec u (suc c) = when (ltb 0 (view rec (8 * u + (4 - c)))) 1 + 2 * last
 pub loadedFrom : List ℕ → ℕ → ℕ → ℕ
 loadedFrom rec u k = lastSlots rec u (5 - k)
 
-pub bit-small : (b : Bool) → when b 1 < 2
+bit-small : (b : Bool) → when b 1 < 2
 bit-small true = omega arith
 bit-small false = omega arith
 

@@ -185,7 +185,7 @@ under-one n = both-ways (ltb n 1) (eqb n 0) (λ t. so (eq-eqb n 0 (omega (arith,
 
 module _ (J : Job) (rec : List ℕ) (d : ℕ) (l : d < darts) where
   -- sides and corners
-  plain-moves : (codeOf (d % 64) ≡ 1) ⊎ (codeOf (d % 64) ≡ 2)
+  pub plain-moves : (codeOf (d % 64) ≡ 1) ⊎ (codeOf (d % 64) ≡ 2)
       → moves J rec d ≡ (ltb (when (inGrid (ownerCell d)) (load rec (stepOf d))) (cap J d) || ltb 0 (opposed rec d))
   unfolding carries backCode
   plain-moves (inl e) =
@@ -205,14 +205,14 @@ module _ (J : Job) (rec : List ℕ) (d : ℕ) (l : d < darts) where
       rw (plain-moves w, q, f, g) (sym (or-false (ltb (when (inGrid (ownerCell d)) (load rec (stepOf d))) (cap J d))))
 
   -- to and from a centre, and to a missing pin
-  spoke-moves : (codeOf (d % 64) ≡ 3) ⊎ (codeOf (d % 64) ≡ 4) → moves J rec d ≡ (free J d && eqb (opposed rec d) 0)
+  pub spoke-moves : (codeOf (d % 64) ≡ 3) ⊎ (codeOf (d % 64) ≡ 4) → moves J rec d ≡ (free J d && eqb (opposed rec d) 0)
   unfolding carries isPassage backCode
   spoke-moves (inl e) =
       free-moves J rec d (cap-none J d (omega arith) (omega arith) (omega arith) (omega arith) (omega arith)) (back-none rec d 3 l e refl refl)
   spoke-moves (inr e) =
       free-moves J rec d (cap-none J d (omega arith) (omega arith) (omega arith) (omega arith) (omega arith)) (back-none rec d 4 l e refl refl)
 
-  into-moves : codeOf (d % 64) ≡ 6 → moves J rec d ≡ (free J d && eqb (opposed rec d) 0)
+  pub into-moves : codeOf (d % 64) ≡ 6 → moves J rec d ≡ (free J d && eqb (opposed rec d) 0)
   unfolding carries isPassage backCode
   into-moves e = free-moves J rec d (cap-into J d e) (back-none rec d 6 l e refl refl)
 

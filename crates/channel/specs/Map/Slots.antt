@@ -1,17 +1,260 @@
--- The slots of a spot along which the search may move, as the bits of a number. Assumes nothing.
-use mathlib.Core.Path.{_≡_, refl, sym, ap, subst, _∙_}
-use mathlib.Core.Bool.{Bool, true, false}
-use Prim.Native.Nat.{ℕ, _+_, _*_, _<_}
+-- The slots of a spot along which the search may move, as the bits of a number: by the spot's kind, what each slot comes to. Assumes nothing.
+use mathlib.Core.Path.{_≡_, refl, sym, ap, ap₂, subst, _∙_}
+use mathlib.Core.Logic.{_≢_, inl, inr}
+use mathlib.Core.Bool.{Bool, true, false, not, _&&_, _||_}
+use mathlib.Core.List.{List, [], _∷_}
+use Prim.Native.Nat.{ℕ, _+_, _*_, _/_, _%_, _^_, _≤_, _<_}
 use native.Mathlib.Omega.{arith}
+use borrow.Author.Tests.{ltb-false}
+use lib.Dec.{T, eqb, eqb→eq, leb, le→leb, ltb, ltb→lt, lt→ltb}
+use lib.ListN.{getD}
 use Rattle.sums.specs.Counting.{when}
-use Rattle.channel.specs.Map.Ahead.{Bits, four-bits}
+use Rattle.sums.specs.Tests.{and-left, and-right, and-both, below, below-at}
+use Rattle.model.specs.Job.{Job, isOpen}
+use Rattle.model.specs.Record.{load}
+use Rattle.channel.specs.Map.{links, owners, signs, codes, kindOf, ownerOf, signOf, codeOf, carries, isPassage, placeOf}
+use Rattle.channel.specs.Map.{darts, inGrid, rowOf, columnOf, ownerCell, stepOf, cap, free, opposed, moves}
+use Rattle.channel.specs.Map.Ahead.{Bits, four-bits, eight-bits}
+use Rattle.channel.specs.Map.Bools.{if-so}
+use Rattle.channel.specs.Map.Caps.{cap-corner}
+use Rattle.channel.specs.Map.Laden.{inside, place-bound}
+use Rattle.channel.specs.Map.Moving.{plain-moves, spoke-moves, into-moves, link-back-moves, centre-back-moves, none-moves, throughCentre}
+use Rattle.channel.specs.Map.Numbers.{is-dart}
+use Rattle.channel.specs.Map.Packed.{placeWords, place-word, not-least}
 
 -- ---- tests as bits
 
-pub four-tests : (f : ℕ → Bool) {p q r s : Bool} {a b c d : ℕ} → (a ≡ when p 1) × (a < 2) → (b ≡ when q 1) × (b < 2) → (c ≡ when r 1) × (c < 2)
-    → (d ≡ when s 1) × (d < 2) → p ≡ f 0 → q ≡ f 1 → r ≡ f 2 → s ≡ f 3 → Bits 4 (λ k. when (f k) 1) (a + 2 * b + 4 * c + 8 * d)
-four-tests f (ea, la) (eb, lb) (ec, lc) (ed, ld) p q r s =
-    four-bits {f = λ k. when (f k) 1} (ea ∙ on p) (eb ∙ on q) (ec ∙ on r) (ed ∙ on s) la lb lc ld
+-- r is the test b as a bit
+abbrev pub Bit : Bool → ℕ → Type 0
+Bit b r = (r ≡ when b 1) × (r < 2)
+
+-- a test that is known by another, or known to fail
+pub by-test : {a b : Bool} {r : ℕ} → a ≡ b → Bit a r → Bit b r
+by-test e (f, l) = (f ∙ ap (λ (b : Bool). when b 1) e, l)
+
+no-test : {b : Bool} → false ≡ b → Bit b 0
+no-test e = (ap (λ (b : Bool). when b 1) e, omega arith)
+
+pub four-tests : (f : ℕ → Bool) {a b c d : ℕ} → Bit (f 0) a → Bit (f 1) b → Bit (f 2) c → Bit (f 3) d
+    → Bits 4 (λ k. when (f k) 1) (a + 2 * b + 4 * c + 8 * d)
+four-tests f (ea, la) (eb, lb) (ec, lc) (ed, ld) = four-bits {f = λ k. when (f k) 1} ea eb ec ed la lb lc ld
+
+eight-tests : (f : ℕ → Bool) {a b c d e g h i : ℕ} → Bit (f 0) a → Bit (f 1) b → Bit (f 2) c → Bit (f 3) d → Bit (f 4) e → Bit (f 5) g → Bit (f 6) h
+    → Bit (f 7) i
+    → {r : ℕ} → r ≡ a + 2 * b + 4 * c + 8 * d + 16 * (e + 2 * g + 4 * h + 8 * i) → Bits 8 (λ k. when (f k) 1) r
+eight-tests f a b c d e g h i q =
+    subst (Bits 8 (λ k. when (f k) 1)) (sym q) (eight-bits (four-tests f a b c d) (four-tests (λ j. f (4 + j)) e g h i) (λ j l. refl) (λ j l. refl))
+
+-- the same darts, from another number that is the first
+pub bits-from : (g : ℕ → ℕ) {a b r : ℕ} → a ≡ b → Bits 8 (λ k. g (a + k)) r → Bits 8 (λ k. g (b + k)) r
+bits-from g {a} {b} {r} e t = subst (λ (x : ℕ). Bits 8 (λ k. g (x + k)) r) e t
+
+-- a spot that is no pin, in a cell that has all its neighbours
+pub inner : (x k : ℕ) → ((ltb x 41 || leb 1600 x) || ltb k 2) ≡ false → (41 ≤ x) × (x < 1600) × (2 ≤ k)
+inner x k e = by (ltb x 41 || leb 1600 x) refl (ltb k 2) refl e
   where
-    on : {a b : Bool} → a ≡ b → when a 1 ≡ when b 1
-    on e = ap (λ (b : Bool). when b 1) e
+    by : (a : Bool) → (ltb x 41 || leb 1600 x) ≡ a → (b : Bool) → ltb k 2 ≡ b → (a || b) ≡ false → (41 ≤ x) × (x < 1600) × (2 ≤ k)
+    by true p b q z = absurd (subst T z tt)
+    by false p true q z = absurd (subst T z tt)
+    by false p false q z = let (l, m) = inside x p in (l, m, ltb-false k 2 q)
+
+-- ---- the slots of a centre
+
+module _ (J : Job) (rec : List ℕ) (d : ℕ) where
+  -- a slot that leads back along a link
+  link-slot : (c : ℕ) → d < 105024 → codeOf (d % 64) ≡ c → 8 < c → c ≢ 11 → c ≢ 14 → {n : ℕ} → n ≡ opposed rec d → ltb 0 n ≡ moves J rec d
+  link-slot c l e h p q {n} f = link-back-moves J rec d (is-dart l) (omega arith) (λ z. p (sym e ∙ z)) (λ z. q (sym e ∙ z)) n f
+
+row-is : (d i : ℕ) → d % 64 ≡ i → codeOf (d % 64) ≡ codeOf i
+row-is d i e = ap codeOf e
+
+-- the code from an entry to its exit, and those of the exit
+pub pass-code : (d : ℕ) → d % 64 ≡ 52 → codeOf (d % 64) ≡ 5
+unfolding codeOf codes
+pass-code d e = row-is d 52 e
+
+pub exit-code : (d : ℕ) → 56 ≤ d % 64 → d % 64 < 60 → T (eqb (codeOf (d % 64)) 3 || eqb (codeOf (d % 64)) 4)
+unfolding below codeOf codes
+exit-code d l m =
+    if-so (leb 56 (d % 64) && ltb (d % 64) 60) (eqb (codeOf (d % 64)) 3 || eqb (codeOf (d % 64)) 4)
+    (below-at 64 (λ i. not (leb 56 i && ltb i 60) || (eqb (codeOf i) 3 || eqb (codeOf i) 4)) tt (d % 64) (omega arith))
+    (and-both (leb 56 (d % 64)) (ltb (d % 64) 60) (le→leb 56 (d % 64) l) (lt→ltb (d % 64) 60 m))
+
+module _ (J : Job) (rec : List ℕ) (d : ℕ) (l : d + 7 < 105024) where
+  pub entry-bits : d % 64 ≡ 48 → {a b c e p m n r s : ℕ} {t : Bool} → m ≡ opposed rec d → n ≡ opposed rec (d + 1) → r ≡ opposed rec (d + 2)
+      → s ≡ opposed rec (d + 3)
+      → t ≡ moves J rec (d + 4)
+      → Bit (ltb 0 m) a
+      → Bit (ltb 0 n) b
+      → Bit (ltb 0 r) c
+      → Bit (ltb 0 s) e
+      → Bit t p
+      → Bits 8 (λ k. when (moves J rec (d + k)) 1) (a + 2 * b + 4 * c + 8 * e + 16 * p)
+  unfolding codeOf codes
+  entry-bits z f g h i q u v w x y =
+      eight-tests (λ k. moves J rec (d + k)) (by-test (link-slot J rec d 9 (omega arith) (row-is d 48 z) (omega arith) (omega arith) (omega arith) f ∙ ap (moves J rec) (omega arith)) u)
+      (by-test (link-slot J rec (d + 1) 9 (omega arith) (row-is (d + 1) 49 (omega arith)) (omega arith) (omega arith) (omega arith) g) v)
+      (by-test (link-slot J rec (d + 2) 9 (omega arith) (row-is (d + 2) 50 (omega arith)) (omega arith) (omega arith) (omega arith) h) w)
+      (by-test (link-slot J rec (d + 3) 9 (omega arith) (row-is (d + 3) 51 (omega arith)) (omega arith) (omega arith) (omega arith) i) x)
+      (by-test q y) (no-test (none-moves J rec (d + 5) (is-dart (omega arith)) (row-is (d + 5) 53 (omega arith))))
+      (no-test (none-moves J rec (d + 6) (is-dart (omega arith)) (row-is (d + 6) 54 (omega arith))))
+      (no-test (none-moves J rec (d + 7) (is-dart (omega arith)) (row-is (d + 7) 55 (omega arith)))) (omega arith)
+
+  pub exit-bits : d % 64 ≡ 56 → {a b c e p : ℕ} {m n r s t : Bool} → m ≡ moves J rec d → n ≡ moves J rec (d + 1) → r ≡ moves J rec (d + 2)
+      → s ≡ moves J rec (d + 3)
+      → t ≡ throughCentre rec ((d + 4) / 64)
+      → Bit m a
+      → Bit n b
+      → Bit r c
+      → Bit s e
+      → Bit t p
+      → Bits 8 (λ k. when (moves J rec (d + k)) 1) (a + 2 * b + 4 * c + 8 * e + 16 * p)
+  unfolding codeOf codes
+  exit-bits z {t = t} f g h i q u v w x y =
+      eight-tests (λ k. moves J rec (d + k)) (by-test (f ∙ ap (moves J rec) (omega arith)) u) (by-test g v) (by-test h w) (by-test i x)
+      (by-test (centre-back-moves J rec (d + 4) (is-dart (omega arith)) (row-is (d + 4) 60 (omega arith)) t q) y)
+      (no-test (none-moves J rec (d + 5) (is-dart (omega arith)) (row-is (d + 5) 61 (omega arith))))
+      (no-test (none-moves J rec (d + 6) (is-dart (omega arith)) (row-is (d + 6) 62 (omega arith))))
+      (no-test (none-moves J rec (d + 7) (is-dart (omega arith)) (row-is (d + 7) 63 (omega arith)))) (omega arith)
+
+-- ---- the slots of n, e, s and w
+
+-- fewer wires than most go along the dart's link its way, or some the other way
+abbrev pub hasRoom : List ℕ → ℕ → ℕ → Bool
+hasRoom rec d most = ltb (when (inGrid (ownerCell d)) (load rec (stepOf d))) most || ltb 0 (opposed rec d)
+
+-- p and q are the place words of slots 0 to 3 and of slot 4, at a spot of kind k
+pub record Words (k p q : ℕ) : Type 0 where
+  pub first : (j : ℕ) → j < 4 → p / 2 ^ (j * 16) % 65536 ≡ placeOf (8 * k + j)
+  pub last : q % 65536 ≡ placeOf (8 * k + 4)
+
+pub words : {k : ℕ} (w : ℕ) → k < 8 → k ≡ w → Words k (getD placeWords (2 * w) 0) (getD placeWords (2 * w + 1) 0)
+words {k} w l e =
+    record {
+      first = λ j h. place-word {k = 2 * k} {w = 2 * w} (omega arith) (omega arith) j h ∙ ap placeOf (omega arith);
+      last = let q : 4 * (2 * k + 1) + 0 ≡ 8 * k + 4 = omega arith in
+          omega (arith, place-word {k = 2 * k + 1} {w = 2 * w + 1} (omega arith) (omega arith) 0 (omega arith), ap placeOf q);
+    }
+
+-- the last kind is the one that is none of the others
+pub from-five : (k : ℕ) → 2 ≤ k → k < 6 → ((Unit {0} × (k ≢ 2)) × (k ≢ 3)) × (k ≢ 4) → k ≡ 5
+from-five k l m r = let h : 5 ≤ k = not-least k 4 (not-least k 3 (not-least k 2 l (r .0 .0 .1)) (r .0 .1)) (r .1) in omega arith
+
+-- their rows
+abbrev onSide : ℕ → Bool
+onSide i = leb 2 (i / 8) && ltb (i / 8) 6
+
+abbrev sideCodes : List ℕ
+sideCodes = 1 ∷ 2 ∷ 3 ∷ 2 ∷ 6 ∷ 10 ∷ 0 ∷ 13 ∷ []
+
+row-code : (i : ℕ) → i < 64 → T (onSide i) → codeOf i ≡ getD sideCodes (i % 8) 0
+unfolding below codeOf codes
+row-code i l t =
+    eqb→eq _ _
+    (if-so (onSide i) (eqb (codeOf i) (getD sideCodes (i % 8) 0)) (below-at 64 (λ i. not (onSide i) || eqb (codeOf i) (getD sideCodes (i % 8) 0)) tt i l) t)
+
+-- slots 0 to 4 have links
+row-place : (i : ℕ) → i < 64 → T (onSide i && ltb (i % 8) 5) → 1 < placeOf i
+unfolding below placeOf carries isPassage codes codeOf links kindOf owners ownerOf signs signOf
+row-place i l t =
+    ltb→lt _ _
+    (if-so (onSide i && ltb (i % 8) 5) (ltb 1 (placeOf i)) (below-at 64 (λ i. not (onSide i && ltb (i % 8) 5) || ltb 1 (placeOf i)) tt i l) t)
+
+-- slots 5 and 7 have the links of slots 2 and 4
+abbrev shares : ℕ → Bool
+shares i = onSide i && (eqb (i % 8) 2 || eqb (i % 8) 4)
+
+abbrev sameLink : ℕ → Bool
+sameLink i = eqb (kindOf i) (kindOf (i + 3)) && (eqb (ownerOf i) (ownerOf (i + 3)) && eqb (signOf i) (signOf (i + 3)))
+
+row-same : (i : ℕ) → i < 64 → T (shares i) → T (sameLink i)
+unfolding below links kindOf owners ownerOf signs signOf
+row-same i l t = if-so (shares i) (sameLink i) (below-at 64 (λ i. not (shares i) || sameLink i) tt i l) t
+
+opposed-same : (rec : List ℕ) (d e : ℕ) → e ≡ d + 3 → d % 64 + 3 < 64 → T (shares (d % 64)) → opposed rec d ≡ opposed rec e
+unfolding opposed ownerCell stepOf
+opposed-same rec d e q h t =
+    let i = row-same (d % 64) (omega arith) t in
+    let r : d % 64 + 3 ≡ e % 64 = omega arith in
+    let x : d / 64 ≡ e / 64 = omega arith in
+    let k : kindOf (d % 64) ≡ kindOf (e % 64) = eqb→eq _ _ (and-left (eqb (kindOf (d % 64)) (kindOf (d % 64 + 3))) _ i) ∙ ap kindOf r in
+    let j = and-right (eqb (kindOf (d % 64)) (kindOf (d % 64 + 3))) _ i in
+    let o : ownerOf (d % 64) ≡ ownerOf (e % 64) = eqb→eq _ _ (and-left (eqb (ownerOf (d % 64)) (ownerOf (d % 64 + 3))) _ j) ∙ ap ownerOf r in
+    let s : signOf (d % 64) ≡ signOf (e % 64) =
+    eqb→eq _ _ (and-right (eqb (ownerOf (d % 64)) (ownerOf (d % 64 + 3))) (eqb (signOf (d % 64)) (signOf (d % 64 + 3))) j) ∙ ap signOf r in
+    rw (k, o, s, x)
+
+module _ (u : ℕ) (m : 2 ≤ u % 8) (n : u % 8 < 6) where
+  on-side : (i j : ℕ) → j < 8 → i ≡ 8 * (u % 8) + j → T (onSide i)
+  on-side i j l e = and-both (leb 2 (i / 8)) (ltb (i / 8) 6) (le→leb 2 (i / 8) (omega arith)) (lt→ltb (i / 8) 6 (omega arith))
+
+  -- the code of slot j
+  pub slot-code : (d j : ℕ) → j < 8 → d ≡ 8 * u + j → codeOf (d % 64) ≡ getD sideCodes j 0
+  slot-code d j l e =
+      let r : d % 64 ≡ 8 * (u % 8) + j = omega arith in
+      let k : d % 64 % 8 ≡ j = omega arith in
+      row-code (d % 64) (omega arith) (on-side (d % 64) j l r) ∙ ap (λ (x : ℕ). getD sideCodes x 0) k
+
+  link-place : (i j : ℕ) → j < 5 → i ≡ 8 * (u % 8) + j → 1 < placeOf i
+  link-place i j l e =
+      row-place i (omega arith) (and-both (onSide i) (ltb (i % 8) 5) (on-side i j (omega arith) e) (lt→ltb (i % 8) 5 (omega arith)))
+
+  module _ {p q : ℕ} (w : Words (u % 8) p q) where
+    pub first-word : (j : ℕ) → j < 4 → (1 < p / 2 ^ (j * 16) % 65536) × (p / 2 ^ (j * 16) % 65536 < 50000)
+    first-word j l =
+        let i = 8 * (u % 8) + j in
+        rw (w .first j l) (link-place i j (omega arith) refl, place-bound i (omega arith))
+
+    pub last-word : (1 < q % 65536) × (q % 65536 < 50000)
+    last-word =
+        let i = 8 * (u % 8) + 4 in
+        rw (w .last) (link-place i 4 (omega arith) refl, place-bound i (omega arith))
+
+    pub first-row : (d j : ℕ) → j < 4 → d ≡ 8 * u + j → placeOf (d % 64) ≡ p / 2 ^ (j * 16) % 65536
+    first-row d j l e = ap placeOf (omega arith) ∙ sym (w .first j l)
+
+    pub last-row : placeOf ((8 * u + 4) % 64) ≡ q % 65536
+    last-row = ap placeOf (omega arith) ∙ sym (w .last)
+
+  module _ (J : Job) (rec : List ℕ) (l : u < 13128) where
+    dart : (j : ℕ) → j < 8 → 8 * u + j < darts
+    dart j h = is-dart (omega arith)
+
+    corner-cap : cap J (8 * u + 1) ≡ cap J (8 * u + 3)
+    corner-cap =
+        let e : (8 * u + 1) / 64 ≡ (8 * u + 3) / 64 = omega arith in
+        cap-corner J (8 * u + 1) (slot-code (8 * u + 1) 1 (omega arith) refl)
+        ∙ ap (λ (x : ℕ). when (inGrid x && isOpen J (rowOf x) (columnOf x)) (J .O / 2)) e
+        ∙ sym (cap-corner J (8 * u + 3) (slot-code (8 * u + 3) 3 (omega arith) refl))
+
+    back-load : (j : ℕ) → j < 5 → T (eqb j 2 || eqb j 4) → opposed rec (8 * u + j) ≡ opposed rec (8 * u + (j + 3))
+    back-load j h t =
+        let i : (8 * u + j) % 64 ≡ 8 * (u % 8) + j = omega arith in
+        let k : (8 * u + j) % 64 % 8 ≡ j = omega arith in
+        opposed-same rec (8 * u + j) (8 * u + (j + 3)) (omega arith) (omega arith)
+        (and-both (onSide ((8 * u + j) % 64)) _ (on-side ((8 * u + j) % 64) j (omega arith) i) (subst (λ (x : ℕ). T (eqb x 2 || eqb x 4)) (sym k) t))
+
+    pub side-bits : {across half spoke leg : ℕ} {free₀ free₁ : Bool} → across ≡ cap J (8 * u) → half ≡ cap J (8 * u + 1) → free₀ ≡ free J (8 * u + 2)
+        → free₁ ≡ free J (8 * u + 4)
+        → spoke ≡ opposed rec (8 * u + 2)
+        → leg ≡ opposed rec (8 * u + 4)
+        → {a b c d e g h : ℕ}
+        → Bit (hasRoom rec (8 * u) across) a
+        → Bit (hasRoom rec (8 * u + 1) half) b
+        → Bit (free₀ && eqb spoke 0) c
+        → Bit (hasRoom rec (8 * u + 3) half) d
+        → Bit (free₁ && eqb leg 0) e
+        → Bit (ltb 0 spoke) g
+        → Bit (ltb 0 leg) h
+        → Bits 8 (λ k. when (moves J rec (8 * u + k)) 1) (a + 2 * b + 4 * c + 8 * d + 16 * e + 32 * g + 128 * h)
+    side-bits ea eh f₀ f₁ es el a b c d e g h =
+        eight-tests (λ k. moves J rec (8 * u + k))
+        (by-test (ap (hasRoom rec (8 * u)) ea ∙ sym (plain-moves J rec (8 * u) (is-dart (omega arith)) (inl (slot-code (8 * u) 0 (omega arith) (omega arith)))) ∙ ap (moves J rec) (omega arith)) a)
+        (by-test (ap (hasRoom rec (8 * u + 1)) eh ∙ sym (plain-moves J rec (8 * u + 1) (dart 1 (omega arith)) (inr (slot-code (8 * u + 1) 1 (omega arith) refl)))) b)
+        (by-test (ap₂ (λ (t : Bool) (n : ℕ). t && eqb n 0) f₀ es ∙ sym (spoke-moves J rec (8 * u + 2) (dart 2 (omega arith)) (inl (slot-code (8 * u + 2) 2 (omega arith) refl)))) c)
+        (by-test (ap (hasRoom rec (8 * u + 3)) (eh ∙ corner-cap) ∙ sym (plain-moves J rec (8 * u + 3) (dart 3 (omega arith)) (inr (slot-code (8 * u + 3) 3 (omega arith) refl)))) d)
+        (by-test (ap₂ (λ (t : Bool) (n : ℕ). t && eqb n 0) f₁ el ∙ sym (into-moves J rec (8 * u + 4) (dart 4 (omega arith)) (slot-code (8 * u + 4) 4 (omega arith) refl))) e)
+        (by-test (link-slot J rec (8 * u + 5) 10 (omega arith) (slot-code (8 * u + 5) 5 (omega arith) refl) (omega arith) (omega arith) (omega arith) (es ∙ back-load 2 (omega arith) tt)) g)
+        (no-test (none-moves J rec (8 * u + 6) (dart 6 (omega arith)) (slot-code (8 * u + 6) 6 (omega arith) refl)))
+        (by-test (link-slot J rec (8 * u + 7) 13 (omega arith) (slot-code (8 * u + 7) 7 (omega arith) refl) (omega arith) (omega arith) (omega arith) (el ∙ back-load 4 (omega arith) tt)) h)
+        (omega arith)

@@ -6,7 +6,7 @@ use native.Mathlib.Omega.{arith}
 use denote.Ref.{now}
 use Rattle.model.specs.Record.{jobOf}
 use Rattle.channel.specs.Map.{moves}
-use Rattle.channel.specs.Map.Slots.{four-tests}
+use Rattle.channel.specs.Map.Slots.{by-test, four-tests}
 use Rattle.channel.proofs.slots.four_moves.Statement.{statement}
 use Rattle.channel.proofs.slots.four_moves.Tie as tie
 
@@ -71,9 +71,10 @@ returns c =
     let c6 = c5 .before in
     let c7 = c6 .before in
     let s = c7 .before .before .before .args in
-    four-tests (λ k. moves (jobOf (now (s .job))) (now (s .loads)) (s .d + k)) (c6 .bit .ensures) (c4 .bit2 .ensures) (c2 .bit3 .ensures)
-    (c .bit4 .ensures) (c7 .can-move .ensures ∙ ap (moves (jobOf (now (s .job))) (now (s .loads))) (omega arith)) (c5 .can-move2 .ensures)
-    (c3 .can-move3 .ensures) (c1 .can-move4 .ensures)
+    four-tests (λ k. moves (jobOf (now (s .job))) (now (s .loads)) (s .d + k))
+    (by-test (c7 .can-move .ensures ∙ ap (moves (jobOf (now (s .job))) (now (s .loads))) (omega arith)) (c6 .bit .ensures))
+    (by-test (c5 .can-move2 .ensures) (c4 .bit2 .ensures)) (by-test (c3 .can-move3 .ensures) (c2 .bit3 .ensures))
+    (by-test (c1 .can-move4 .ensures) (c .bit4 .ensures))
 
 pub four-moves-spec : {M : Type 1} → statement M
 four-moves-spec =
