@@ -1,16 +1,19 @@
--- The slots of a spot that are still to be tried, as the bits of a number: those that lead to spots with no mark as the spot is taken up. Assumes nothing.
-use mathlib.Core.Path.{_≡_, refl, sym, ap, _∙_}
+-- The slots of a spot that are still to be tried, as the bits of a number: the moves that lead to spots with no mark as the spot is taken up. Assumes
+-- nothing.
+use mathlib.Core.Path.{_≡_, refl, sym, ap, ap₂, _∙_}
 use mathlib.Core.Bool.{Bool, true, false, not, _&&_, _||_}
 use mathlib.Core.List.{List}
-use Prim.Native.Nat.{ℕ, _+_, _-_, _*_, _/_, _%_, _^_, _≤_, _<_}
-use native.Mathlib.Nat.{pow-le-pow-right, div-eq-of-lt, zero-div, div-div-eq-div-mul, div-le-self}
+use Prim.Native.Nat.{ℕ, zero, suc, min, _+_, _-_, _*_, _/_, _%_, _^_, _≤_, _<_}
+use native.Mathlib.Nat.{mul-comm, pow-suc, pow-le-pow-right, div-eq-of-lt, zero-div, div-div-eq-div-mul, div-le-self}
 use native.Mathlib.Omega.{arith}
 use borrow.Author.Tests.{ltb-true, ltb-false}
+use lib.Bits.{bitAnd, and-step, and-le-l}
 use lib.Count.{trailingZeros}
 use lib.Dec.{T, eqb, eqb→eq, ltb, ltb→lt, lt→ltb}
 use lib.ListN.{getD}
 use lib.Pow.{pow-add}
-use Rattle.sums.specs.Tests.{below, below-at, and-left, and-right, if-so}
+use Rattle.sums.specs.Counting.{when}
+use Rattle.sums.specs.Tests.{so, below, below-at, and-left, and-right, if-so}
 use Rattle.model.specs.Job.{Job}
 use Rattle.channel.specs.Map.{rev, moves}
 use Rattle.channel.specs.Map.Ahead.{Bits, unset, marked}
@@ -41,6 +44,44 @@ unfolding below isLowest trailingZeros
 lowest-is x s l =
     lowest-test x (trailingZeros 64 x)
     (if-so (ltb 0 x) _ (below-at 256 (λ x. not (ltb 0 x) || isLowest x (trailingZeros 64 x)) tt x l) (lt→ltb 0 x s))
+
+-- ---- the bits of two numbers
+
+and-bit : (k a b : ℕ) → bitAnd a b / 2 ^ k % 2 ≡ min (a / 2 ^ k % 2) (b / 2 ^ k % 2)
+and-bit zero a b = omega (arith, and-step a b)
+and-bit (suc k) a b =
+    let half : (x : ℕ) → x / 2 ^ suc k ≡ x / 2 / 2 ^ k = λ x. ap (λ (y : ℕ). x / y) (pow-suc 2 k ∙ mul-comm (2 ^ k) 2) ∙ sym (div-div-eq-div-mul x 2 (2 ^ k)) in
+    let next : bitAnd a b / 2 ≡ bitAnd (a / 2) (b / 2) = omega (arith, and-step a b) in
+    rw (half (bitAnd a b), half a, half b, next) (and-bit k (a / 2) (b / 2))
+
+pub bits-both : {n : ℕ} {f g : ℕ → ℕ} {a b : ℕ} → Bits n f a → Bits n g b → Bits n (λ k. min (f k) (g k)) (bitAnd a b)
+bits-both {n} {f} {g} {a} {b} p q =
+    record {
+      small = omega (arith, and-le-l a b, p .small);
+      each = λ k l. and-bit k a b ∙ ap₂ min (p .each k l) (q .each k l);
+    }
+
+-- 1 where slot k of u is a move to a spot with no mark
+unfoldable pub goesOn : Job → List ℕ → List ℕ → ℕ → ℕ → ℕ
+goesOn J rec t u k = min (unset t (rev (8 * u + k) / 8)) (when (moves J rec (8 * u + k)) 1)
+
+module _ (J : Job) (rec t : List ℕ) (u k : ℕ) where
+  -- no such slot: its move leads to a marked spot
+  pub off-marked : goesOn J rec t u k ≡ 0 → T (moves J rec (8 * u + k)) → getD t (rev (8 * u + k) / 8) 0 ≡ 1
+  unfolding goesOn
+  off-marked z m = by (moves J rec (8 * u + k)) m z
+    where
+      by : (b : Bool) → T b → min (unset t (rev (8 * u + k) / 8)) (when b 1) ≡ 0 → getD t (rev (8 * u + k) / 8) 0 ≡ 1
+      by true m z = marked t (rev (8 * u + k) / 8) (omega arith)
+      by false m z = absurd m
+
+  pub on-moves : goesOn J rec t u k ≡ 1 → T (moves J rec (8 * u + k))
+  unfolding goesOn
+  on-moves e = by (moves J rec (8 * u + k)) e
+    where
+      by : (b : Bool) → min (unset t (rev (8 * u + k) / 8)) (when b 1) ≡ 1 → T b
+      by true e = tt
+      by false e = absurd (omega arith)
 
 -- ---- what is left of the bits
 
@@ -80,18 +121,21 @@ module _ {f : ℕ → ℕ} {r k left : ℕ} (b : Bits 8 f r) (s : Rest r k left)
             let z : left / 2 ^ i ≡ 0 = beyond i ∙ div-eq-of-lt (omega (arith, b .small)) in
             absurd (omega (arith, w .here))
 
+    pub next-on : f (k + i) ≡ 1
+    next-on = sym (b .each (k + i) next-slot) ∙ ap (λ (x : ℕ). x % 2) (sym (beyond i)) ∙ w .here
+
     pub passed-off : (j : ℕ) → k ≤ j → j < k + i → f j ≡ 0
     passed-off j l m = off j l (omega (arith, next-slot)) (w .under (j - k) (omega arith))
 
     pub rest-more : Rest r (k + i + 1) (left / 2 ^ (i + 1))
     rest-more = record { upto = omega (arith, next-slot); bits = beyond (i + 1) ∙ ap (λ (x : ℕ). r / 2 ^ x) (omega arith) }
 
--- slots that lead to marked spots are tried
+-- slots by which the search does not go on are tried
 pub grown-past : {J : Job} {rec : List ℕ} {u k k' h : ℕ} {t q f w : List ℕ} {n : ℕ} {t' q' f' w' : List ℕ} {n' : ℕ} → Grown J rec u k h t q f w n t' q' f' w' n'
-    → ((j : ℕ) → k ≤ j → j < k' → unset t (rev (8 * u + j) / 8) ≡ 0) → Grown J rec u k' h t q f w n t' q' f' w' n'
+    → ((j : ℕ) → k ≤ j → j < k' → goesOn J rec t u j ≡ 0) → Grown J rec u k' h t q f w n t' q' f' w' n'
 grown-past {J} {rec} {u} {k} {k'} {t = t} {t' = t'} g z =
     record { room = g .room; count = g .count; up = g .up; keep = g .keep; marks = g .marks; done = λ j l m. by j l m (ltb j k) refl; spread = g .spread }
   where
     by : (j : ℕ) → j < k' → T (moves J rec (8 * u + j)) → (a : Bool) → ltb j k ≡ a → getD t' (rev (8 * u + j) / 8) 0 ≡ 1
     by j l m true e = g .done j (ltb-true j k e) m
-    by j l m false e = g .marks (rev (8 * u + j) / 8) (marked t (rev (8 * u + j) / 8) (z j (ltb-false j k e) l))
+    by j l m false e = g .marks (rev (8 * u + j) / 8) (off-marked J rec t u j (z j (ltb-false j k e) l) m)

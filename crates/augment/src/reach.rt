@@ -1,12 +1,16 @@
 // The search for a way out: breadth-first from one spot along moves, never entering a marked spot. It works on what is lent to it.
-ghost use Prim.Native.Nat.{_<_};
+ghost use Prim.Native.Nat.{_+_, _*_, _≤_, _<_};
+ghost use lib.Dec.{T};
+ghost use lib.ListN.{length};
 ghost use Rattle.model.specs.Record.{jobOf};
-ghost use Rattle.augment.specs.Slots.{Lowest};
+ghost use Rattle.channel.specs.Map.{spots, moves};
+ghost use Rattle.channel.specs.Map.Ahead.{Bits};
+ghost use Rattle.augment.specs.Slots.{Lowest, goesOn};
 ghost use Rattle.augment.specs.Spread.{Room};
 ghost use Rattle.augment.specs.Steps.{Whole, Ready, Tried, Expanded, Searched, Fresh};
-use channel::can_move;
 use channel::head_of;
 use channel::is_outside;
+use channel::move_slots;
 use channel::unmarked;
 
 // The way out: slot k of the j-th spot in the queue, which has n; or there is none, and the queue has n.
@@ -21,7 +25,7 @@ enum Step {
     More(usize),
 }
 
-// Slot k of the spot u, which is the h-th in the queue of n.
+// Slot k of the spot u, a move; u is the h-th in the queue of n.
 fn attempt(
     job: &[u8],
     loads: &[u8],
@@ -34,16 +38,12 @@ fn attempt(
     slot: &mut [u8],
     n: usize,
 ) -> Step
-    requires { ⌜ Ready (now job) (now loads) (now marks) (now queue) (now parent) (now slot) u h n × (k < 8) ⌝ }
+    requires { ⌜ Ready (now job) (now loads) (now marks) (now queue) (now parent) (now slot) u h n × (k < 8) × T (moves (jobOf (now job)) (now loads) (8 * u + k)) ⌝ }
     ensures { λ s. ⌜ Tried (jobOf (now (job .entry))) (now (loads .entry)) u k h
         (now (marks .entry)) (now (queue .entry)) (now (parent .entry)) (now (slot .entry)) n
         (now (marks .exit)) (now (queue .exit)) (now (parent .exit)) (now (slot .exit)) s ⌝ }
 {
-    let d = 8 * u + k;
-    if !can_move(job, loads, d) {
-        return Step::More(n);
-    }
-    let v = head_of(d);
+    let v = head_of(8 * u + k);
     if marks[v] == 1 {
         return Step::More(n);
     }
@@ -65,7 +65,15 @@ fn lowest(x: usize) -> usize
     usize::trailing_zeros(x) as usize
 }
 
-// All slots of the spot u, which is the h-th in the queue of n, up to one that leads outside: those that lead to spots with no mark as it begins.
+// The slots of u by which the search goes on: moves to spots with no mark.
+fn onward(job: &[u8], loads: &[u8], marks: &[u8], u: usize) -> usize
+    requires { ⌜ Whole (now job) (now loads) × (spots ≤ length (now marks)) × (u < spots) ⌝ }
+    ensures { λ r. ⌜ Bits 8 (goesOn (jobOf (now (job .entry))) (now (loads .entry)) (now (marks .entry)) u) r ⌝ }
+{
+    unmarked(marks, u) & move_slots(job, loads, u)
+}
+
+// All slots of the spot u, which is the h-th in the queue of n, up to one that leads outside: the moves to spots with no mark as it begins.
 fn expand(
     job: &[u8],
     loads: &[u8],
@@ -84,7 +92,7 @@ fn expand(
 {
     let mut m = n;
     let mut k = 0;
-    let mut left = unmarked(marks, u);
+    let mut left = onward(job, loads, marks, u);
     while left != 0 {
         let skip = lowest(left);
         k += skip;

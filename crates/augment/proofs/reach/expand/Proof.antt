@@ -1,11 +1,10 @@
--- `reach::expand` meets its contract: the slots below k were tried, or led to marked spots as the spot was taken up. Assumes nothing.
+-- `reach::expand` meets its contract: the slots below k were tried, or are no moves to spots with no mark as the spot was taken up. Assumes nothing.
 use borrow.Author.Needs.{needs}
 use Prim.Native.Nat.{_-_}
 use mathlib.Core.Path.{_∙_}
 use native.Mathlib.Omega.{arith}
 use Rattle.model.specs.Record.{jobOf}
-use Rattle.channel.specs.Map.Numbers.{spots-is}
-use Rattle.augment.specs.Slots.{Rest, rest-all, left-small, none-left, next-slot, passed-off, rest-more, grown-past}
+use Rattle.augment.specs.Slots.{Rest, rest-all, left-small, none-left, on-moves, next-slot, next-on, passed-off, rest-more, grown-past}
 use Rattle.augment.specs.Spread.{Alike}
 use Rattle.augment.specs.Steps.{Grown, more}
 use Rattle.augment.specs.Queue.{alike-refl, alike-then, grown-none, grown-more, grown-exit}
@@ -21,10 +20,10 @@ Inv-loop job loads u h marks₀ queue₀ parent₀ slot₀ n m₀ k₀ left₀ m
 abbrev μ-loop : tie.MeasureT-loop
 μ-loop job loads u h marks₀ queue₀ parent₀ slot₀ n m₀ k₀ left₀ marks queue parent slot m k left = 8 - k
 
-unmarked-requires : tie.Need-unmarked-requires Inv-loop μ-loop
-unmarked-requires c κs =
+onward-requires : tie.Need-onward-requires Inv-loop μ-loop
+onward-requires c κs =
     let p = c .before .before .before .before .before .before .before .pre in
-    (omega (arith, spots-is, p .room .marks), omega (arith, spots-is, p .spot))
+    (p .whole, p .room .marks, p .spot)
 
 loop-holds : tie.Need-loop-holds Inv-loop μ-loop
 loop-holds c =
@@ -33,10 +32,10 @@ loop-holds c =
 
 lowest-requires : tie.Need-lowest-requires Inv-loop μ-loop
 lowest-requires c κs =
-    (omega (arith, c .loop-test .taken), left-small (c .before .before .unmarked .ensures) (c .before .loop .inv .2))
+    (omega (arith, c .loop-test .taken), left-small (c .before .before .onward .ensures) (c .before .loop .inv .2))
 
 add-k : tie.Need-add-k Inv-loop μ-loop
-add-k c = omega (arith, next-slot (c .before .before .before .unmarked .ensures) (c .before .before .loop .inv .2) (c .lowest .ensures))
+add-k c = omega (arith, next-slot (c .before .before .before .onward .ensures) (c .before .before .loop .inv .2) (c .lowest .ensures))
 
 attempt-requires : tie.Need-attempt-requires Inv-loop μ-loop
 attempt-requires c κs =
@@ -46,7 +45,8 @@ attempt-requires c κs =
     let p = c7 .before .before .before .before .before .before .before .before .pre in
     let g = c6 .loop .inv .1 in (
       record { whole = p .whole; room = g .room; count = g .count; early = omega (arith, p .early, g .up); spot = p .spot },
-      next-slot (c7 .unmarked .ensures) (c6 .loop .inv .2) (c4 .lowest .ensures),
+      next-slot (c7 .onward .ensures) (c6 .loop .inv .2) (c4 .lowest .ensures),
+      on-moves _ _ _ _ _ (next-on (c7 .onward .ensures) (c6 .loop .inv .2) (c4 .lowest .ensures)),
     )
 
 enum-known-a : tie.Need-enum-known-a Inv-loop μ-loop
@@ -82,7 +82,7 @@ returns c =
     let w = c11 .before .before .before .before .before .lowest .ensures in
     let c18 = c11 .before .before .before .before .before .before .before in
     let c19 = c18 .before in
-    let b = c19 .unmarked .ensures in
+    let b = c19 .onward .ensures in
     let s = c18 .loop .inv in
     grown-exit (grown-past (s .1) (passed-off b (s .2) w)) (c19 .before .before .before .before .before .before .before .before .pre .early) (next-slot b (s .2) w) (c11 .attempt .ensures) (c .before .a .given .1)
 
@@ -95,7 +95,7 @@ add-k-2 c =
     let w = c11 .before .before .before .before .before .lowest .ensures in
     let c18 = c11 .before .before .before .before .before .before .before in
     let c19 = c18 .before in
-    let b = c19 .unmarked .ensures in
+    let b = c19 .onward .ensures in
     let s = c18 .loop .inv in
     omega (arith, next-slot b (s .2) w)
 
@@ -105,7 +105,7 @@ add-left c =
     let w = c11 .before .before .before .before .before .lowest .ensures in
     let c18 = c11 .before .before .before .before .before .before .before in
     let c19 = c18 .before in
-    let b = c19 .unmarked .ensures in
+    let b = c19 .onward .ensures in
     let s = c18 .loop .inv in
     omega (arith, next-slot b (s .2) w)
 
@@ -115,7 +115,7 @@ shr-left c =
     let w = c11 .before .before .before .before .before .lowest .ensures in
     let c18 = c11 .before .before .before .before .before .before .before in
     let c19 = c18 .before in
-    let b = c19 .unmarked .ensures in
+    let b = c19 .onward .ensures in
     let s = c18 .loop .inv in
     omega (arith, next-slot b (s .2) w)
 
@@ -125,7 +125,7 @@ loop-less c =
     let w = c11 .before .before .before .before .before .lowest .ensures in
     let c18 = c11 .before .before .before .before .before .before .before in
     let c19 = c18 .before in
-    let b = c19 .unmarked .ensures in
+    let b = c19 .onward .ensures in
     let s = c18 .loop .inv in
     omega (arith, next-slot b (s .2) w)
 
@@ -135,7 +135,7 @@ loop-again c =
     let w = c11 .before .before .before .before .before .lowest .ensures in
     let c18 = c11 .before .before .before .before .before .before .before in
     let c19 = c18 .before in
-    let b = c19 .unmarked .ensures in
+    let b = c19 .onward .ensures in
     let s = c18 .loop .inv in
     let k = c11 .attempt .kept .1 .1 .1 .1 .1 in (
       alike-then (s .0) (k .0) (k .1 .0) (k .1 .1 .0) (k .1 .1 .1 .0),
@@ -158,7 +158,7 @@ same-length-8 c = c .before .loop .inv .0 .slots
 returns-2 : tie.Need-returns-2 Inv-loop μ-loop
 returns-2 c =
     let s = c .before .loop .inv in
-    more (grown-past (s .1) (none-left (c .before .before .unmarked .ensures) (s .2) (c .loop-test .left)))
+    more (grown-past (s .1) (none-left (c .before .before .onward .ensures) (s .2) (c .loop-test .left)))
 
 pub expand-spec : {M : Type 1} → statement M
 expand-spec =
@@ -166,7 +166,7 @@ expand-spec =
     (tie.spec
     Inv-loop
     μ-loop
-    unmarked-requires
+    onward-requires
     loop-holds
     lowest-requires
     add-k
