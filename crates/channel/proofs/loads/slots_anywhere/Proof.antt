@@ -1,13 +1,12 @@
 -- `loads::slots_anywhere` meets its contract: from the last slot down to the first, by what each carries. Assumes nothing.
 use borrow.Author.Needs.{needs}
 use mathlib.Core.Path.{_≡_, sym, ap, _∙_}
-use mathlib.Core.Bool.{not}
 use Prim.Native.Nat.{ℕ, _+_, _*_, _≤_}
 use native.Mathlib.Omega.{arith}
 use denote.Ref.{now}
-use lib.Dec.{eqb, ltb}
+use lib.Dec.{ltb}
 use Rattle.channel.specs.Map.Laden.{load-test}
-use Rattle.channel.specs.Map.LoadedSlots.{loadedFrom, bit-small, from-end, from-small, from-before}
+use Rattle.channel.specs.Map.LoadedSlots.{loadedFrom, from-end, from-small, from-before}
 use Rattle.channel.proofs.loads.slots_anywhere.Statement.{statement}
 use Rattle.channel.proofs.loads.slots_anywhere.Tie as tie
 
@@ -44,7 +43,7 @@ add-r : tie.Need-add-r Inv-loop μ-loop
 add-r c =
     let l = c .before .before .before .loop in
     let s = c .before .before .before .before .before .args in
-    omega (arith, l .inv .1, from-small (now (s .rec)) (s .u) (l .k), c .bit .ensures, bit-small (not (eqb (c .before .carried .result) 0)))
+    omega (arith, l .inv .1, from-small (now (s .rec)) (s .u) (l .k), c .bit .ensures .1)
 
 loop-less : tie.Need-loop-less Inv-loop μ-loop
 loop-less c = omega (arith, c .before .before .loop-test .taken)
@@ -55,7 +54,7 @@ loop-again c =
     let s = c .before .before .before .before .before .args in
     let t = c .before .before .loop-test .taken in (
       omega (arith, l .inv .0),
-      ap (λ (x : ℕ). 2 * l .r + x) (c .bit .ensures)
+      ap (λ (x : ℕ). 2 * l .r + x) (c .bit .ensures .0)
           ∙ from-before (now (s .rec)) (s .u) (l .k) (l .r) _ t (l .inv .0) (l .inv .1) (load-test (c .before .carried .result) ∙ ap (ltb 0) (c .before .carried .ensures .0)),
     )
 
