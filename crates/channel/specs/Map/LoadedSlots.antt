@@ -25,7 +25,7 @@ lastSlots rec u (suc c) = slotBit rec u (4 - c) + 2 * lastSlots rec u c
 pub loadedFrom : List ℕ → ℕ → ℕ → ℕ
 loadedFrom rec u k = lastSlots rec u (5 - k)
 
-pub bit-small : (b : Bool) → when b 1 < 2
+bit-small : (b : Bool) → when b 1 < 2
 bit-small true = omega arith
 bit-small false = omega arith
 
