@@ -3,7 +3,7 @@ ghost use mathlib.Core.Path.{_≡_};
 ghost use Prim.Native.Nat.{ℕ, _+_, _*_, _/_, _%_, _^_, _≤_, _<_};
 ghost use lib.ListN.{length};
 ghost use Rattle.channel.specs.Map.{rev};
-ghost use Rattle.channel.specs.Map.Ahead.{Bits, unset, headOf};
+ghost use Rattle.channel.specs.Map.Ahead.{Bits, unset, headOf, Within, HeadWords};
 use crate::table::head_of;
 
 // How far ahead the spot lies that a dart leads to, 336 more, 16 bits for each of four rows.
@@ -26,31 +26,6 @@ const HEADS: [usize; 16] = [
     0x0150_0150_0150_014f,
 ];
 
-// The entries of the rows 4 k to 4 k + 3.
-fn head_word(k: usize) -> usize
-    requires { ⌜ k < 16 ⌝ }
-    ensures { λ r. ⌜ ((j : ℕ) → j < 4 → r / 2 ^ (j * 16) % 65536 ≡ headOf (4 * k + j)) ⌝ }
-{
-    match k {
-        0 => HEADS[0],
-        1 => HEADS[1],
-        2 => HEADS[2],
-        3 => HEADS[3],
-        4 => HEADS[4],
-        5 => HEADS[5],
-        6 => HEADS[6],
-        7 => HEADS[7],
-        8 => HEADS[8],
-        9 => HEADS[9],
-        10 => HEADS[10],
-        11 => HEADS[11],
-        12 => HEADS[12],
-        13 => HEADS[13],
-        14 => HEADS[14],
-        _ => HEADS[15],
-    }
-}
-
 // 1 where the spot v has no mark, else 0.
 fn bare(marks: &[u8], v: usize) -> usize
     requires { ⌜ v < length (now marks) ⌝ }
@@ -64,7 +39,7 @@ fn bare(marks: &[u8], v: usize) -> usize
 
 // Four slots by a word: the marks that it points to.
 fn four_near(near: &[u8], w: usize) -> usize
-    requires { ⌜ (662 ≤ length (now near)) × ((j : ℕ) → j < 4 → w / 2 ^ (j * 16) % 65536 < 662) ⌝ }
+    requires { ⌜ (662 ≤ length (now near)) × Within w ⌝ }
     ensures { λ r. ⌜ Bits 4 (λ j. unset (now (near .entry)) (w / 2 ^ (j * 16) % 65536)) r ⌝ }
 {
     let a = bare(near, w % 65536);
@@ -72,6 +47,31 @@ fn four_near(near: &[u8], w: usize) -> usize
     let c = bare(near, (w >> 32) % 65536);
     let d = bare(near, (w >> 48) % 65536);
     a + 2 * b + 4 * c + 8 * d
+}
+
+// Eight slots by two words.
+fn eight_near(near: &[u8], p: usize, q: usize) -> usize
+    requires { ⌜ (662 ≤ length (now near)) × Within p × Within q ⌝ }
+    ensures { λ r. ⌜ ((k : ℕ) → HeadWords k p q → Bits 8 (λ j. unset (now (near .entry)) (headOf (8 * k + j))) r) ⌝ }
+{
+    four_near(near, p) + 16 * four_near(near, q)
+}
+
+// The slots of a spot of kind k: the words are constants.
+fn kind_near(near: &[u8], k: usize) -> usize
+    requires { ⌜ (662 ≤ length (now near)) × (k < 8) ⌝ }
+    ensures { λ r. ⌜ Bits 8 (λ j. unset (now (near .entry)) (headOf (8 * k + j))) r ⌝ }
+{
+    match k {
+        0 => eight_near(near, HEADS[0], HEADS[1]),
+        1 => eight_near(near, HEADS[2], HEADS[3]),
+        2 => eight_near(near, HEADS[4], HEADS[5]),
+        3 => eight_near(near, HEADS[6], HEADS[7]),
+        4 => eight_near(near, HEADS[8], HEADS[9]),
+        5 => eight_near(near, HEADS[10], HEADS[11]),
+        6 => eight_near(near, HEADS[12], HEADS[13]),
+        _ => eight_near(near, HEADS[14], HEADS[15]),
+    }
 }
 
 // Four darts from d on.
@@ -96,5 +96,5 @@ pub fn unmarked(marks: &[u8], u: usize) -> usize
     }
     let at = u - 336;
     let near = &marks[at..];
-    four_near(near, head_word(2 * (u % 8))) + 16 * four_near(near, head_word(2 * (u % 8) + 1))
+    kind_near(near, u % 8)
 }

@@ -11,14 +11,14 @@ ghost use Rattle.model.specs.Record.{forthPart, backPart, load};
 ghost use Rattle.channel.specs.Map.Fresh.{isFresh, SameRun};
 ghost use Rattle.channel.specs.Map.LoadedSlots.{loadedFrom};
 ghost use Rattle.channel.specs.Map.Origins.{originOf};
+ghost use Rattle.channel.specs.Map.Packed.{SlotWords};
 ghost use Rattle.channel.specs.Map.{inGrid, rowOf, columnOf, ownerCell, stepOf, carries, isPassDart, passedOf, view, opposed, address, placeOf};
 use crate::header::in_grid;
 use crate::header::wide;
+use crate::table::PLACES;
 use crate::table::code_of;
 use crate::table::kind_of;
 use crate::table::owner_of;
-use crate::table::place_of;
-use crate::table::place_word;
 use crate::table::seat_of;
 use crate::table::sign_of;
 
@@ -187,18 +187,6 @@ fn loaded_at(rec: &[u8], w: usize, x: usize) -> bool
     ((w != 0) & (w % 2 == 0) & ((0 < b) & (b < 32))) | ((w % 2 != 0) & (32 < b))
 }
 
-// Whether wires go along slot 4 of u, in such a cell.
-fn last_loaded(rec: &[u8], u: usize) -> bool
-    requires { ⌜ (32768 ≤ length (now rec)) × (41 ≤ u / 8) × (u / 8 < 1600) ⌝ }
-    ensures { λ b. ⌜ b ≡ ltb 0 (view (now (rec .entry)) (8 * u + 4)) ⌝ }
-{
-    let w = place_of(u % 8 * 8 + 4);
-    if w == 1 {
-        return carried(rec, 8 * u + 4) != 0;
-    }
-    loaded_at(rec, w, u / 8)
-}
-
 // A test as a bit.
 pub fn bit(b: bool) -> usize
     ensures { λ r. ⌜ (r ≡ when b 1) × (r < 2) ⌝ }
@@ -206,19 +194,34 @@ pub fn bit(b: bool) -> usize
     if b { 1 } else { 0 }
 }
 
-// The loaded slots of u as bits, in such a cell.
+// The loaded slots of u as bits, in such a cell, by the words of its rows.
+fn slots_by(rec: &[u8], w: usize, last: usize, u: usize) -> usize
+    requires { ⌜ (32768 ≤ length (now rec)) × (41 ≤ u / 8) × (u / 8 < 1600) × SlotWords (u % 8) w last ⌝ }
+    ensures { λ r. ⌜ r ≡ loadedFrom (now (rec .entry)) u 0 ⌝ }
+{
+    let x = u / 8;
+    let a = bit(loaded_at(rec, w % 65536, x));
+    let b = bit(loaded_at(rec, (w >> 16) % 65536, x));
+    let c = bit(loaded_at(rec, (w >> 32) % 65536, x));
+    let d = bit(loaded_at(rec, (w >> 48) % 65536, x));
+    let e = bit(loaded_at(rec, last % 65536, x));
+    a + 2 * b + 4 * c + 8 * d + 16 * e
+}
+
+// The same by the kind of u: the words are constants. Of an entry only the slot that leads to its exit carries something.
 fn slots_inside(rec: &[u8], u: usize) -> usize
     requires { ⌜ (32768 ≤ length (now rec)) × (41 ≤ u / 8) × (u / 8 < 1600) ⌝ }
     ensures { λ r. ⌜ r ≡ loadedFrom (now (rec .entry)) u 0 ⌝ }
 {
-    let word = place_word(2 * (u % 8));
-    let mut r = bit(last_loaded(rec, u));
-    let mut k: usize = 4;
-    while 0 < k {
-        k -= 1;
-        r = 2 * r + bit(loaded_at(rec, (word >> (k * 16)) % 65536, u / 8));
+    match u % 8 {
+        1 => slots_by(rec, PLACES[2], PLACES[3], u),
+        2 => slots_by(rec, PLACES[4], PLACES[5], u),
+        3 => slots_by(rec, PLACES[6], PLACES[7], u),
+        4 => slots_by(rec, PLACES[8], PLACES[9], u),
+        5 => slots_by(rec, PLACES[10], PLACES[11], u),
+        7 => slots_by(rec, PLACES[14], PLACES[15], u),
+        _ => 16 * bit(carried(rec, 8 * u + 4) != 0),
     }
-    r
 }
 
 // The same in any cell.

@@ -102,13 +102,35 @@ headWords =
     ∷ 0x014f_0153_0151_015a ∷ 0x0156_0150_0154_0155 ∷ 0x014f_0152_0151_028e ∷ 0x0295_0150_0153_0294 ∷ 0x014f_0151_014d_0146 ∷ 0x028c_0150_0152_028b
     ∷ 0x014f_014e_014d_014c ∷ 0x0150_0150_0150_0151 ∷ 0x014e_014d_014c_014b ∷ 0x0150_0150_0150_014f ∷ []
 
-pub head-word : {k w : ℕ} → k < 16 → k ≡ w → (j : ℕ) → j < 4 → getD headWords w 0 / 2 ^ (j * 16) % 65536 ≡ headOf (4 * k + j)
+head-word : {k w : ℕ} → k < 16 → k ≡ w → (j : ℕ) → j < 4 → getD headWords w 0 / 2 ^ (j * 16) % 65536 ≡ headOf (4 * k + j)
 unfolding below headOf turns turnOf
 head-word = part 16 4 (λ w j. getD headWords w 0 / 2 ^ (j * 16) % 65536) (λ k j. headOf (4 * k + j)) tt
 
-pub head-bound : (i : ℕ) → i < 64 → headOf i < 662
+head-bound : (i : ℕ) → i < 64 → headOf i < 662
 unfolding below headOf turnOf turns
 head-bound i l = ltb→lt _ _ (below-at 64 (λ i. ltb (headOf i) 662) tt i l)
+
+-- the words have the eight rows of a spot of kind k
+pub record HeadWords (k p q : ℕ) : Type 0 where
+  pub low : (j : ℕ) → j < 4 → p / 2 ^ (j * 16) % 65536 ≡ headOf (8 * k + j)
+  pub high : (j : ℕ) → j < 4 → q / 2 ^ (j * 16) % 65536 ≡ headOf (8 * k + (4 + j))
+
+pub head-words : {k m : ℕ} → k < 8 → k ≡ m → HeadWords k (getD headWords (2 * m) 0) (getD headWords (2 * m + 1) 0)
+head-words {k} {m} l e =
+    record {
+      low = λ j h. head-word {k = 2 * k} {w = 2 * m} (omega arith) (omega arith) j h ∙ ap headOf (omega arith);
+      high = λ j h. head-word {k = 2 * k + 1} {w = 2 * m + 1} (omega arith) (omega arith) j h ∙ ap headOf (omega arith);
+    }
+
+-- four rows that lead less than 662 ahead
+abbrev pub Within : ℕ → Type 0
+Within w = (j : ℕ) → j < 4 → w / 2 ^ (j * 16) % 65536 < 662
+
+pub heads-within : {k p q : ℕ} → k < 8 → HeadWords k p q → Within p × Within q
+heads-within {k} {p} {q} l w = (
+  λ j h. omega (arith, w .low j h, head-bound (8 * k + j) (omega arith)),
+  λ j h. omega (arith, w .high j h, head-bound (8 * k + (4 + j)) (omega arith)),
+)
 
 -- t from the spot on that is 336 before u
 abbrev near : List ℕ → ℕ → List ℕ
@@ -122,16 +144,19 @@ module _ (t : List ℕ) (u : ℕ) (m : 336 ≤ u) (h : u < 12800) where
   near-length l = rw same-near (omega (arith, length-drop (u - 336) t))
 
   -- slot k of u leads as far as its row says
-  pub head-near : {k i w : ℕ} → k < 8 → i ≡ 8 * (u % 8) + k → w ≡ headOf i → unset (near t u) w ≡ unset t (rev (8 * u + k) / 8)
+  head-near : {k w : ℕ} → k < 8 → w ≡ headOf (8 * (u % 8) + k) → unset (near t u) w ≡ unset t (rev (8 * u + k) / 8)
   unfolding headOf unset
-  head-near {k} {i} {w} l e o =
+  head-near {k} {w} l o =
       let b = head-bound ((8 * u + k) % 64) (omega arith) in
-      let e : i ≡ (8 * u + k) % 64 = omega arith in
+      let e : 8 * (u % 8) + k ≡ (8 * u + k) % 64 = omega arith in
       let o : w ≡ (turnOf ((8 * u + k) % 64) + (8 * u + k) % 64 % 8) / 8 = subst (λ (x : ℕ). w ≡ (turnOf x + x % 8) / 8) e o in
       let r = rev-mid (8 * u + k) (turnOf ((8 * u + k) % 64)) refl (omega arith) (omega arith) in
       let v : u - 336 + w ≡ rev (8 * u + k) / 8 = omega arith in
       ap (λ (m : ℕ). when (not (eqb m 1)) 1)
       (ap (λ (s : List ℕ). getD s w 0) same-near ∙ getD-drop (u - 336) t w 0 ∙ ap (λ (x : ℕ). getD t x 0) v)
+
+  pub bits-near : {r : ℕ} → Bits 8 (λ k. unset (near t u) (headOf (8 * (u % 8) + k))) r → Bits 8 (λ k. unset t (rev (8 * u + k) / 8)) r
+  bits-near b = record { small = b .small; each = λ k l. b .each k l ∙ head-near l refl }
 
 -- a spot that has all its neighbours
 pub among : (u : ℕ) → (ltb u 336 || leb 12800 u) ≡ false → (336 ≤ u) × (u < 12800)

@@ -1,9 +1,9 @@
 -- Whether wires go along a dart, by one byte: that of its link, at a place that the row of the table and the dart's cell name. Assumes nothing.
 use mathlib.Core.Path.{_≡_, refl, sym, ap, subst, _∙_}
-use mathlib.Core.Logic.{_≢_}
+use mathlib.Core.Logic.{_≢_, _⊎_}
 use mathlib.Core.Bool.{Bool, true, false, not, _&&_, _||_}
 use mathlib.Core.List.{List}
-use Prim.Native.Nat.{ℕ, zero, suc, _+_, _*_, _/_, _%_, _≤_, _<_}
+use Prim.Native.Nat.{ℕ, zero, suc, _+_, _*_, _/_, _%_, _^_, _≤_, _<_}
 use native.Mathlib.Omega.{arith}
 use borrow.Author.Tests.{eqb-false, ltb-false, leb-false, lt-ltb}
 use lib.Dec.{T, eqb, eqb·suc-zero, leb, ltb, ltb→lt, lt→ltb}
@@ -16,6 +16,8 @@ use Rattle.channel.specs.Map.{inGrid, links, owners, signs, codes, carri
 use Rattle.channel.specs.Map.Bools.{if-so, is-off, or-false}
 use Rattle.channel.specs.Map.Bounds.{owner-bound, sign-bound, code-bound}
 use Rattle.channel.specs.Map.Bytes.{kept-in, along-forth, along-back, against-forth, against-back, carries-no-pass, view-link, view-none}
+use Rattle.channel.specs.Map.LoadedSlots.{slotBit, loadedFrom, from-five}
+use Rattle.channel.specs.Map.Packed.{SlotWords, entry-place}
 
 -- ---- tests of a load
 
@@ -154,8 +156,25 @@ module _ (rec : List ℕ) (d w : ℕ) (e : placeOf (d % 64) ≡ w) where
       by false (other y) true (same z) = or-false (ltb 0 b && ltb b 32) ∙ laden-forth x h y p l m b q z
       by false (other y) false (other z) = laden-back x h y p l m b q z
 
--- ---- by the word of four slots
+-- ---- by the words of a spot
 
-pub slot-test : (rec : List ℕ) (u k w : ℕ) (b : Bool) → k < 4 → w ≡ placeOf (4 * (2 * (u % 8)) + k)
-    → ((d : ℕ) → d / 64 ≡ u / 8 → placeOf (d % 64) ≡ w → b ≡ ltb 0 (view rec d)) → b ≡ ltb 0 (view rec (8 * u + k))
-slot-test rec u k w b h q f = f (8 * u + k) (omega arith) (ap placeOf (omega arith) ∙ sym q)
+module _ {k w last : ℕ} (s : SlotWords k w last) (h : k < 8) where
+  pub four-link : (j : ℕ) → j < 4 → (w / 2 ^ (j * 16) % 65536 < 50000) × (w / 2 ^ (j * 16) % 65536 ≢ 1)
+  four-link j l = (
+    omega (arith, s .four j l, place-bound (8 * k + j) (omega arith)),
+    λ e. no-passage (8 * k + j) (omega arith) (omega arith) (sym (s .four j l) ∙ e),
+  )
+
+  pub fifth-link : (last % 65536 < 50000) × (last % 65536 ≢ 1)
+  fifth-link = (omega (arith, s .fifth, place-bound (8 * k + 4) (omega arith)), s .link)
+
+pub slot-test : (rec : List ℕ) (u k w : ℕ) (b : Bool) → k < 8 → w ≡ placeOf (8 * (u % 8) + k)
+    → ((d : ℕ) → d / 64 ≡ u / 8 → placeOf (d % 64) ≡ w → b ≡ ltb 0 (view rec d)) → when b 1 ≡ slotBit rec u k
+slot-test rec u k w b h q f = ap (λ (b : Bool). when b 1) (f (8 * u + k) (omega arith) (ap placeOf (omega arith) ∙ sym q))
+
+-- of an entry only slot 4 is loaded
+pub entry-slots : (rec : List ℕ) (u : ℕ) → (u % 8 ≡ 0) ⊎ (u % 8 ≡ 6) → 16 * slotBit rec u 4 ≡ loadedFrom rec u 0
+entry-slots rec u e = omega (arith, from-five rec u, idle 0 (omega arith), idle 1 (omega arith), idle 2 (omega arith), idle 3 (omega arith))
+  where
+    idle : (k : ℕ) → k < 4 → 0 ≡ slotBit rec u k
+    idle k l = ap (λ (b : Bool). when b 1) (unladen rec (8 * u + k) 0 (ap placeOf (omega arith) ∙ entry-place (u % 8) e k l) refl)

@@ -12,10 +12,14 @@ use lib.Dec.{ltb}
 use Rattle.sums.specs.Counting.{when}
 use Rattle.channel.specs.Map.{view}
 
+-- whether slot k of u is loaded, as a bit
+abbrev pub slotBit : List ℕ → ℕ → ℕ → ℕ
+slotBit rec u k = when (ltb 0 (view rec (8 * u + k))) 1
+
 -- the last c of the five slots of u
 lastSlots : List ℕ → ℕ → ℕ → ℕ
 lastSlots rec u zero = 0
-lastSlots rec u (suc c) = when (ltb 0 (view rec (8 * u + (4 - c)))) 1 + 2 * lastSlots rec u c
+lastSlots rec u (suc c) = slotBit rec u (4 - c) + 2 * lastSlots rec u c
 
 -- those from slot k on
 pub loadedFrom : List ℕ → ℕ → ℕ → ℕ
@@ -32,13 +36,13 @@ module _ (rec : List ℕ) (u : ℕ) where
   from-end k l = let e : 5 - k ≡ 0 = omega arith in ap (lastSlots rec u) e
 
   -- slot k is the lowest bit, and half of it is what is left after slot k
-  pub from-slot : (k : ℕ) → k < 5 → loadedFrom rec u k ≡ when (ltb 0 (view rec (8 * u + k))) 1 + 2 * loadedFrom rec u (k + 1)
+  pub from-slot : (k : ℕ) → k < 5 → loadedFrom rec u k ≡ slotBit rec u k + 2 * loadedFrom rec u (k + 1)
   unfolding loadedFrom lastSlots
   from-slot k l =
       let c : ℕ = 5 - (k + 1) in
       let e : 5 - k ≡ suc c = omega arith in
       let q : 4 - c ≡ k = omega arith in
-      ap (lastSlots rec u) e ∙ ap (λ (x : ℕ). when (ltb 0 (view rec (8 * u + x))) 1 + 2 * lastSlots rec u c) q
+      ap (lastSlots rec u) e ∙ ap (λ (x : ℕ). slotBit rec u x + 2 * lastSlots rec u c) q
 
   less : (k : ℕ) → loadedFrom rec u (k + 1) ≤ loadedFrom rec u k
   less k = by (decLt k 5)
@@ -47,24 +51,25 @@ module _ (rec : List ℕ) (u : ℕ) where
       by (yes l) = omega (arith, from-slot k l)
       by (no n) = omega (arith, from-end (k + 1) (omega arith))
 
-  pub from-small : (k : ℕ) → loadedFrom rec u k < 32
-  from-small zero =
-      let a : loadedFrom rec u 0 ≡ when (ltb 0 (view rec (8 * u + 0))) 1 + 2 * loadedFrom rec u 1 = from-slot 0 (omega arith) in
-      let b : loadedFrom rec u 1 ≡ when (ltb 0 (view rec (8 * u + 1))) 1 + 2 * loadedFrom rec u 2 = from-slot 1 (omega arith) in
-      let c : loadedFrom rec u 2 ≡ when (ltb 0 (view rec (8 * u + 2))) 1 + 2 * loadedFrom rec u 3 = from-slot 2 (omega arith) in
-      let d : loadedFrom rec u 3 ≡ when (ltb 0 (view rec (8 * u + 3))) 1 + 2 * loadedFrom rec u 4 = from-slot 3 (omega arith) in
-      let e : loadedFrom rec u 4 ≡ when (ltb 0 (view rec (8 * u + 4))) 1 + 2 * loadedFrom rec u 5 = from-slot 4 (omega arith) in
+  -- all five
+  pub from-five : slotBit rec u 0 + 2 * slotBit rec u 1 + 4 * slotBit rec u 2 + 8 * slotBit rec u 3 + 16 * slotBit rec u 4 ≡ loadedFrom rec u 0
+  from-five =
+      let a : loadedFrom rec u 0 ≡ slotBit rec u 0 + 2 * loadedFrom rec u 1 = from-slot 0 (omega arith) in
+      let b : loadedFrom rec u 1 ≡ slotBit rec u 1 + 2 * loadedFrom rec u 2 = from-slot 1 (omega arith) in
+      let c : loadedFrom rec u 2 ≡ slotBit rec u 2 + 2 * loadedFrom rec u 3 = from-slot 2 (omega arith) in
+      let d : loadedFrom rec u 3 ≡ slotBit rec u 3 + 2 * loadedFrom rec u 4 = from-slot 3 (omega arith) in
+      let e : loadedFrom rec u 4 ≡ slotBit rec u 4 + 2 * loadedFrom rec u 5 = from-slot 4 (omega arith) in
       let z : loadedFrom rec u 5 ≡ 0 = from-end 5 (omega arith) in
-      omega (arith, a, b, c, d, e, z, small 0, small 1, small 2, small 3, small 4)
+      omega arith
+
+  pub from-small : (k : ℕ) → loadedFrom rec u k < 32
+  from-small zero = omega (arith, from-five, small 0, small 1, small 2, small 3, small 4)
     where
-      small : (k : ℕ) → when (ltb 0 (view rec (8 * u + k))) 1 < 2
+      small : (k : ℕ) → slotBit rec u k < 2
       small k = bit-small (ltb 0 (view rec (8 * u + k)))
   from-small (suc k) = omega (arith, from-small k, rw add-one at (less k))
 
-  -- the last slot, and then the one before slot k
-  pub from-last : (b : Bool) → b ≡ ltb 0 (view rec (8 * u + 4)) → when b 1 ≡ loadedFrom rec u 4
-  from-last b q = omega (arith, from-slot 4 (omega arith), from-end 5 (omega arith), ap (λ (b : Bool). when b 1) q)
-
+  -- one slot more
   pub from-before : (k r : ℕ) (b : Bool) → 0 < k → k ≤ 5 → r ≡ loadedFrom rec u k → b ≡ ltb 0 (view rec (8 * u + (k - 1)))
       → 2 * r + when b 1 ≡ loadedFrom rec u (k - 1)
   from-before k r b p l e q =

@@ -1,15 +1,17 @@
 -- The rows of the table packed into words, as the code reads them: one computed test over the words says that each part of a word is the entry of its
 -- row. Assumes nothing.
-use mathlib.Core.Path.{_≡_, subst}
-use mathlib.Core.Logic.{_≢_}
-use mathlib.Core.Bool.{Bool, true, false}
+use mathlib.Core.Path.{_≡_, refl, sym, ap, subst, _∙_}
+use mathlib.Core.Logic.{_≢_, _⊎_, inl, inr}
+use mathlib.Core.Bool.{Bool, true, false, not}
 use mathlib.Core.List.{List, [], _∷_}
-use Prim.Native.Nat.{ℕ, suc, zero-le, _+_, _*_, _/_, _%_, _^_, _≤_, _<_}
+use Prim.Native.Nat.{ℕ, zero, suc, zero-le, _+_, _*_, _/_, _%_, _^_, _≤_, _<_}
 use native.Mathlib.Omega.{arith}
+use borrow.Author.Tests.{eqb-false}
 use lib.Dec.{T, eqb, eqb→eq, ltb, ltb→lt}
 use lib.ListN.{getD}
 use Rattle.sums.specs.Tests.{below, below-at}
 use Rattle.channel.specs.Map.{turns, links, owners, signs, codes, turnOf, kindOf, ownerOf, signOf, codeOf, seatOf, carries, isPassage, placeOf}
+use Rattle.channel.specs.Map.Bools.{is-off}
 
 -- ---- the words
 
@@ -74,6 +76,33 @@ unfolding below seatOf
 seat-small k l true = ltb→lt _ _ (below-at 14 (λ k. ltb (seatOf k true) 64) tt k l)
 seat-small k l false = ltb→lt _ _ (below-at 14 (λ k. ltb (seatOf k false) 64) tt k l)
 
+-- ---- the slots of a spot
+
+-- the words have the slots 0 to 4 of a spot of kind k, and slot 4 leads along a link
+pub record SlotWords (k w last : ℕ) : Type 0 where
+  pub four : (j : ℕ) → j < 4 → w / 2 ^ (j * 16) % 65536 ≡ placeOf (8 * k + j)
+  pub fifth : last % 65536 ≡ placeOf (8 * k + 4)
+  pub link : last % 65536 ≢ 1
+
+-- the words of the k-th two, tested
+pub slot-words : {k m : ℕ} → k < 8 → k ≡ m → T (not (eqb (getD placeWords (2 * m + 1) 0 % 65536) 1))
+    → SlotWords k (getD placeWords (2 * m) 0) (getD placeWords (2 * m + 1) 0)
+slot-words {k} {m} l e t =
+    record {
+      four = λ j h. place-word {k = 2 * k} {w = 2 * m} (omega arith) (omega arith) j h ∙ ap placeOf (omega arith);
+      fifth =
+          ap (λ (n : ℕ). n % 65536) (omega arith) ∙ place-word {k = 2 * k + 1} {w = 2 * m + 1} (omega arith) (omega arith) 0 (omega arith) ∙ ap placeOf (omega arith);
+      link = eqb-false _ 1 (is-off _ t);
+    }
+
+-- the slots 0 to 3 of an entry carry nothing
+pub entry-place : (k : ℕ) → (k ≡ 0) ⊎ (k ≡ 6) → (j : ℕ) → j < 4 → placeOf (8 * k + j) ≡ 0
+unfolding below placeOf carries isPassage codes codeOf links kindOf owners ownerOf signs signOf
+entry-place k (inl e) j l =
+    let q : 8 * k + j ≡ j = omega arith in ap placeOf q ∙ eqb→eq _ _ (below-at 4 (λ j. eqb (placeOf j) 0) tt j l)
+entry-place k (inr e) j l =
+    let q : 8 * k + j ≡ 48 + j = omega arith in ap placeOf q ∙ eqb→eq _ _ (below-at 4 (λ j. eqb (placeOf (48 + j)) 0) tt j l)
+
 -- ---- the bits of a word
 
 pub packed-sign : (i : ℕ) → i < 64 → 0x1000_bdbd_bcbc_1000 / 2 ^ i % 2 ≡ signOf i
@@ -106,3 +135,11 @@ from-fifteen k l r = let m : 15 ≤ k = not-least k 14
     (r .0 .0 .0 .0 .0 .0 .0 .0 .0 .0 .0 .0 .1)) (r .0 .0 .0 .0 .0 .0 .0 .0 .0 .0 .0 .1)) (r .0 .0 .0 .0 .0 .0 .0 .0 .0 .0 .1))
     (r .0 .0 .0 .0 .0 .0 .0 .0 .0 .1)) (r .0 .0 .0 .0 .0 .0 .0 .0 .1)) (r .0 .0 .0 .0 .0 .0 .0 .1)) (r .0 .0 .0 .0 .0 .0 .1))
     (r .0 .0 .0 .0 .0 .1)) (r .0 .0 .0 .0 .1)) (r .0 .0 .0 .1)) (r .0 .0 .1)) (r .0 .1)) (r .1) in omega arith
+
+-- the kinds of an entry are those that are none of the others
+pub entry-kind : (k : ℕ) → k < 8 → (((((Unit {0} × (k ≢ 1)) × (k ≢ 2)) × (k ≢ 3)) × (k ≢ 4)) × (k ≢ 5)) × (k ≢ 7) → (k ≡ 0) ⊎ (k ≡ 6)
+entry-kind zero l r = inl refl
+entry-kind (suc k) l r =
+    let m : 6 ≤ suc k = not-least (suc k) 5 (not-least (suc k) 4
+    (not-least (suc k) 3 (not-least (suc k) 2 (not-least (suc k) 1 (omega arith) (r .0 .0 .0 .0 .0 .1)) (r .0 .0 .0 .0 .1)) (r .0 .0 .0 .1)) (r .0 .0 .1)) (r .0 .1) in
+    inr (omega (arith, r .1))

@@ -5,7 +5,7 @@ use Prim.Native.Nat.{ℕ, _+_, _*_, _/_, _%_}
 use native.Mathlib.Omega.{arith}
 use denote.Ref.{now}
 use Rattle.channel.specs.Map.{rev}
-use Rattle.channel.specs.Map.Ahead.{unset, eight-bits, head-bound, near-length, head-near, among}
+use Rattle.channel.specs.Map.Ahead.{unset, eight-bits, near-length, bits-near, among}
 use Rattle.channel.proofs.ahead.unmarked.Statement.{statement}
 use Rattle.channel.proofs.ahead.unmarked.Tie as tie
 
@@ -47,46 +47,17 @@ part-near-start c = search needs
 part-near-end : tie.Need-part-near-end
 part-near-end c = search needs
 
-mul-head-word : tie.Need-mul-head-word
-mul-head-word c = search needs
-
-head-word-requires : tie.Need-head-word-requires
-head-word-requires c κs = search needs
-
-four-near-requires : tie.Need-four-near-requires
-four-near-requires c κs =
-    let s = c .before .before .before .before in
-    let (m, h) = among (s .args .u) (c .before .before .if1 .left) in
-    (near-length (now (s .args .marks)) (s .args .u) m h (s .pre .0), λ j l. omega (arith, c .head-word .ensures j l, head-bound (4 * (2 * (s .args .u % 8)) + j) (omega arith)))
-
-mul-head-word-2 : tie.Need-mul-head-word-2
-mul-head-word-2 c = search needs
-
-add-head-word : tie.Need-add-head-word
-add-head-word c = search needs
-
-head-word-requires-2 : tie.Need-head-word-requires-2
-head-word-requires-2 c κs = search needs
-
-four-near-requires-2 : tie.Need-four-near-requires-2
-four-near-requires-2 c κs =
-    let s = c .before .before .before .before .before .before in
-    let (m, h) = among (s .args .u) (c .before .before .before .before .if1 .left) in
-    (near-length (now (s .args .marks)) (s .args .u) m h (s .pre .0), λ j l. omega (arith, c .head-word2 .ensures j l, head-bound (4 * (2 * (s .args .u % 8) + 1) + j) (omega arith)))
-
-mul-result-2 : tie.Need-mul-result-2
-mul-result-2 c = search needs
-
-add-result-2 : tie.Need-add-result-2
-add-result-2 c = search needs
+kind-near-requires : tie.Need-kind-near-requires
+kind-near-requires c κs =
+    let s = c .before .before .before in
+    let (m, h) = among (s .args .u) (c .before .if1 .left) in
+    (near-length (now (s .args .marks)) (s .args .u) m h (s .pre .0), omega arith)
 
 returns-2 : tie.Need-returns-2
 returns-2 c =
-    let s = c .before .before .before .before .before .before .before in
-    let (m, h) = among (s .args .u) (c .before .before .before .before .before .if1 .left) in
-    eight-bits (c .before .before .four-near .ensures) (c .four-near2 .ensures)
-    (λ j l. head-near (now (s .args .marks)) (s .args .u) m h (omega arith) (omega arith) (c .before .before .before .head-word .ensures j l))
-    (λ j l. head-near (now (s .args .marks)) (s .args .u) m h (omega arith) (omega arith) (c .before .head-word2 .ensures j l))
+    let s = c .before .before .before .before in
+    let (m, h) = among (s .args .u) (c .before .before .if1 .left) in
+    bits-near (now (s .args .marks)) (s .args .u) m h (c .kind-near .ensures)
 
 pub unmarked-spec : {M : Type 1} → statement M
 unmarked-spec =
@@ -104,13 +75,5 @@ unmarked-spec =
     sub-near
     part-near-start
     part-near-end
-    mul-head-word
-    head-word-requires
-    four-near-requires
-    mul-head-word-2
-    add-head-word
-    head-word-requires-2
-    four-near-requires-2
-    mul-result-2
-    add-result-2
+    kind-near-requires
     returns-2)

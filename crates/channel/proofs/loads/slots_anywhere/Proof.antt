@@ -1,11 +1,10 @@
 -- `loads::slots_anywhere` meets its contract: from the last slot down to the first, by what each carries. Assumes nothing.
 use borrow.Author.Needs.{needs}
 use mathlib.Core.Path.{_≡_, sym, ap, _∙_}
-use mathlib.Core.Bool.{not}
 use Prim.Native.Nat.{ℕ, _+_, _*_, _≤_}
 use native.Mathlib.Omega.{arith}
 use denote.Ref.{now}
-use lib.Dec.{eqb, ltb}
+use lib.Dec.{ltb}
 use Rattle.channel.specs.Map.Laden.{load-test}
 use Rattle.channel.specs.Map.LoadedSlots.{loadedFrom, from-end, from-small, from-before}
 use Rattle.channel.proofs.loads.slots_anywhere.Statement.{statement}

@@ -1,109 +1,142 @@
--- `loads::slots_inside` meets its contract: from the last slot down to the first, each by its part of the word. Assumes nothing.
+-- `loads::slots_inside` meets its contract: by the two words of the spot's kind, or from what an entry's slot 4 carries. Assumes nothing.
 use borrow.Author.Needs.{needs}
-use mathlib.Core.Path.{_≡_, sym, ap, _∙_}
-use Prim.Native.Nat.{ℕ, _+_, _-_, _*_, _%_, _≤_, _<_}
+use mathlib.Core.Path.{ap, _∙_}
+use mathlib.Core.Bool.{Bool}
+use Prim.Native.Nat.{_%_}
 use native.Mathlib.Omega.{arith}
 use denote.Ref.{now}
-use Rattle.channel.specs.Map.Laden.{place-bound, no-passage, slot-test}
-use Rattle.channel.specs.Map.LoadedSlots.{loadedFrom, from-small, from-last, from-before}
+use lib.Dec.{ltb}
+use Rattle.sums.specs.Counting.{when}
+use Rattle.channel.specs.Map.Laden.{load-test, entry-slots}
+use Rattle.channel.specs.Map.Packed.{slot-words, entry-kind}
 use Rattle.channel.proofs.loads.slots_inside.Statement.{statement}
 use Rattle.channel.proofs.loads.slots_inside.Tie as tie
 
-abbrev Inv-loop : tie.InvT-loop
-Inv-loop rec u word r₀ k₀ r k = (k ≤ 4) × (r ≡ loadedFrom rec u k)
+array-read-slots-by : tie.Need-array-read-slots-by
+array-read-slots-by c = search needs
 
-abbrev μ-loop : tie.MeasureT-loop
-μ-loop rec u word r₀ k₀ r k = k
+array-read-slots-by-2 : tie.Need-array-read-slots-by-2
+array-read-slots-by-2 c = search needs
 
-mul-place-word : tie.Need-mul-place-word Inv-loop μ-loop
-mul-place-word c = search needs
+slots-by-requires : tie.Need-slots-by-requires
+slots-by-requires c κs = let (l, h, m) = c .before .before .pre in (l, h, m, slot-words (omega arith) (c .match .keys1) tt)
 
-place-word-requires : tie.Need-place-word-requires Inv-loop μ-loop
-place-word-requires c κs = search needs
+array-read-slots-by-3 : tie.Need-array-read-slots-by-3
+array-read-slots-by-3 c = search needs
 
-last-loaded-requires : tie.Need-last-loaded-requires Inv-loop μ-loop
-last-loaded-requires c κs = search needs
+array-read-slots-by-4 : tie.Need-array-read-slots-by-4
+array-read-slots-by-4 c = search needs
 
-bit-requires : tie.Need-bit-requires Inv-loop μ-loop
+slots-by-requires-2 : tie.Need-slots-by-requires-2
+slots-by-requires-2 c κs = let (l, h, m) = c .before .before .pre in (l, h, m, slot-words (omega arith) (c .match .keys2) tt)
+
+array-read-slots-by-5 : tie.Need-array-read-slots-by-5
+array-read-slots-by-5 c = search needs
+
+array-read-slots-by-6 : tie.Need-array-read-slots-by-6
+array-read-slots-by-6 c = search needs
+
+slots-by-requires-3 : tie.Need-slots-by-requires-3
+slots-by-requires-3 c κs = let (l, h, m) = c .before .before .pre in (l, h, m, slot-words (omega arith) (c .match .keys3) tt)
+
+array-read-slots-by-7 : tie.Need-array-read-slots-by-7
+array-read-slots-by-7 c = search needs
+
+array-read-slots-by-8 : tie.Need-array-read-slots-by-8
+array-read-slots-by-8 c = search needs
+
+slots-by-requires-4 : tie.Need-slots-by-requires-4
+slots-by-requires-4 c κs = let (l, h, m) = c .before .before .pre in (l, h, m, slot-words (omega arith) (c .match .keys4) tt)
+
+array-read-slots-by-9 : tie.Need-array-read-slots-by-9
+array-read-slots-by-9 c = search needs
+
+array-read-slots-by-10 : tie.Need-array-read-slots-by-10
+array-read-slots-by-10 c = search needs
+
+slots-by-requires-5 : tie.Need-slots-by-requires-5
+slots-by-requires-5 c κs = let (l, h, m) = c .before .before .pre in (l, h, m, slot-words (omega arith) (c .match .keys5) tt)
+
+array-read-slots-by-11 : tie.Need-array-read-slots-by-11
+array-read-slots-by-11 c = search needs
+
+array-read-slots-by-12 : tie.Need-array-read-slots-by-12
+array-read-slots-by-12 c = search needs
+
+slots-by-requires-6 : tie.Need-slots-by-requires-6
+slots-by-requires-6 c κs = let (l, h, m) = c .before .before .pre in (l, h, m, slot-words (omega arith) (c .match .keys6) tt)
+
+mul-carried : tie.Need-mul-carried
+mul-carried c = search needs
+
+add-carried : tie.Need-add-carried
+add-carried c = search needs
+
+carried-requires : tie.Need-carried-requires
+carried-requires c κs = search needs
+
+bit-requires : tie.Need-bit-requires
 bit-requires c κs = search needs
 
-loop-holds : tie.Need-loop-holds Inv-loop μ-loop
-loop-holds c = (omega arith, c .bit .ensures .0 ∙ from-last _ _ _ (c .before .last-loaded .ensures))
+mul-result : tie.Need-mul-result
+mul-result c = search needs
 
-sub-k : tie.Need-sub-k Inv-loop μ-loop
-sub-k c = search needs
+returns : tie.Need-returns
+returns c = search needs
 
-mul-r : tie.Need-mul-r Inv-loop μ-loop
-mul-r c =
-    let s = c .before .before .before .before .before .before .args in
-    omega (arith, c .before .loop .inv .1, from-small (now (s .rec)) (s .u) (c .before .loop .k))
+returns-2 : tie.Need-returns-2
+returns-2 c = search needs
 
-mul-loaded-at : tie.Need-mul-loaded-at Inv-loop μ-loop
-mul-loaded-at c = omega (arith, c .before .loop .inv .0)
+returns-3 : tie.Need-returns-3
+returns-3 c = search needs
 
-shr-loaded-at : tie.Need-shr-loaded-at Inv-loop μ-loop
-shr-loaded-at c = omega (arith, c .before .loop .inv .0, c .loop-test .taken)
+returns-4 : tie.Need-returns-4
+returns-4 c = search needs
 
-loaded-at-requires : tie.Need-loaded-at-requires Inv-loop μ-loop
-loaded-at-requires c κs =
-    let s = c .before .before .before .before .before .before in
-    let k : ℕ = c .before .loop .k - 1 in
-    let l : k < 4 = omega (arith, c .before .loop .inv .0, c .loop-test .taken) in
-    let i : ℕ = 4 * (2 * (s .args .u % 8)) + k in
-    let h : i < 64 = omega (arith, l) in
-    let w = c .before .before .before .before .place-word .ensures k l in (
-      s .pre .0,
-      omega (arith, w, place-bound i h),
-      λ e. no-passage i h (omega (arith, l)) (sym w ∙ e),
-      s .pre .1,
-      s .pre .2,
-    )
+returns-5 : tie.Need-returns-5
+returns-5 c = search needs
 
-bit-requires-2 : tie.Need-bit-requires-2 Inv-loop μ-loop
-bit-requires-2 c κs = search needs
+returns-6 : tie.Need-returns-6
+returns-6 c = search needs
 
-add-r : tie.Need-add-r Inv-loop μ-loop
-add-r c =
-    let l = c .before .before .before .loop in
-    let s = c .before .before .before .before .before .before .before .before .args in
-    omega (arith, l .inv .1, from-small (now (s .rec)) (s .u) (l .k), c .bit2 .ensures .1)
-
-loop-less : tie.Need-loop-less Inv-loop μ-loop
-loop-less c = omega (arith, c .before .before .loop-test .taken)
-
-loop-again : tie.Need-loop-again Inv-loop μ-loop
-loop-again c =
-    let l = c .before .before .before .loop in
-    let p = c .before .before .before .before .before .before .place-word in
-    let s = c .before .before .before .before .before .before .before .before .args in
-    let t = c .before .before .loop-test .taken in
-    let h : l .k - 1 < 4 = omega (arith, l .inv .0, t) in
-    let q = slot-test (now (s .rec)) (s .u) (l .k - 1) _ _ h (p .ensures (l .k - 1) h) (c .before .loaded-at .ensures) in (
-      omega (arith, l .inv .0),
-      ap (λ (x : ℕ). 2 * l .r + x) (c .bit2 .ensures .0) ∙ from-before (now (s .rec)) (s .u) (l .k) (l .r) _ t (omega (arith, l .inv .0)) (l .inv .1) q,
-    )
-
-returns : tie.Need-returns Inv-loop μ-loop
-returns c = let l = c .before .loop in l .inv .1 ∙ ap (loadedFrom _ _) (omega (arith, c .loop-test .left))
+returns-7 : tie.Need-returns-7
+returns-7 c =
+    let u = c .before .before .before .before .args .u in
+    let e = entry-slots (now (c .before .before .before .before .args .rec)) u (entry-kind (u % 8) (omega arith) (c .before .before .match .rest)) in
+    let b = ap (λ (b : Bool). when b 1) (load-test (c .before .carried .result) ∙ ap (ltb 0) (c .before .carried .ensures .0)) in
+    omega (arith, c .bit .ensures .0)
 
 pub slots-inside-spec : {M : Type 1} → statement M
 slots-inside-spec =
     tie.close
     (tie.spec
-    Inv-loop
-    μ-loop
-    mul-place-word
-    place-word-requires
-    last-loaded-requires
+    array-read-slots-by
+    array-read-slots-by-2
+    slots-by-requires
+    array-read-slots-by-3
+    array-read-slots-by-4
+    slots-by-requires-2
+    array-read-slots-by-5
+    array-read-slots-by-6
+    slots-by-requires-3
+    array-read-slots-by-7
+    array-read-slots-by-8
+    slots-by-requires-4
+    array-read-slots-by-9
+    array-read-slots-by-10
+    slots-by-requires-5
+    array-read-slots-by-11
+    array-read-slots-by-12
+    slots-by-requires-6
+    mul-carried
+    add-carried
+    carried-requires
     bit-requires
-    loop-holds
-    sub-k
-    mul-r
-    mul-loaded-at
-    shr-loaded-at
-    loaded-at-requires
-    bit-requires-2
-    add-r
-    loop-less
-    loop-again
-    returns)
+    mul-result
+    returns
+    returns-2
+    returns-3
+    returns-4
+    returns-5
+    returns-6
+    returns-7)
