@@ -214,7 +214,10 @@ pub fn chosen_at(rec: &[u8], x: usize) -> bool
     if x < 41 {
         return false;
     }
-    is_chosen(rec, (x - 41) / 40, (x - 41) % 40)
+    if rec[727 + x] != 1 {
+        return false;
+    }
+    pin_at(rec, (x - 41) / 40, (x - 41) % 40)
 }
 
 // Whether it is a missing pin.

@@ -35,7 +35,10 @@ pub fn is_start(job: &[u8], u: usize) -> bool
     requires { ⌜ (32768 ≤ length (now job)) × (u < 13128) ⌝ }
     ensures { λ b. ⌜ b ≡ isStart (jobOf (now (job .entry))) u ⌝ }
 {
-    (u % 8 == 1) & chosen_at(job, u / 8)
+    if u % 8 != 1 {
+        return false;
+    }
+    chosen_at(job, u / 8)
 }
 
 // Whether the spot lies outside.
@@ -44,7 +47,10 @@ pub fn is_outside(job: &[u8], u: usize) -> bool
     ensures { λ b. ⌜ b ≡ outside (jobOf (now (job .entry))) u ⌝ }
 {
     let k = u % 8;
-    (1 < k) & ((k < 6) & !tile_at(job, u / 8))
+    if (k < 2) | (6 <= k) {
+        return false;
+    }
+    !tile_at(job, u / 8)
 }
 
 // How many wires start at the spot.

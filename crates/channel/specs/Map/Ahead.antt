@@ -2,12 +2,11 @@
 -- lies that its darts lead to: no way back leaves the range. Assumes nothing.
 use mathlib.Core.Path.{_≡_, refl, ap, subst, _∙_}
 use mathlib.Core.Logic.{_≢_}
-use mathlib.Core.Bool.{Bool, true, false, not, _||_}
+use mathlib.Core.Bool.{Bool, true, false, not}
 use mathlib.Core.List.{List, [], _∷_}
 use Prim.Native.Nat.{ℕ, zero, suc, _+_, _-_, _*_, _/_, _%_, _^_, _≤_, _<_}
 use native.Mathlib.Omega.{arith}
-use borrow.Author.Tests.{ltb-false, leb-false}
-use lib.Dec.{T, eqb, leb, ltb, ltb→lt}
+use lib.Dec.{eqb, ltb, ltb→lt}
 use lib.ListN.{length, getD, take, drop, length-drop}
 use lib.Seq.{getD-drop, take-all}
 use Rattle.sums.specs.Counting.{when}
@@ -157,12 +156,3 @@ module _ (t : List ℕ) (u : ℕ) (m : 336 ≤ u) (h : u < 12800) where
 
   pub bits-near : {r : ℕ} → Bits 8 (λ k. unset (near t u) (headOf (8 * (u % 8) + k))) r → Bits 8 (λ k. unset t (rev (8 * u + k) / 8)) r
   bits-near b = record { small = b .small; each = λ k l. b .each k l ∙ head-near l refl }
-
--- a spot that has all its neighbours
-pub among : (u : ℕ) → (ltb u 336 || leb 12800 u) ≡ false → (336 ≤ u) × (u < 12800)
-among u e = by (ltb u 336) refl (leb 12800 u) refl e
-  where
-    by : (a : Bool) → ltb u 336 ≡ a → (b : Bool) → leb 12800 u ≡ b → (a || b) ≡ false → (336 ≤ u) × (u < 12800)
-    by true p b q z = absurd (subst T z tt)
-    by false p true q z = absurd (subst T z tt)
-    by false p false q z = (ltb-false u 336 p, leb-false 12800 u q)

@@ -1,7 +1,9 @@
 -- Tests and their outcomes: the arms of a test, tests that agree, and what `&&` and `||` come to. Assumes nothing.
 use mathlib.Core.Path.{_≡_, refl, sym, subst}
 use mathlib.Core.Bool.{Bool, true, false, not, _&&_, _||_, Bool·beq}
-use lib.Dec.{T}
+use Prim.Native.Nat.{ℕ, _≤_, _<_}
+use borrow.Author.Tests.{ltb-false, leb-false}
+use lib.Dec.{T, leb, ltb}
 use Rattle.sums.specs.Tests.{and-left, so}
 
 -- the two arms of a test whose outcome is known
@@ -67,3 +69,12 @@ or-true false = refl
 pub or-false : (b : Bool) → (b || false) ≡ b
 or-false true = refl
 or-false false = refl
+
+-- what is left by a test of both ends
+pub between : (x a b : ℕ) → (ltb x a || leb b x) ≡ false → (a ≤ x) × (x < b)
+between x a b e = by (ltb x a) refl (leb b x) refl e
+  where
+    by : (s : Bool) → ltb x a ≡ s → (t : Bool) → leb b x ≡ t → (s || t) ≡ false → (a ≤ x) × (x < b)
+    by true p t q z = absurd (subst T z tt)
+    by false p true q z = absurd (subst T z tt)
+    by false p false q z = (ltb-false x a p, leb-false b x q)

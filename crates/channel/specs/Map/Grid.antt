@@ -1,16 +1,19 @@
 -- The cells of the grid: when a number is that of a cell, its row and its column, and where the byte of a plane stands. Assumes nothing.
-use mathlib.Core.Path.{_≡_, refl, sym}
+use mathlib.Core.Path.{_≡_, refl, sym, _∙_}
+use mathlib.Core.Logic.{_≢_}
 use mathlib.Core.Bool.{Bool, true, false, _&&_}
 use mathlib.Core.List.{List}
 use Prim.Native.Nat.{ℕ, suc, _+_, _-_, _*_, _/_, _%_, _≤_, _<_}
 use native.Mathlib.Omega.{arith}
-use borrow.Author.Tests.{lt-ltb, le-ltb, le-leb, lt-leb}
+use borrow.Author.Tests.{lt-ltb, le-ltb, le-leb, lt-leb, ne-eqb}
 use lib.Dec.{T, leb, ltb, leb→le, ltb→lt}
 use lib.ListN.{getD}
 use Rattle.sums.specs.Counting.{when}
 use Rattle.sums.specs.Tests.{and-left, and-right}
-use Rattle.model.specs.Record.{cell}
+use Rattle.model.specs.Job.{isPin, isChosen}
+use Rattle.model.specs.Record.{jobOf, cell}
 use Rattle.channel.specs.Map.{inGrid, rowOf, columnOf}
+use Rattle.channel.specs.Map.Bools.{and-true, and-false}
 
 pub grid-is : (x : ℕ) → (leb 41 x && ltb x 1641) ≡ inGrid x
 unfolding inGrid
@@ -63,6 +66,21 @@ pub test-at : (x : ℕ) (f : ℕ → ℕ → Bool) (b : Bool) → 41 ≤ x → x
     → b ≡ (inGrid x && f (rowOf x) (columnOf x))
 unfolding rowOf columnOf
 test-at x f b l m e = rw (grid-in x l m) e
+
+-- a cell is a chosen pin by its mark, and by its row and column
+module _ (rec : List ℕ) (x : ℕ) (l : 41 ≤ x) (m : x < 1641) where
+  mark-byte : cell rec 0 ((x - 41) / 40) ((x - 41) % 40) ≡ getD rec (727 + x) 0
+  unfolding rowOf columnOf
+  mark-byte = cell-byte rec 0 x l m
+
+  pub not-chosen : getD rec (727 + x) 0 ≢ 1 → false ≡ (inGrid x && isChosen (jobOf rec) (rowOf x) (columnOf x))
+  unfolding isChosen jobOf
+  not-chosen n = test-at x (isChosen (jobOf rec)) false l m (rw (mark-byte, ne-eqb _ 1 n, and-false))
+
+  pub chosen-pin : (b : Bool) → getD rec (727 + x) 0 ≡ 1 → b ≡ isPin (jobOf rec) ((x - 41) / 40) ((x - 41) % 40)
+      → b ≡ (inGrid x && isChosen (jobOf rec) (rowOf x) (columnOf x))
+  unfolding isChosen jobOf
+  chosen-pin b e p = test-at x (isChosen (jobOf rec)) b l m (rw (mark-byte, e) (p ∙ sym (and-true _)))
 
 pub no-byte-at : (x n : ℕ) → x < 41 → 0 ≡ when (inGrid x) n
 no-byte-at x n l = rw (grid-low x l)

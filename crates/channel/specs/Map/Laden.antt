@@ -5,8 +5,8 @@ use mathlib.Core.Bool.{Bool, true, false, not, _&&_, _||_}
 use mathlib.Core.List.{List}
 use Prim.Native.Nat.{ℕ, zero, suc, _+_, _*_, _/_, _%_, _^_, _≤_, _<_}
 use native.Mathlib.Omega.{arith}
-use borrow.Author.Tests.{eqb-false, ltb-false, leb-false, lt-ltb}
-use lib.Dec.{T, eqb, eqb·suc-zero, leb, ltb, ltb→lt, lt→ltb}
+use borrow.Author.Tests.{eqb-false, lt-ltb}
+use lib.Dec.{T, eqb, eqb·suc-zero, ltb, ltb→lt, lt→ltb}
 use lib.ListN.{getD}
 use Rattle.sums.specs.Counting.{when}
 use Rattle.sums.specs.Tests.{Same, same, other, same?, below, below-at, and-left, and-right, and-both, both-ways}
@@ -37,15 +37,6 @@ back-test : (b : ℕ) → ltb 32 b ≡ ltb 0 (backPart b)
 back-test b =
     both-ways (ltb 32 b) (ltb 0 (backPart b)) (λ t. lt→ltb 0 (backPart b) (omega (arith, ltb→lt 32 b t)))
     (λ t. let l : 0 < backPart b = ltb→lt 0 (backPart b) t in lt→ltb 32 b (omega arith))
-
--- a cell that has all its neighbours
-pub inside : (x : ℕ) → (ltb x 41 || leb 1600 x) ≡ false → (41 ≤ x) × (x < 1600)
-inside x e = by (ltb x 41) refl (leb 1600 x) refl e
-  where
-    by : (a : Bool) → ltb x 41 ≡ a → (b : Bool) → leb 1600 x ≡ b → (a || b) ≡ false → (41 ≤ x) × (x < 1600)
-    by true p b q z = absurd (subst T z tt)
-    by false p true q z = absurd (subst T z tt)
-    by false p false q z = (ltb-false x 41 p, leb-false 1600 x q)
 
 -- ---- by the row
 

@@ -1,33 +1,44 @@
 -- Where wires start and end, and what one move stores, for each way out of the code. Assumes nothing.
 use mathlib.Core.Path.{_≡_, refl, sym, ap, ap₂, _∙_}
 use mathlib.Core.Logic.{_≢_}
-use mathlib.Core.Bool.{Bool, true, false, not, _&&_}
+use mathlib.Core.Bool.{Bool, true, false, not, _&&_, _||_}
 use mathlib.Core.List.{List}
 use Prim.Native.Nat.{ℕ, suc, _+_, _-_, _*_, _/_, _%_, _≤_, _<_}
 use native.Mathlib.Omega.{arith}
 use borrow.Author.Tests.{lt-ltb, le-ltb, eq-eqb, ne-eqb}
-use lib.Dec.{eqb, ltb}
+use lib.Dec.{eqb, leb, leb→le, ltb, ltb→lt}
 use lib.ListN.{getD, set}
-use Rattle.sums.specs.Tests.{so, and-left, and-right}
+use Rattle.sums.specs.Tests.{so, and-left, and-right, or-by}
 use Rattle.model.specs.Job.{Job, isTile, isChosen}
 use Rattle.model.specs.Links.{pin, at}
 use Rattle.model.specs.Loads.{departures}
 use Rattle.model.specs.Record.{load}
 use Rattle.channel.specs.Map.{inGrid, rowOf, columnOf, ownerCell, isStored, isStart, outside, starts, bump, address, laid, kindOf, ownerOf, signOf, codeOf}
-use Rattle.channel.specs.Map.Bools.{if-true, if-false}
+use Rattle.channel.specs.Map.Bools.{if-true, if-false, and-false, between}
 use Rattle.channel.specs.Map.Grid.{grid-bounds}
 use Rattle.channel.specs.Map.Bytes.{owner-is, address-is}
 
 -- ---- spots
 
 module _ (J : Job) (u : ℕ) where
-  pub start-is : (b : Bool) → b ≡ (inGrid (u / 8) && isChosen J (rowOf (u / 8)) (columnOf (u / 8))) → (eqb (u % 8) 1 && b) ≡ isStart J u
+  pub not-start : u % 8 ≢ 1 → false ≡ isStart J u
   unfolding isStart
-  start-is b e = ap (λ (t : Bool). eqb (u % 8) 1 && t) e
+  not-start n = rw (ne-eqb (u % 8) 1 n)
 
-  pub outside-is : (b : Bool) → b ≡ (inGrid (u / 8) && isTile J (rowOf (u / 8)) (columnOf (u / 8))) → (ltb 1 (u % 8) && (ltb (u % 8) 6 && not b)) ≡ outside J u
+  pub start-is : (b : Bool) → u % 8 ≡ 1 → b ≡ (inGrid (u / 8) && isChosen J (rowOf (u / 8)) (columnOf (u / 8))) → b ≡ isStart J u
+  unfolding isStart
+  start-is b k e = rw (eq-eqb (u % 8) 1 k) e
+
+  pub not-outside : (ltb (u % 8) 2 || leb 6 (u % 8)) ≡ true → false ≡ outside J u
   unfolding outside
-  outside-is b e = ap (λ (t : Bool). ltb 1 (u % 8) && (ltb (u % 8) 6 && not t)) e
+  not-outside e =
+      or-by (ltb (u % 8) 2) (leb 6 (u % 8)) (λ t. let l : u % 8 ≤ 1 = omega (arith, ltb→lt (u % 8) 2 t) in rw (le-ltb 1 (u % 8) l))
+      (λ t. let l : 6 ≤ u % 8 = leb→le 6 (u % 8) t in rw (le-ltb (u % 8) 6 l, and-false)) (so e)
+
+  pub outside-is : (b : Bool) → (ltb (u % 8) 2 || leb 6 (u % 8)) ≡ false → b ≡ (inGrid (u / 8) && isTile J (rowOf (u / 8)) (columnOf (u / 8)))
+      → not b ≡ outside J u
+  unfolding outside
+  outside-is b k e = let (l, m) = between (u % 8) 2 6 k in rw (lt-ltb 1 (u % 8) l, lt-ltb (u % 8) 6 m) (ap not e)
 
   pub start-bounds : isStart J u ≡ true → (41 ≤ u / 8) × (u / 8 < 1641)
   unfolding isStart

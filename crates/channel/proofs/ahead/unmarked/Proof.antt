@@ -5,7 +5,8 @@ use Prim.Native.Nat.{ℕ, _+_, _*_, _/_, _%_}
 use native.Mathlib.Omega.{arith}
 use denote.Ref.{now}
 use Rattle.channel.specs.Map.{rev}
-use Rattle.channel.specs.Map.Ahead.{unset, eight-bits, near-length, bits-near, among}
+use Rattle.channel.specs.Map.Bools.{between}
+use Rattle.channel.specs.Map.Ahead.{unset, eight-bits, near-length, bits-near}
 use Rattle.channel.proofs.ahead.unmarked.Statement.{statement}
 use Rattle.channel.proofs.ahead.unmarked.Tie as tie
 
@@ -36,7 +37,7 @@ returns c =
     (λ j l. ap (λ (d : ℕ). unset (now (c .before .before .before .before .args .marks)) (rev d / 8)) (omega arith))
 
 sub-at : tie.Need-sub-at
-sub-at c = among _ (c .if1 .left) .0
+sub-at c = between _ 336 12800 (c .if1 .left) .0
 
 sub-near : tie.Need-sub-near
 sub-near c = search needs
@@ -50,13 +51,13 @@ part-near-end c = search needs
 kind-near-requires : tie.Need-kind-near-requires
 kind-near-requires c κs =
     let s = c .before .before .before in
-    let (m, h) = among (s .args .u) (c .before .if1 .left) in
+    let (m, h) = between (s .args .u) 336 12800 (c .before .if1 .left) in
     (near-length (now (s .args .marks)) (s .args .u) m h (s .pre .0), omega arith)
 
 returns-2 : tie.Need-returns-2
 returns-2 c =
     let s = c .before .before .before .before in
-    let (m, h) = among (s .args .u) (c .before .before .if1 .left) in
+    let (m, h) = between (s .args .u) 336 12800 (c .before .before .if1 .left) in
     bits-near (now (s .args .marks)) (s .args .u) m h (c .kind-near .ensures)
 
 pub unmarked-spec : {M : Type 1} → statement M

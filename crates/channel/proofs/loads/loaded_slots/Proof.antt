@@ -1,6 +1,6 @@
 -- `loads::loaded_slots` meets its contract: by the words of the table where the cell has all its neighbours. Assumes nothing.
 use borrow.Author.Needs.{needs}
-use Rattle.channel.specs.Map.Laden.{inside}
+use Rattle.channel.specs.Map.Bools.{between}
 use Rattle.channel.proofs.loads.loaded_slots.Statement.{statement}
 use Rattle.channel.proofs.loads.loaded_slots.Tie as tie
 
@@ -11,7 +11,7 @@ returns : tie.Need-returns
 returns c = search needs
 
 slots-inside-requires : tie.Need-slots-inside-requires
-slots-inside-requires c κs = let (l, m) = inside _ (c .if1 .left) in (c .before .before .pre .0, l, m)
+slots-inside-requires c κs = let (l, m) = between _ 41 1600 (c .if1 .left) in (c .before .before .pre .0, l, m)
 
 returns-2 : tie.Need-returns-2
 returns-2 c = search needs
