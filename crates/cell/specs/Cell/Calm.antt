@@ -141,7 +141,11 @@ module _ (rec : List ℕ) (r c : ℕ) where
   unfolding linkFits fits
   link-rest k e = rw (e, leb·zero) refl
 
-  corners-rest : Rest rec 4 r c → true ≡ cornersFit rec r c
+  pub sides-rest : cell rec 2 r c ≡ 0 → cell rec 3 r c ≡ 0 → true ≡ sidesFit rec r c
+  unfolding sidesFit
+  sides-rest n w = rw (link-rest northSide n, link-rest westSide w) refl
+
+  pub corners-rest : Rest rec 4 r c → true ≡ cornersFit rec r c
   unfolding cornersFit allFour
   corners-rest s =
       rw (
@@ -184,11 +188,10 @@ module _ (rec : List ℕ) (r c : ℕ) where
 
   module _ (k : Calm rec r c) where
     pub calm-links : true ≡ linksFit rec r c
-    unfolding linksFit sidesFit
+    unfolding linksFit
     calm-links =
         rw (
-          link-rest northSide (k .north),
-          link-rest westSide (k .west),
+          sym (sides-rest (k .north) (k .west)),
           sym (corners-rest (k .corners)),
           sym (spokes-rest (k .spokes)),
           sym (legs-rest (k .legs)),
