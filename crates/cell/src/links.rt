@@ -37,6 +37,9 @@ pub fn sides(rec: &[u8], r: usize, c: usize) -> bool
     requires { ⌜ (32768 ≤ length (now rec)) × (r < 40) × (c < 40) ⌝ }
     ensures { λ t. ⌜ t ≡ sidesFit (now (rec .entry)) r c ⌝ }
 {
+    if (byte(rec, 2, r, c) == 0) & (byte(rec, 3, r, c) == 0) {
+        return true;
+    }
     let most = orthogonal(rec);
     let up = may_north(rec, r, c);
     let down = may_south(rec, r, c);
@@ -65,6 +68,9 @@ pub fn corners(rec: &[u8], r: usize, c: usize) -> bool
     requires { ⌜ (32768 ≤ length (now rec)) × (r < 40) × (c < 40) ⌝ }
     ensures { λ t. ⌜ t ≡ cornersFit (now (rec .entry)) r c ⌝ }
 {
+    if rest(rec, 4, r, c) {
+        return true;
+    }
     four_fit(rec, 4, r, c, orthogonal(rec) / 2)
 }
 

@@ -9,7 +9,7 @@ use Rattle.model.specs.Job.{Job}
 use Rattle.model.specs.Links.{north, east, south, west, PlaceKind, pin, missing, centre, outside, nowhere, side, Step}
 use Rattle.model.specs.Wires.{Part, unwired, to, out, pastTheEnd, isWired, wireCount, partAt}
 use Rattle.channel.specs.Map.Entered.{kindAt, by-kind}
-use Rattle.listing.specs.Lines.{spaced, close, line, pairLine, row, column, spread}
+use Rattle.listing.specs.Lines.{spaced, close, line, pairLine, row, column}
 
 -- ---- words
 
@@ -71,13 +71,10 @@ module _ (J : Job) (f : Step → ℕ) where
   unfoldable pub wireLine : ℕ → ℕ → List ℕ
   wireLine r c = only (isWired J f r c) (pairLine wireWord r c (41 ∷ []) ++ (partsBytes r c 11201 ++ close))
 
+  -- that of the pin at p; "Pins rise by row, column."
   abbrev pub cellWire : ℕ → List ℕ
   cellWire p = wireLine (row p) (column p)
 
   -- "the first line counts the wires"
   abbrev pub wiresLine : List ℕ
   wiresLine = line wiresWord (wireCount J f)
-
-  -- "Pins rise by row, column."
-  unfoldable pub wiresListing : List ℕ
-  wiresListing = wiresLine ++ spread cellWire 0 1600

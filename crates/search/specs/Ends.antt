@@ -3,7 +3,7 @@
 use mathlib.Core.Path.{_≡_, refl, sym, ap, subst, _∙_}
 use mathlib.Core.Bool.{Bool}
 use mathlib.Core.List.{List}
-use Prim.Native.Nat.{ℕ, suc, _+_, _-_, _<_}
+use Prim.Native.Nat.{ℕ, suc, _+_, _<_}
 use native.Mathlib.Omega.{arith}
 use Rattle.sums.specs.Counting.{when}
 use Rattle.model.specs.Job.{Job}
@@ -72,9 +72,6 @@ module _ {rec rec′ near near′ : List ℕ} {k : ℕ} (A : RoutedAll rec rec�
     pub routed-wires : wiresIn rec′ ≡ wiresIn q′
     routed-wires =
         greatest-unique (jobOf rec) (wiresIn rec′) (wiresIn q′) (A .greatest) (subst (λ (J : Job). Greatest J (wiresIn q′)) e (E .greatest))
-
-    pub routed-lacks : k ≡ chosenCount (jobOf rec) - wiresIn q′
-    routed-lacks = A .lacks ∙ ap (λ (g : ℕ). chosenCount (jobOf rec) - g) routed-wires
 
     -- the near side is the one of the number of wires at which stepping ends
     pub routed-near : wiresIn q′ < chosenCount (jobOf rec) → (S : ℕ → Bool) → Smallest (jobOf rec) S (wiresIn q′) → near′ ≡ over (nearBytes S) near

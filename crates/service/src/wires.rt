@@ -20,7 +20,7 @@ pub fn step(rec: &mut [u8], scratch: &mut [u8]) -> Answer
     if scratch.len() < 65536 {
         return Answer::Refused(8);
     }
-    clear(scratch);
+    clear(&mut scratch[..65536]);
     let Progress::Full = search::step::step(rec) else {
         return Answer::Added;
     };
@@ -44,7 +44,7 @@ pub fn shortfall(rec: &[u8], scratch: &mut [u8], output: &mut [u8]) -> Answer
     if output.len() < 32768 {
         return Answer::Refused(7);
     }
-    clear(scratch);
+    clear(&mut scratch[..65536]);
     let lack = search::shortfall(rec, output);
     Answer::Lacks(lack)
 }

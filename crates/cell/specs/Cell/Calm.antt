@@ -1,24 +1,59 @@
 -- Links that carry nothing: four links at rest fit, the centre is even where the spokes rest, and a calm cell, one whose links rest like those by which
--- other cells reach n, e, s, w of its tile, passes the tests of its links and of its places. Assumes nothing.
-use mathlib.Core.Path.{_≡_, refl, sym, ap, subst, _∙_}
+-- other cells reach n, e, s, w of its tile, passes the tests of its links and of its places. The tests read the bytes as they stand, beyond the grid too,
+-- where a cell holds 0 in any case: what they find at rest or calm is so. Assumes nothing.
+use mathlib.Core.Path.{_≡_, refl, sym}
 use mathlib.Core.Bool.{Bool, true, false, not, _&&_, _||_}
 use mathlib.Core.List.{List}
-use Prim.Native.Nat.{ℕ, _+_, _*_, _<_}
-use lib.Dec.{T, eqb, leb, ltb, leb·zero}
-use lib.ListN.{length, getD, set, replicate, getD-replicate}
-use lib.Seq.{getD-set-same, getD-set-other}
+use Prim.Native.Nat.{ℕ, _+_}
+use borrow.Author.Tests.{eqb-true}
+use lib.Dec.{eqb, leb, ltb, leb·zero}
+use lib.ListN.{getD}
 use Rattle.sums.specs.Counting.{when, total}
-use Rattle.sums.specs.Tests.{Same, same, other, same?}
 use Rattle.model.specs.Job.{Job, isOpen, isChosen, isMissing, centreLimit}
 use Rattle.model.specs.Links.{north, east, south, west, pin, missing, centre, side, at, LinkKind, northSide, westSide, corner, spoke, leg, go}
 use Rattle.model.specs.Loads.{arrivals, departures}
-use Rattle.model.specs.Record.{loadPlane, cell, jobOf, load}
+use Rattle.model.specs.Record.{loadPlane, offset, cell, jobOf, load}
 use Rattle.cell.specs.Cell.{allFour, fits, room, linkFits, sidesFit, cornersFit, spokesFit, legsFit, linksFit}
 use Rattle.cell.specs.Cell.{evenAt, passesAt, tileEven, centreEven, startsOne, missingEven, pinsEven, placesEven}
 use Rattle.cell.specs.Cell.Tests.{first-true, second-true}
 use Rattle.cell.specs.Cell.Sums.{two-none, one-none, north-even, east-even, south-even, west-even}
 
--- the bytes of four planes from p on are 0
+-- ---- the tests
+
+-- the byte that stands at (r, c) of a plane is 0; one column beyond the grid it is the next row's first, one row beyond it one of the next plane
+pub isZero : List ℕ → ℕ → ℕ → ℕ → Bool
+isZero rec p r c = eqb (getD rec (offset p r c) 0) 0
+
+-- those of four planes from p on are
+pub isRest : List ℕ → ℕ → ℕ → ℕ → Bool
+isRest rec p r c = isZero rec p r c && (isZero rec (p + 1) r c && (isZero rec (p + 2) r c && isZero rec (p + 3) r c))
+
+-- those of a cell's links are: its sides, the links within its tile and of its pin; and those that lead to n, e, s, w of its tile from below and beside
+pub isCalm : List ℕ → ℕ → ℕ → Bool
+isCalm rec r c =
+    (isZero rec 2 r c && isZero rec 3 r c)
+    && ((isRest rec 4 r c && (isRest rec 8 r c && isRest rec 12 r c))
+    && ((isZero rec 2 (r + 1) c && (isZero rec 12 (r + 1) c && isZero rec 15 (r + 1) (c + 1))) && (isZero rec 3 r (c + 1) && isZero rec 14 r (c + 1))))
+
+module _ (rec : List ℕ) (r c : ℕ) where
+  pub zero-is : (p : ℕ) → isZero rec p r c ≡ eqb (getD rec (offset p r c) 0) 0
+  unfolding isZero
+  zero-is p = refl
+
+  pub rest-is : (p : ℕ) → isRest rec p r c ≡ (isZero rec p r c && (isZero rec (p + 1) r c && (isZero rec (p + 2) r c && isZero rec (p + 3) r c)))
+  unfolding isRest
+  rest-is p = refl
+
+  -- as a program reads it: its sides, the links within its tile and of its pin, those below, those beside
+  pub calm-read : {n w i j k s x y e z : Bool} → n ≡ isZero rec 2 r c → w ≡ isZero rec 3 r c → i ≡ isRest rec 4 r c → j ≡ isRest rec 8 r c
+      → k ≡ isRest rec 12 r c → s ≡ isZero rec 2 (r + 1) c → x ≡ isZero rec 12 (r + 1) c → y ≡ isZero rec 15 (r + 1) (c + 1)
+      → e ≡ isZero rec 3 r (c + 1) → z ≡ isZero rec 14 r (c + 1) → ((n && w) && ((i && (j && k)) && ((s && (x && y)) && (e && z)))) ≡ isCalm rec r c
+  unfolding isCalm
+  calm-read f₁ f₂ f₃ f₄ f₅ f₆ f₇ f₈ f₉ f₀ = rw (f₁, f₂, f₃, f₄, f₅, f₆, f₇, f₈, f₉, f₀) refl
+
+-- ---- what they find
+
+-- the cells of four planes from p on hold 0
 pub record Rest (rec : List ℕ) (p r c : ℕ) : Type 0 where
   pub first : cell rec p r c ≡ 0
   pub second : cell rec (p + 1) r c ≡ 0
@@ -39,13 +74,60 @@ pub record Calm (rec : List ℕ) (r c : ℕ) : Type 0 where
   pub northEast : cell rec 14 r (c + 1) ≡ 0
 
 -- a byte that is 0 where its cell has one: beyond the grid a cell holds 0
-pub cell-none : (rec : List ℕ) (p r c : ℕ) → getD rec (768 + 1600 * p + 40 * r + c) 0 ≡ 0 → cell rec p r c ≡ 0
-unfolding cell
-cell-none rec p r c e = rw e (by (ltb r 40 && ltb c 40))
+zero-holds : (rec : List ℕ) (p r c : ℕ) → isZero rec p r c ≡ true → cell rec p r c ≡ 0
+unfolding isZero cell
+zero-holds rec p r c t = rw (eqb-true (getD rec (offset p r c) 0) 0 t) (by (ltb r 40 && ltb c 40))
   where
     by : (b : Bool) → when b 0 ≡ 0
     by true = refl
     by false = refl
+
+module _ (rec : List ℕ) (r c : ℕ) where
+  pub rest-holds : (p : ℕ) → isRest rec p r c ≡ true → Rest rec p r c
+  unfolding isRest
+  rest-holds p = by _ _ _ _ (zero-holds rec p r c) (zero-holds rec (p + 1) r c) (zero-holds rec (p + 2) r c) (zero-holds rec (p + 3) r c)
+    where
+      by : (w x y z : Bool) → (w ≡ true → cell rec p r c ≡ 0) → (x ≡ true → cell rec (p + 1) r c ≡ 0)
+          → (y ≡ true → cell rec (p + 2) r c ≡ 0) → (z ≡ true → cell rec (p + 3) r c ≡ 0) → (w && (x && (y && z))) ≡ true → Rest rec p r c
+      by w x y z f g h k t =
+          let u : (x && (y && z)) ≡ true = second-true w _ t in
+          let v : (y && z) ≡ true = second-true x _ u in
+          record { first = f (first-true w _ t); second = g (first-true x _ u); third = h (first-true y z v); fourth = k (second-true y z v) }
+
+  pub calm-holds : isCalm rec r c ≡ true → Calm rec r c
+  unfolding isCalm
+  calm-holds =
+      by _ _ _ _ _ _ _ _ _ _ (zero-holds rec 2 r c) (zero-holds rec 3 r c) (rest-holds 4) (rest-holds 8) (rest-holds 12) (zero-holds rec 2 (r + 1) c)
+      (zero-holds rec 12 (r + 1) c) (zero-holds rec 15 (r + 1) (c + 1)) (zero-holds rec 3 r (c + 1)) (zero-holds rec 14 r (c + 1))
+    where
+      -- its sides, the links within its tile and of its pin, those below, those beside
+      by : (n w i j k s x y e z : Bool) → (n ≡ true → cell rec 2 r c ≡ 0) → (w ≡ true → cell rec 3 r c ≡ 0) → (i ≡ true → Rest rec 4 r c)
+          → (j ≡ true → Rest rec 8 r c) → (k ≡ true → Rest rec 12 r c) → (s ≡ true → cell rec 2 (r + 1) c ≡ 0) → (x ≡ true → cell rec 12 (r + 1) c ≡ 0)
+          → (y ≡ true → cell rec 15 (r + 1) (c + 1) ≡ 0) → (e ≡ true → cell rec 3 r (c + 1) ≡ 0) → (z ≡ true → cell rec 14 r (c + 1) ≡ 0)
+          → ((n && w) && ((i && (j && k)) && ((s && (x && y)) && (e && z)))) ≡ true → Calm rec r c
+      by n w i j k s x y e z f₁ f₂ f₃ f₄ f₅ f₆ f₇ f₈ f₉ f₀ t =
+          let sides : (n && w) ≡ true = first-true (n && w) _ t in
+          let others : ((i && (j && k)) && ((s && (x && y)) && (e && z))) ≡ true = second-true (n && w) _ t in
+          let own : (i && (j && k)) ≡ true = first-true (i && (j && k)) _ others in
+          let theirs : ((s && (x && y)) && (e && z)) ≡ true = second-true (i && (j && k)) _ others in
+          let below : (s && (x && y)) ≡ true = first-true (s && (x && y)) _ theirs in
+          let beside : (e && z) ≡ true = second-true (s && (x && y)) _ theirs in
+          let ends : (j && k) ≡ true = second-true i _ own in
+          let pins : (x && y) ≡ true = second-true s _ below in
+          record {
+            north = f₁ (first-true n w sides);
+            west = f₂ (second-true n w sides);
+            corners = f₃ (first-true i _ own);
+            spokes = f₄ (first-true j k ends);
+            legs = f₅ (second-true j k ends);
+            south = f₆ (first-true s _ below);
+            southWest = f₇ (first-true x y pins);
+            southEast = f₈ (second-true x y pins);
+            east = f₉ (first-true e z beside);
+            northEast = f₀ (second-true e z beside);
+          }
+
+-- ---- what that is for
 
 none-asked : (a x : Bool) → x ≡ true → true ≡ (not a || x)
 none-asked true x e = sym e
@@ -59,7 +141,11 @@ module _ (rec : List ℕ) (r c : ℕ) where
   unfolding linkFits fits
   link-rest k e = rw (e, leb·zero) refl
 
-  corners-rest : Rest rec 4 r c → true ≡ cornersFit rec r c
+  pub sides-rest : cell rec 2 r c ≡ 0 → cell rec 3 r c ≡ 0 → true ≡ sidesFit rec r c
+  unfolding sidesFit
+  sides-rest n w = rw (link-rest northSide n, link-rest westSide w) refl
+
+  pub corners-rest : Rest rec 4 r c → true ≡ cornersFit rec r c
   unfolding cornersFit allFour
   corners-rest s =
       rw (
@@ -102,11 +188,10 @@ module _ (rec : List ℕ) (r c : ℕ) where
 
   module _ (k : Calm rec r c) where
     pub calm-links : true ≡ linksFit rec r c
-    unfolding linksFit sidesFit
+    unfolding linksFit
     calm-links =
         rw (
-          link-rest northSide (k .north),
-          link-rest westSide (k .west),
+          sym (sides-rest (k .north) (k .west)),
           sym (corners-rest (k .corners)),
           sym (spokes-rest (k .spokes)),
           sym (legs-rest (k .legs)),
@@ -141,53 +226,3 @@ module _ (rec : List ℕ) (r c : ℕ) where
     pub calm-places : true ≡ placesEven rec r c
     unfolding placesEven tileEven
     calm-places = rw (sym (none-asked (isOpen J r c) _ calm-tile), sym (centre-rest (k .spokes)), sym (pins-rest (k .legs))) refl
-
--- ---- as a program reads them
-
-module _ (rec : List ℕ) (r c : ℕ) where
-  pub rest-read : (p : ℕ) (w x y z : Bool) → (w ≡ true → cell rec p r c ≡ 0) → (x ≡ true → cell rec (p + 1) r c ≡ 0)
-      → (y ≡ true → cell rec (p + 2) r c ≡ 0) → (z ≡ true → cell rec (p + 3) r c ≡ 0) → (w && (x && (y && z))) ≡ true → Rest rec p r c
-  rest-read p w x y z f g h k t =
-      let u : (x && (y && z)) ≡ true = second-true w _ t in
-      let v : (y && z) ≡ true = second-true x _ u in
-      record { first = f (first-true w _ t); second = g (first-true x _ u); third = h (first-true y z v); fourth = k (second-true y z v) }
-
-  -- its sides, the links within its tile and of its pin, those below, those beside
-  pub calm-read : (n w i j k s x y e z : Bool) → (n ≡ true → cell rec 2 r c ≡ 0) → (w ≡ true → cell rec 3 r c ≡ 0) → (i ≡ true → Rest rec 4 r c)
-      → (j ≡ true → Rest rec 8 r c) → (k ≡ true → Rest rec 12 r c) → (s ≡ true → cell rec 2 (r + 1) c ≡ 0) → (x ≡ true → cell rec 12 (r + 1) c ≡ 0)
-      → (y ≡ true → cell rec 15 (r + 1) (c + 1) ≡ 0) → (e ≡ true → cell rec 3 r (c + 1) ≡ 0) → (z ≡ true → cell rec 14 r (c + 1) ≡ 0)
-      → ((n && w) && ((i && (j && k)) && ((s && (x && y)) && (e && z)))) ≡ true → Calm rec r c
-  calm-read n w i j k s x y e z f₁ f₂ f₃ f₄ f₅ f₆ f₇ f₈ f₉ f₀ t =
-      let sides : (n && w) ≡ true = first-true (n && w) _ t in
-      let others : ((i && (j && k)) && ((s && (x && y)) && (e && z))) ≡ true = second-true (n && w) _ t in
-      let own : (i && (j && k)) ≡ true = first-true (i && (j && k)) _ others in
-      let theirs : ((s && (x && y)) && (e && z)) ≡ true = second-true (i && (j && k)) _ others in
-      let below : (s && (x && y)) ≡ true = first-true (s && (x && y)) _ theirs in
-      let beside : (e && z) ≡ true = second-true (s && (x && y)) _ theirs in
-      let ends : (j && k) ≡ true = second-true i _ own in
-      let pins : (x && y) ≡ true = second-true s _ below in
-      record {
-        north = f₁ (first-true n w sides);
-        west = f₂ (second-true n w sides);
-        corners = f₃ (first-true i _ own);
-        spokes = f₄ (first-true j k ends);
-        legs = f₅ (second-true j k ends);
-        south = f₆ (first-true s _ below);
-        southWest = f₇ (first-true x y pins);
-        southEast = f₈ (second-true x y pins);
-        east = f₉ (first-true e z beside);
-        northEast = f₀ (second-true e z beside);
-      }
-
--- a row's cells that are marked as calm are so: none is marked, and the mark of one more is stored
-module _ (rec : List ℕ) (r : ℕ) where
-  pub none-marked : (n c : ℕ) → c < n → getD (replicate n false) c false ≡ true → Calm rec r c
-  none-marked n c l e = absurd (subst T (sym e ∙ getD-replicate n c false false l) tt)
-
-  pub one-marked : (l : List Bool) (i : ℕ) (b : Bool) → i < length l → (b ≡ true → Calm rec r i) → (c : ℕ) → (getD l c false ≡ true → Calm rec r c)
-      → getD (set l i b) c false ≡ true → Calm rec r c
-  one-marked l i b k f c g t = go (eqb c i) (same? c i)
-    where
-      go : (x : Bool) → Same c i x → Calm rec r c
-      go true (same e) = subst (λ (j : ℕ). Calm rec r j) (sym e) (f (sym (ap (λ (j : ℕ). getD (set l i b) j false) e ∙ getD-set-same l i b false k) ∙ t))
-      go false (other n) = g (sym (getD-set-other l i c b false n) ∙ t)

@@ -1,6 +1,8 @@
 -- `cells::row` meets its contract. The loop's invariant: every cell passed is in order. The measure is what is left of the row. Assumes nothing.
 use borrow.Author.Needs.{needs}
+use mathlib.Core.Path.{sym, _∙_}
 use native.Mathlib.Omega.{arith}
+use Rattle.cell.specs.Cell.Calm.{calm-holds}
 use Rattle.audit.specs.Laws.{cellFits}
 use Rattle.audit.specs.Feasible.{decides-yes, decides-no, test-fails, test-holds, one-more}
 use Prim.Native.Nat.{ℕ, _-_, _≤_, _<_}
@@ -27,7 +29,7 @@ cell-requires : tie.Need-cell-requires Inv-loop μ-loop
 cell-requires c κs =
     let s = c .before .before .before .before .pre in
     let l = c .loop-test .taken in
-    ((s .0, s .1, l, s .2), c .before .before .calm-cells .ensures (c .before .loop .c) l)
+    ((s .0, s .1, l, s .2), λ t. calm-holds _ _ _ (sym (c .before .before .calm-cells .ensures (c .before .loop .c) l) ∙ t))
 
 returns : tie.Need-returns Inv-loop μ-loop
 returns c = decides-no (λ f. test-fails _ _ (c .before .cell .ensures) (c .if1 .taken) (f _ (c .before .before .loop-test .taken)))

@@ -54,7 +54,7 @@ zero-requires-7 c κs = search needs
 
 returns : tie.Need-returns
 returns c =
-    calm-read _ _ _ _ _ _ _ _ _ _ _ _ _ (c .before .before .before .before .before .before .before .before .before .zero .ensures) (c .before .before .before .before .before .before .before .before .zero2 .ensures) (c .before .before .before .before .before .before .before .rest .ensures) (c .before .before .before .before .before .before .rest2 .ensures) (c .before .before .before .before .before .rest3 .ensures) (c .before .before .before .before .zero3 .ensures) (c .before .before .before .zero4 .ensures) (c .before .before .zero5 .ensures) (c .before .zero6 .ensures) (c .zero7 .ensures)
+    calm-read _ _ _ (c .before .before .before .before .before .before .before .before .before .zero .ensures) (c .before .before .before .before .before .before .before .before .zero2 .ensures) (c .before .before .before .before .before .before .before .rest .ensures) (c .before .before .before .before .before .before .rest2 .ensures) (c .before .before .before .before .before .rest3 .ensures) (c .before .before .before .before .zero3 .ensures) (c .before .before .before .zero4 .ensures) (c .before .before .zero5 .ensures) (c .before .zero6 .ensures) (c .zero7 .ensures)
 
 pub calm-spec : {M : Type 1} → statement M
 calm-spec =

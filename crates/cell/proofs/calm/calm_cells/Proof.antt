@@ -1,22 +1,23 @@
--- `calm::calm_cells` meets its contract. The loop's invariant: every cell marked is calm. The measure is what is left of the row. Assumes nothing.
+-- `calm::calm_cells` meets its contract. The loop's invariant: every cell passed has its test. The measure is what is left of the row. Assumes nothing.
 use borrow.Author.Needs.{needs}
 use mathlib.Core.Path.{_≡_, refl}
-use mathlib.Core.Bool.{true, false}
+use mathlib.Core.Bool.{false}
 use Prim.Native.Nat.{ℕ, _-_, _≤_, _<_}
 use native.Mathlib.Omega.{arith}
 use lib.ListN.{length, getD, length-set}
-use Rattle.cell.specs.Cell.Calm.{Calm, none-marked, one-marked}
+use Rattle.sums.specs.Stores.{set-reads}
+use Rattle.cell.specs.Cell.Calm.{isCalm}
 use Rattle.cell.proofs.calm.calm_cells.Statement.{statement}
 use Rattle.cell.proofs.calm.calm_cells.Tie as tie
 
 abbrev Inv-loop : tie.InvT-loop
-Inv-loop rec r cells₀ c₀ cells c = (c ≤ 40) × (length cells ≡ 40) × ((i : ℕ) → i < 40 → getD cells i false ≡ true → Calm rec r i)
+Inv-loop rec r cells₀ c₀ cells c = (c ≤ 40) × (length cells ≡ 40) × ((i : ℕ) → i < c → getD cells i false ≡ isCalm rec r i)
 
 abbrev μ-loop : tie.MeasureT-loop
 μ-loop rec r cells₀ c₀ cells c = 40 - c
 
 loop-holds : tie.Need-loop-holds Inv-loop μ-loop
-loop-holds c = (omega arith, refl, λ i l. none-marked _ _ 40 i l)
+loop-holds c = (omega arith, refl, λ i l. absurd (omega arith))
 
 calm-requires : tie.Need-calm-requires Inv-loop μ-loop
 calm-requires c κs = search needs
@@ -34,10 +35,10 @@ loop-again : tie.Need-loop-again Inv-loop μ-loop
 loop-again c =
     let l = c .before .before .loop in
     let k : l .c < length (l .cells) = omega arith in
-    (omega arith, simp length-set (l .inv .1), λ i h. one-marked _ _ (l .cells) (l .c) _ k (c .calm .ensures) i (l .inv .2 i h))
+    (omega arith, simp length-set (l .inv .1), λ i h. set-reads (l .cells) (l .c) _ false (isCalm _ _) k (c .calm .ensures) i (λ n. l .inv .2 i (omega arith)))
 
 returns : tie.Need-returns Inv-loop μ-loop
-returns c = c .before .loop .inv .2
+returns c i h = c .before .loop .inv .2 i (omega arith)
 
 pub calm-cells-spec : {M : Type 1} → statement M
 calm-cells-spec =

@@ -1,6 +1,6 @@
 -- `calm::rest` meets its contract, byte by byte. Assumes nothing.
 use borrow.Author.Needs.{needs}
-use Rattle.cell.specs.Cell.Calm.{rest-read}
+use Rattle.cell.specs.Cell.Calm.{rest-is}
 use Rattle.cell.proofs.calm.rest.Statement.{statement}
 use Rattle.cell.proofs.calm.rest.Tie as tie
 
@@ -26,8 +26,7 @@ zero-requires-4 : tie.Need-zero-requires-4
 zero-requires-4 c κs = search needs
 
 returns : tie.Need-returns
-returns c =
-    rest-read _ _ _ _ _ _ _ _ (c .before .before .before .zero .ensures) (c .before .before .zero2 .ensures) (c .before .zero3 .ensures) (c .zero4 .ensures)
+returns c = let s = c .before .before .before .before .before .args in cc (rest-is (s .rec .now) (s .r) (s .c) (s .p))
 
 pub rest-spec : {M : Type 1} → statement M
 rest-spec =

@@ -1,7 +1,7 @@
--- `calm::zero` meets its contract: beyond the grid a cell holds 0 in any case. Assumes nothing.
+-- `calm::zero` meets its contract: it is the test. Assumes nothing.
 use borrow.Author.Needs.{needs}
-use borrow.Author.Tests.{eqb-true}
-use Rattle.cell.specs.Cell.Calm.{cell-none}
+use mathlib.Core.Path.{sym}
+use Rattle.cell.specs.Cell.Calm.{zero-is}
 use Rattle.cell.proofs.calm.zero.Statement.{statement}
 use Rattle.cell.proofs.calm.zero.Tie as tie
 
@@ -24,7 +24,7 @@ shared-slice-read-result : tie.Need-shared-slice-read-result
 shared-slice-read-result c = search needs
 
 returns : tie.Need-returns
-returns c t = cell-none _ _ _ _ (eqb-true _ _ t)
+returns c = sym (zero-is _ _ _ _)
 
 pub zero-spec : {M : Type 1} → statement M
 zero-spec =

@@ -1,6 +1,7 @@
 -- `links::legs` meets its contract: the room of a leg, from the pin's mark and the tile that it leads into. Assumes nothing.
+use mathlib.Core.Path.{sym, _∙_}
 use borrow.Author.Needs.{needs}
-use Rattle.cell.specs.Cell.Calm.{legs-rest}
+use Rattle.cell.specs.Cell.Calm.{rest-holds, legs-rest}
 use Rattle.cell.specs.Cell.Rooms.{legs-read}
 use Rattle.cell.proofs.links.legs.Statement.{statement}
 use Rattle.cell.proofs.links.legs.Tie as tie
@@ -9,7 +10,7 @@ rest-requires : tie.Need-rest-requires
 rest-requires c κs = search needs
 
 returns : tie.Need-returns
-returns c = legs-rest _ _ _ (c .before .rest .ensures (c .if1 .taken))
+returns c = legs-rest _ _ _ (rest-holds _ _ _ _ (sym (c .before .rest .ensures) ∙ c .if1 .taken))
 
 mark-of-requires : tie.Need-mark-of-requires
 mark-of-requires c κs = search needs

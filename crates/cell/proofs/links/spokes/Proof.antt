@@ -1,6 +1,7 @@
 -- `links::spokes` meets its contract: a spoke has no limit but that of a byte. Assumes nothing.
+use mathlib.Core.Path.{sym, _∙_}
 use borrow.Author.Needs.{needs}
-use Rattle.cell.specs.Cell.Calm.{spokes-rest}
+use Rattle.cell.specs.Cell.Calm.{rest-holds, spokes-rest}
 use Rattle.cell.specs.Cell.Rooms.{spokes-are}
 use Rattle.cell.proofs.links.spokes.Statement.{statement}
 use Rattle.cell.proofs.links.spokes.Tie as tie
@@ -9,7 +10,7 @@ rest-requires : tie.Need-rest-requires
 rest-requires c κs = search needs
 
 returns : tie.Need-returns
-returns c = spokes-rest _ _ _ (c .before .rest .ensures (c .if1 .taken))
+returns c = spokes-rest _ _ _ (rest-holds _ _ _ _ (sym (c .before .rest .ensures) ∙ c .if1 .taken))
 
 four-fit-requires : tie.Need-four-fit-requires
 four-fit-requires c κs = search needs

@@ -1,7 +1,8 @@
 -- `places::centre` meets its contract: the sums over the four spokes. Assumes nothing.
+use mathlib.Core.Path.{sym, _∙_}
 use borrow.Author.Needs.{needs}
 use native.Mathlib.Omega.{arith}
-use Rattle.cell.specs.Cell.Calm.{centre-rest}
+use Rattle.cell.specs.Cell.Calm.{rest-holds, centre-rest}
 use Rattle.cell.specs.Cell.Sums.{centre-none, centre-read}
 use Rattle.cell.proofs.places.centre.Statement.{statement}
 use Rattle.cell.proofs.places.centre.Tie as tie
@@ -10,7 +11,7 @@ rest-requires : tie.Need-rest-requires
 rest-requires c κs = search needs
 
 returns : tie.Need-returns
-returns c = centre-rest _ _ _ (c .before .rest .ensures (c .if1 .taken))
+returns c = centre-rest _ _ _ (rest-holds _ _ _ _ (sym (c .before .rest .ensures) ∙ c .if1 .taken))
 
 open-in-requires : tie.Need-open-in-requires
 open-in-requires c κs = search needs

@@ -1,7 +1,10 @@
 -- `shortfall` meets its contract: refused by the first test that fails; else the scratch is cleared and the search's number told. Assumes nothing.
+use mathlib.Core.Path.{sym}
+use lib.Seq.{length-take-le}
 use borrow.Author.Tests.{not-true, not-false}
 use Rattle.service.specs.Outcomes.{on-damaged, on-legal}
 use Rattle.service.specs.Wiring.{lacks-small, lacks-narrow, lacks-enough}
+use denote.Ref.{now}
 use borrow.Author.Needs.{needs}
 use Rattle.service.proofs.wires.shortfall.Statement.{statement}
 use Rattle.service.proofs.wires.shortfall.Tie as tie
@@ -22,6 +25,12 @@ returns-3 c =
     let c1 = c .before in
     let c2 = c1 .before in
     on-legal (c2 .before .sound .ensures .yes (not-false _ (c2 .if1 .left))) (lacks-narrow _ _ _ (c1 .if2 .left) (c .if3 .taken))
+
+slice-relend-prefix-clear : tie.Need-slice-relend-prefix-clear
+slice-relend-prefix-clear c = search needs
+
+slice-aggregate-clear : tie.Need-slice-aggregate-clear
+slice-aggregate-clear c = sym (length-take-le 65536 (now (c .before .before .before .before .before .before .before .before .args .scratch)) (c .before .before .if2 .left))
 
 clear-requires : tie.Need-clear-requires
 clear-requires c κs = search needs
@@ -55,6 +64,8 @@ shortfall-spec =
     returns
     returns-2
     returns-3
+    slice-relend-prefix-clear
+    slice-aggregate-clear
     clear-requires
     shortfall-requires
     same-length

@@ -1,9 +1,11 @@
 -- `step` meets its contract: refused by the first test that fails; else the scratch is cleared and the search's answer told. Assumes nothing.
 use mathlib.Core.Path.{sym, subst}
+use lib.Seq.{length-take-le}
 use borrow.Author.Tests.{not-true, not-false}
 use Rattle.model.specs.Record.{Legal}
 use Rattle.service.specs.Outcomes.{on-damaged, on-legal}
 use Rattle.service.specs.Wiring.{step-small, step-enough, step-added, step-full, step-all, step-short}
+use denote.Ref.{now}
 use borrow.Author.Needs.{needs}
 use Rattle.service.proofs.wires.step.Statement.{statement}
 use Rattle.service.proofs.wires.step.Tie as tie
@@ -24,6 +26,12 @@ returns-2 : tie.Need-returns-2
 returns-2 c =
     let c1 = c .before in
     on-legal (c1 .before .sound .ensures .yes (not-false _ (c1 .if1 .left))) (step-small _ _ (c .if2 .taken))
+
+slice-relend-prefix-clear : tie.Need-slice-relend-prefix-clear
+slice-relend-prefix-clear c = search needs
+
+slice-aggregate-clear : tie.Need-slice-aggregate-clear
+slice-aggregate-clear c = sym (length-take-le 65536 (now (c .before .before .before .before .before .before .before .args .scratch)) (c .before .if2 .left))
 
 clear-requires : tie.Need-clear-requires
 clear-requires c κs = search needs
@@ -104,6 +112,8 @@ step-spec =
     returns
     same-length-2
     returns-2
+    slice-relend-prefix-clear
+    slice-aggregate-clear
     clear-requires
     step-requires
     enum-told
