@@ -1,12 +1,12 @@
 // The search for a way out: breadth-first from one spot along moves, never entering a marked spot. It works on what is lent to it.
 ghost use Prim.Native.Nat.{_<_};
 ghost use Rattle.model.specs.Record.{jobOf};
-ghost use Rattle.augment.specs.Slots.{Lowest};
 ghost use Rattle.augment.specs.Spread.{Room};
 ghost use Rattle.augment.specs.Steps.{Whole, Ready, Tried, Expanded, Searched, Fresh};
 use channel::can_move;
 use channel::head_of;
 use channel::is_outside;
+use channel::lowest;
 use channel::unmarked;
 
 // The way out: slot k of the j-th spot in the queue, which has n; or there is none, and the queue has n.
@@ -55,14 +55,6 @@ fn attempt(
     parent[n] = h as u16;
     slot[n] = k as u8;
     Step::More(n + 1)
-}
-
-// The place of the lowest bit of 1.
-fn lowest(x: usize) -> usize
-    requires { ⌜ (0 < x) × (x < 256) ⌝ }
-    ensures { λ r. ⌜ Lowest x r ⌝ }
-{
-    usize::trailing_zeros(x) as usize
 }
 
 // All slots of the spot u, which is the h-th in the queue of n, up to one that leads outside: those that lead to spots with no mark as it begins.

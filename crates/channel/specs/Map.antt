@@ -37,6 +37,7 @@ pub mod Origins
 pub mod Fresh
 pub mod Laden
 pub mod LoadedSlots
+pub mod Struck
 pub mod Ahead
 use mathlib.Core.Path.{_≡_}
 use mathlib.Core.Logic.{_⊎_}
