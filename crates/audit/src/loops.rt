@@ -42,10 +42,11 @@ fn scan(rec: &[u8], fin: &[u16], u: usize, s0: usize) -> usize
     let mut left = s0 / 8;
     let mut k = s0 % 8;
     while left != 0 {
-        if left % 2 == 1 {
-            if fin[channel::head_of(8 * u + k)] < 2 {
-                return k + 8 * left;
-            }
+        let skip = channel::lowest(left);
+        k += skip;
+        left = left >> skip;
+        if fin[channel::head_of(8 * u + k)] < 2 {
+            return k + 8 * left;
         }
         left /= 2;
         k += 1;
@@ -173,7 +174,7 @@ fn trace_fresh(
     trace(rec, fin, st, sl, i, m)
 }
 
-// All that the wires of the k-th 64 load bytes lead to on fresh links, with m0 done.
+// All that the wires of the k-th 16 load bytes lead to on fresh links, with m0 done.
 fn trace_run(
     old: &[u8],
     rec: &[u8],
@@ -183,14 +184,14 @@ fn trace_run(
     k: usize,
     m0: usize,
 ) -> Search
-    requires { ⌜ Dfs (now rec) (now fin) (now st) (now sl) 0 m0 × (32768 ≤ length (now old)) × (k < 350) ⌝ }
-    ensures { λ s. ⌜ FreshTraced (now (old .entry)) (now (rec .entry)) (64 * k) (64 * k + 64) (now (fin .entry)) (now (fin .exit)) (now (st .exit)) (now (sl .exit)) s ⌝ }
+    requires { ⌜ Dfs (now rec) (now fin) (now st) (now sl) 0 m0 × (32768 ≤ length (now old)) × (k < 1400) ⌝ }
+    ensures { λ s. ⌜ FreshTraced (now (old .entry)) (now (rec .entry)) (16 * k) (16 * k + 16) (now (fin .entry)) (now (fin .exit)) (now (st .exit)) (now (sl .exit)) s ⌝ }
 {
     if channel::same_run(old, rec, k) {
         return Search::Over(m0);
     }
     let mut m = m0;
-    for i in 64 * k..64 * k + 64 {
+    for i in 16 * k..16 * k + 16 {
         match trace_fresh(old, rec, fin, st, sl, i, m) {
             Search::Over(a) => {
                 m = a;
@@ -204,15 +205,15 @@ fn trace_run(
 }
 
 // Says that no chain of loaded darts behind the fresh links is closed, with fin as the order along which they fall; or gives one. With no closed chain in
-// the old loads there is then none at all.
+// the old loads there is then none at all. The last bytes come first: they are those of the legs, so that whole wires are followed.
 pub fn find(old: &[u8], rec: &[u8], fin: &mut [u16], st: &mut [u16], sl: &mut [u8]) -> Found
     requires { ⌜ Room (now rec) (now fin) (now st) (now sl) × (32768 ≤ length (now old)) ⌝ }
     ensures { λ f. ⌜ Answer (now (old .entry)) (now (rec .entry)) (now (fin .exit)) (now (st .exit)) (now (sl .exit)) f ⌝ }
 {
     clear(fin);
     let mut m = 0;
-    for k in 0..350 {
-        match trace_run(old, rec, fin, st, sl, k, m) {
+    for k in 0..1400 {
+        match trace_run(old, rec, fin, st, sl, 1399 - k, m) {
             Search::Over(a) => {
                 m = a;
             }

@@ -1,49 +1,22 @@
 -- The slots of a spot that are still to be tried, as the bits of a number: the moves that lead to spots with no mark as the spot is taken up. Assumes
 -- nothing.
 use mathlib.Core.Path.{_≡_, refl, sym, ap, ap₂, _∙_}
-use mathlib.Core.Bool.{Bool, true, false, not, _&&_, _||_}
+use mathlib.Core.Bool.{Bool, true, false}
 use mathlib.Core.List.{List}
 use Prim.Native.Nat.{ℕ, zero, suc, min, _+_, _-_, _*_, _/_, _%_, _^_, _≤_, _<_}
 use native.Mathlib.Nat.{mul-comm, pow-suc, pow-le-pow-right, div-eq-of-lt, zero-div, div-div-eq-div-mul, div-le-self}
 use native.Mathlib.Omega.{arith}
 use borrow.Author.Tests.{ltb-true, ltb-false}
 use lib.Bits.{bitAnd, and-step, and-le-l}
-use lib.Count.{trailingZeros}
-use lib.Dec.{T, eqb, eqb→eq, ltb, ltb→lt, lt→ltb}
+use lib.Dec.{T, ltb}
 use lib.ListN.{getD}
 use lib.Pow.{pow-add}
 use Rattle.sums.specs.Counting.{when}
-use Rattle.sums.specs.Tests.{so, below, below-at, and-left, and-right, if-so}
+use Rattle.sums.specs.Lowest.{Lowest}
 use Rattle.model.specs.Job.{Job}
 use Rattle.channel.specs.Map.{rev, moves}
 use Rattle.channel.specs.Map.Ahead.{Bits, unset, marked}
 use Rattle.augment.specs.Steps.{Grown}
-
--- ---- the lowest bit
-
--- the lowest bit of 1 of x stands at r
-pub record Lowest (x r : ℕ) : Type 0 where
-  pub here : x / 2 ^ r % 2 ≡ 1
-  pub under : (j : ℕ) → j < r → x / 2 ^ j % 2 ≡ 0
-
-unfoldable isLowest : ℕ → ℕ → Bool
-isLowest x r = ltb r 8 && (eqb (x / 2 ^ r % 2) 1 && below 8 (λ j. not (ltb j r) || eqb (x / 2 ^ j % 2) 0))
-
-lowest-test : (x r : ℕ) → T (isLowest x r) → Lowest x r
-unfolding isLowest
-lowest-test x r t =
-    let s = and-right (ltb r 8) _ t in
-    record {
-      here = eqb→eq _ _ (and-left (eqb (x / 2 ^ r % 2) 1) _ s);
-      under = λ j l. eqb→eq _ _ (if-so (ltb j r) _ (below-at 8 (λ j. not (ltb j r) || eqb (x / 2 ^ j % 2) 0) (and-right (eqb (x / 2 ^ r % 2) 1) _ s) j
-          (omega (arith, ltb→lt r 8 (and-left (ltb r 8) _ t)))) (lt→ltb j r l));
-    }
-
-pub lowest-is : (x : ℕ) → 0 < x → x < 256 → Lowest x (trailingZeros 64 x)
-unfolding below isLowest trailingZeros
-lowest-is x s l =
-    lowest-test x (trailingZeros 64 x)
-    (if-so (ltb 0 x) _ (below-at 256 (λ x. not (ltb 0 x) || isLowest x (trailingZeros 64 x)) tt x l) (lt→ltb 0 x s))
 
 -- ---- the bits of two numbers
 

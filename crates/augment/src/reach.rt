@@ -5,11 +5,12 @@ ghost use lib.ListN.{length};
 ghost use Rattle.model.specs.Record.{jobOf};
 ghost use Rattle.channel.specs.Map.{spots, moves};
 ghost use Rattle.channel.specs.Map.Ahead.{Bits};
-ghost use Rattle.augment.specs.Slots.{Lowest, goesOn};
+ghost use Rattle.augment.specs.Slots.{goesOn};
 ghost use Rattle.augment.specs.Spread.{Room};
 ghost use Rattle.augment.specs.Steps.{Whole, Ready, Tried, Expanded, Searched, Fresh};
 use channel::head_of;
 use channel::is_outside;
+use channel::lowest;
 use channel::move_slots;
 use channel::unmarked;
 
@@ -55,14 +56,6 @@ fn attempt(
     parent[n] = h as u16;
     slot[n] = k as u8;
     Step::More(n + 1)
-}
-
-// The place of the lowest bit of 1.
-fn lowest(x: usize) -> usize
-    requires { ⌜ (0 < x) × (x < 256) ⌝ }
-    ensures { λ r. ⌜ Lowest x r ⌝ }
-{
-    usize::trailing_zeros(x) as usize
 }
 
 // The slots of u by which the search goes on: moves to spots with no mark.

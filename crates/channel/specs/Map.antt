@@ -37,6 +37,7 @@ pub mod Origins
 pub mod Fresh
 pub mod Laden
 pub mod LoadedSlots
+pub mod Struck
 pub mod Ahead
 pub mod Slots
 use mathlib.Core.Path.{_≡_}

@@ -1,4 +1,5 @@
 // The channel map in code: the constant table, the job and the loads of a record, limits and moves. A crate above calls these functions by their contracts.
+pub mod bits; // the lowest bit of a number
 pub mod table; // the table's rows, and the way back of a dart
 pub mod ahead; // the slots that lead to spots with no mark
 pub mod header; // the job that a record holds
@@ -10,6 +11,7 @@ pub mod slots; // the slots along which the search may move
 pub mod write; // a new job, one mark or state, no wires
 
 pub use ahead::unmarked;
+pub use bits::lowest;
 pub use header::chosen_at;
 pub use header::columns;
 pub use header::diagonal;
@@ -37,6 +39,7 @@ pub use loads::loaded_slots;
 pub use loads::origin;
 pub use loads::passing;
 pub use loads::same_run;
+pub use loads::strike;
 pub use moves::can_move;
 pub use moves::is_outside;
 pub use moves::is_start;

@@ -12,7 +12,9 @@ ghost use Rattle.channel.specs.Map.Fresh.{isFresh, SameRun};
 ghost use Rattle.channel.specs.Map.LoadedSlots.{loadedFrom};
 ghost use Rattle.channel.specs.Map.Origins.{originOf};
 ghost use Rattle.channel.specs.Map.Packed.{SlotWords};
+ghost use Rattle.channel.specs.Map.Struck.{Struck};
 ghost use Rattle.channel.specs.Map.{inGrid, rowOf, columnOf, ownerCell, stepOf, carries, isPassDart, passedOf, view, opposed, address, placeOf};
+use crate::bits::lowest;
 use crate::header::in_grid;
 use crate::header::wide;
 use crate::table::PLACES;
@@ -276,15 +278,35 @@ pub fn is_fresh(old: &[u8], rec: &[u8], i: usize) -> bool
     ((0 < forth(b)) & (forth(a) == 0)) | ((0 < back(b)) & (back(a) == 0))
 }
 
-// Whether the k-th 64 load bytes are the same in both. The loop has no way out, so that it can be made one of vectors.
+// Whether the k-th 16 load bytes are the same in both. The loop has no way out, so that it can be made one of vectors.
 pub fn same_run(old: &[u8], rec: &[u8], k: usize) -> bool
-    requires { ⌜ (32768 ≤ length (now old)) × (32768 ≤ length (now rec)) × (k < 350) ⌝ }
+    requires { ⌜ (32768 ≤ length (now old)) × (32768 ≤ length (now rec)) × (k < 1400) ⌝ }
     ensures { λ b. ⌜ SameRun (now (old .entry)) (now (rec .entry)) k b ⌝ }
 {
-    let at = 3968 + 64 * k;
+    let at = 3968 + 16 * k;
     let mut same = true;
-    for j in 0..64 {
+    for j in 0..16 {
         same = same & (old[at + j] == rec[at + j]);
     }
     same
+}
+
+// The bytes of the loaded links that leave u, its loaded slots being the bits of w, become those of the record. An entry's one loaded slot is no link's.
+pub fn strike(work: &mut [u8], rec: &[u8], u: usize, w: usize)
+    requires { ⌜ (32768 ≤ length (now work)) × (32768 ≤ length (now rec)) × (u < 13128) × (w ≡ loadedFrom (now rec) u 0) ⌝ }
+    ensures { λ _. ⌜ Struck (now (work .entry)) (now (rec .entry)) u (now (work .exit)) ⌝ }
+{
+    if u % 8 % 6 == 0 {
+        return;
+    }
+    let mut left = w;
+    let mut k = 0;
+    while left != 0 {
+        let skip = lowest(left);
+        k += skip;
+        let a = place_of((8 * u + k) % 64) / 2 + u / 8;
+        work[a] = rec[a];
+        left = left >> (skip + 1);
+        k += 1;
+    }
 }

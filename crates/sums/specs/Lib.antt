@@ -8,3 +8,5 @@ pub mod Totals
 pub mod Entries
 pub mod Each
 pub mod Stores
+-- The lowest bit of a number.
+pub mod Lowest

@@ -50,6 +50,11 @@ pub fresh-more : {old rec fin fin' st' sl' : List ℕ} {s : Search} {b c m' : �
     → (a : ℕ) → ((i : ℕ) → a ≤ i → i < b → Begun old rec fin i) → (i : ℕ) → a ≤ i → i < c → Begun old rec fin' i
 fresh-more {b = b} r e a all i l h = ⊎-elim (λ q t o. was-over (r .search) e .1 _ (all i l q t o)) (λ q. r .seen e i q h) (below-or i b)
 
+-- more of them, before those that are seen
+pub fresh-before : {old rec fin fin' st' sl' : List ℕ} {s : Search} {a b m' : ℕ} → FreshTraced old rec a b fin fin' st' sl' s → s ≡ Over m'
+    → (c : ℕ) → ((i : ℕ) → b ≤ i → i < c → Begun old rec fin i) → (i : ℕ) → a ≤ i → i < c → Begun old rec fin' i
+fresh-before {b = b} r e c all i l h = ⊎-elim (λ q. r .seen e i l q) (λ q t o. was-over (r .search) e .1 _ (all i q h t o)) (below-or i b)
+
 -- all fresh links, with nothing on the stack
 pub fresh-settled : {old rec fin st sl : List ℕ} {m : ℕ} → Dfs rec fin st sl 0 m → ((i : ℕ) → i < 22400 → Begun old rec fin i) → Settled old rec fin
 fresh-settled d all = record { falls = done-falls d; fresh = λ i l t o. seen-done d refl _ o (all i l t o) }

@@ -62,18 +62,18 @@ same-test old rec i e = by (isFresh old rec i) (same-stale old rec i e)
     by true n = absurd (n tt)
     by false n = refl
 
--- where b says that the k-th 64 load bytes are the same, none of their links is fresh
+-- where b says that the k-th 16 load bytes are the same, none of their links is fresh
 pub record SameRun (old rec : List ℕ) (k : ℕ) (b : Bool) : Type 0 where
-  pub stale : b ≡ true → (i : ℕ) → 64 * k ≤ i → i < 64 * k + 64 → T (isFresh old rec i) → ⊥
+  pub stale : b ≡ true → (i : ℕ) → 16 * k ≤ i → i < 16 * k + 16 → T (isFresh old rec i) → ⊥
 
 -- from bytes that are the same, the first of them at this place
-pub run-stale : (old rec : List ℕ) (k at : ℕ) (b : Bool) → at ≡ 3968 + 64 * k
-    → (b ≡ true → (j : ℕ) → j < 64 → getD old (at + j) 0 ≡ getD rec (at + j) 0) → SameRun old rec k b
+pub run-stale : (old rec : List ℕ) (k at : ℕ) (b : Bool) → at ≡ 3968 + 16 * k
+    → (b ≡ true → (j : ℕ) → j < 16 → getD old (at + j) 0 ≡ getD rec (at + j) 0) → SameRun old rec k b
 run-stale old rec k at b e same =
     record {
       stale = λ t i l h.
-          let q : at + (i - 64 * k) ≡ 3968 + i = omega arith in
-          same-stale old rec i (subst (λ (x : ℕ). getD old x 0 ≡ getD rec x 0) q (same t (i - 64 * k) (omega arith)));
+          let q : at + (i - 16 * k) ≡ 3968 + i = omega arith in
+          same-stale old rec i (subst (λ (x : ℕ). getD old x 0 ≡ getD rec x 0) q (same t (i - 16 * k) (omega arith)));
     }
 
 or-left : (p q : Bool) → T p → T (p || q)

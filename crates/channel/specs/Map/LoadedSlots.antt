@@ -1,15 +1,18 @@
 -- The loaded slots of a spot as bits, slot 0 the lowest: what is left of them from a slot on. Assumes nothing.
-use mathlib.Core.Path.{_≡_, refl, ap, _∙_}
+use mathlib.Core.Path.{_≡_, refl, sym, ap, _∙_}
 use mathlib.Core.Logic.{_≢_}
 use mathlib.Core.Bool.{Bool, true, false}
 use mathlib.Core.List.{List}
-use Prim.Native.Nat.{ℕ, zero, suc, _+_, _-_, _*_, _/_, _%_, _≤_, _<_}
+use Prim.Native.Nat.{ℕ, zero, suc, _+_, _-_, _*_, _/_, _%_, _^_, _≤_, _<_}
 use native.Mathlib.Decide.{decLt}
+use native.Mathlib.Nat.{div-div-eq-div-mul}
 use native.Mathlib.Numerals.{add-one}
 use native.Mathlib.Omega.{arith}
 use borrow.Author.Tests.{ltb-true, ltb-false}
 use lib.Dec.{ltb}
+use lib.Pow.{pow-add}
 use Rattle.sums.specs.Counting.{when}
+use Rattle.sums.specs.Lowest.{Lowest}
 use Rattle.channel.specs.Map.{view}
 
 -- whether slot k of u is loaded, as a bit
@@ -102,3 +105,45 @@ module _ (rec : List ℕ) (u : ℕ) where
 
       pub from-half : loadedFrom rec u k / 2 ≡ loadedFrom rec u (k + 1)
       from-half = omega (arith, from-slot k l, bit-small (ltb 0 (view rec (8 * u + k))))
+
+  half : (k : ℕ) → loadedFrom rec u k / 2 ≡ loadedFrom rec u (k + 1)
+  half k = by (decLt k 5)
+    where
+      by : Dec (k < 5) → loadedFrom rec u k / 2 ≡ loadedFrom rec u (k + 1)
+      by (yes l) = from-half k l
+      by (no n) = omega (arith, from-end k (omega arith), from-end (k + 1) (omega arith))
+
+  -- j slots further on
+  from-shift : (k j : ℕ) → loadedFrom rec u k / 2 ^ j ≡ loadedFrom rec u (k + j)
+  from-shift k zero = let q : k + 0 ≡ k = omega arith in omega (arith, ap (loadedFrom rec u) q)
+  from-shift k (suc j) =
+      let p : k + j + 1 ≡ k + suc j = omega arith in
+      let q : j + 1 ≡ suc j = omega arith in
+      ap (λ (x : ℕ). loadedFrom rec u k / 2 ^ x) (sym q) ∙ ap (λ (x : ℕ). loadedFrom rec u k / x) (pow-add 2 j 1)
+      ∙ sym (div-div-eq-div-mul (loadedFrom rec u k) (2 ^ j) (2 ^ 1)) ∙ ap (λ (x : ℕ). x / 2) (from-shift k j) ∙ half (k + j) ∙ ap (loadedFrom rec u) p
+
+  -- the next loaded slot, by the lowest bit of what is left from slot k on
+  module _ (k : ℕ) {left i : ℕ} (e : left ≡ loadedFrom rec u k) (w : Lowest left i) where
+    pub next-left : left / 2 ^ i ≡ loadedFrom rec u (k + i)
+    next-left = ap (λ (x : ℕ). x / 2 ^ i) e ∙ from-shift k i
+
+    -- and after it
+    pub next-after : left / 2 ^ (i + 1) ≡ loadedFrom rec u (k + i + 1)
+    next-after = let q : k + (i + 1) ≡ k + i + 1 = omega arith in ap (λ (x : ℕ). x / 2 ^ (i + 1)) e ∙ from-shift k (i + 1) ∙ ap (loadedFrom rec u) q
+
+    odd : loadedFrom rec u (k + i) % 2 ≡ 1
+    odd = ap (λ (x : ℕ). x % 2) (sym next-left) ∙ w .here
+
+    pub next-slot : k + i < 5
+    next-slot = from-some (k + i) (λ z. omega (arith, odd))
+
+    pub next-laden : 0 < view rec (8 * u + (k + i))
+    next-laden = from-laden (k + i) next-slot odd
+
+    pub next-idle : (j : ℕ) → k ≤ j → j < k + i → view rec (8 * u + j) ≡ 0
+    next-idle j l h =
+        let q : k + (j - k) ≡ j = omega arith in
+        let z : loadedFrom rec u j % 2 ≡ 0 =
+        ap (λ (x : ℕ). loadedFrom rec u x % 2) (sym q) ∙ ap (λ (x : ℕ). x % 2) (sym (from-shift k (j - k)) ∙ ap (λ (x : ℕ). x / 2 ^ (j - k)) (sym e))
+        ∙ w .under (j - k) (omega arith) in
+        from-idle j (omega (arith, next-slot)) (λ o. omega (arith, z))

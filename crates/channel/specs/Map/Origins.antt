@@ -15,11 +15,11 @@ use Rattle.model.specs.Links.{linkCode, Step}
 use Rattle.model.specs.Loads.{arrivals}
 use Rattle.model.specs.Record.{loadPlane, load}
 use Rattle.channel.specs.Map.{codes, ownerOf, codeOf, seatOf, dartOf, wayPart}
-use Rattle.channel.specs.Map.{spots, inGrid, ownerCell, stepOf, carries, isPassage, isLinkDart, isPassDart, passedOf, view}
+use Rattle.channel.specs.Map.{spots, inGrid, ownerCell, stepOf, carries, isPassage, isLinkDart, isPassDart, passedOf, view, address}
 use Rattle.channel.specs.Map.Bools.{if-true, if-false}
 use Rattle.channel.specs.Map.Darts.{OnGrid, kind-code}
 use Rattle.channel.specs.Map.Grid.{cell-on}
-use Rattle.channel.specs.Map.Stores.{grid?}
+use Rattle.channel.specs.Map.Stores.{grid?, address-spot}
 
 -- ---- the spot of a load byte
 
@@ -53,6 +53,11 @@ byte-way b false l = (λ e. omega arith, le-ltb b 32 (omega arith))
 -- which load byte a step's link has
 pub stepByte : Step → ℕ
 stepByte s = 1600 * linkCode (s .link .kind) + (40 * s .link .row + s .link .column)
+
+-- it stands where the step's dart has it
+pub step-address : (d : ℕ) → T (inGrid (ownerCell d)) → 3968 + stepByte (stepOf d) ≡ address d
+unfolding stepByte
+step-address d g = omega (arith, address-spot d g)
 
 module _ (s : Step) (g : OnGrid s) where
   pub step-byte< : stepByte s < 22400

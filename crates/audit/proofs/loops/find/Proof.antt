@@ -1,12 +1,12 @@
 -- `loops::find` meets its contract: the spots of the fresh links passed are seen, and none is on the stack. Assumes nothing.
 use borrow.Author.Needs.{needs}
-use Prim.Native.Nat.{ℕ, _*_, _-_, _≤_, _<_}
+use Prim.Native.Nat.{ℕ, _-_, _*_, _≤_, _<_}
 use mathlib.Core.Path.{_≡_, refl, _∙_}
 use native.Mathlib.Omega.{arith}
 use lib.ListN.{length}
 use Rattle.audit.specs.Loops.{free, ring}
 use Rattle.audit.specs.Loops.Dfs.{Dfs, Begun}
-use Rattle.audit.specs.Loops.Fresh.{fresh-more, fresh-settled}
+use Rattle.audit.specs.Loops.Fresh.{fresh-before, fresh-settled}
 use Rattle.audit.specs.Loops.Stack.{dfs-start}
 use Rattle.audit.specs.Loops.Turns.{was-over, was-ring}
 use Rattle.audit.proofs.loops.find.Statement.{statement}
@@ -14,11 +14,11 @@ use Rattle.audit.proofs.loops.find.Tie as tie
 
 abbrev Inv-loop : tie.InvT-loop
 Inv-loop old rec fin₀ st₀ sl₀ m₀ k₀ fin st sl m k =
-    (length fin ≡ length fin₀) × (length st ≡ length st₀) × (length sl ≡ length sl₀) × (k ≤ 350) × Dfs rec fin st sl 0 m
-    × ((i : ℕ) → 0 ≤ i → i < 64 * k → Begun old rec fin i)
+    (length fin ≡ length fin₀) × (length st ≡ length st₀) × (length sl ≡ length sl₀) × (k ≤ 1400) × Dfs rec fin st sl 0 m
+    × ((i : ℕ) → 16 * (1400 - k) ≤ i → i < 22400 → Begun old rec fin i)
 
 abbrev μ-loop : tie.MeasureT-loop
-μ-loop old rec fin₀ st₀ sl₀ m₀ k₀ fin st sl m k = 350 - k
+μ-loop old rec fin₀ st₀ sl₀ m₀ k₀ fin st sl m k = 1400 - k
 
 clear-requires : tie.Need-clear-requires Inv-loop μ-loop
 clear-requires c κs = c .before .before .before .before .before .before .pre .0 .marks
@@ -35,8 +35,11 @@ loop-holds c =
       λ i l h. absurd (omega arith),
     )
 
+sub-trace-run : tie.Need-sub-trace-run Inv-loop μ-loop
+sub-trace-run c = omega (arith, c .before .before .before .loop-test .taken)
+
 trace-run-requires : tie.Need-trace-run-requires Inv-loop μ-loop
-trace-run-requires c κs = (c .before .before .before .before .loop .inv .4, c .before .before .before .before .before .before .before .before .before .before .before .before .before .before .pre .1, c .before .before .before .loop-test .taken)
+trace-run-requires c κs = (c .before .before .before .before .loop .inv .4, c .before .before .before .before .before .before .before .before .before .before .before .before .before .before .pre .1, omega arith)
 
 enum-known-a : tie.Need-enum-known-a Inv-loop μ-loop
 enum-known-a c = search needs
@@ -82,7 +85,7 @@ loop-again c =
       k .1 .1 .0 ∙ l .2,
       omega (arith, t),
       was-over (r .search) e .0,
-      λ i a h. fresh-more r e 0 (l .5) i a (omega arith),
+      λ i a h. fresh-before r e 22400 (λ j b q. l .5 j (omega (arith, t)) q) i (omega (arith, t)) h,
     )
 
 same-length-4 : tie.Need-same-length-4 Inv-loop μ-loop
@@ -97,7 +100,7 @@ same-length-6 c = c .before .loop .inv .2
 returns-2 : tie.Need-returns-2 Inv-loop μ-loop
 returns-2 c =
     let l = c .before .loop .inv in
-    free (fresh-settled (l .4) (λ i h. l .5 i (omega arith) (omega (arith, c .loop-test .left))))
+    free (fresh-settled (l .4) (λ i h. l .5 i (omega (arith, c .loop-test .left)) h))
 
 pub find-spec : {M : Type 1} → statement M
 find-spec =
@@ -107,6 +110,7 @@ find-spec =
     μ-loop
     clear-requires
     loop-holds
+    sub-trace-run
     trace-run-requires
     enum-known-a
     enum-known-a-2

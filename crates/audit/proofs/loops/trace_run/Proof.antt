@@ -12,11 +12,11 @@ use Rattle.audit.proofs.loops.trace_run.Tie as tie
 
 abbrev Inv-loop : tie.InvT-loop
 Inv-loop old rec fin₀ st₀ sl₀ k m0 m₀ i₀ i-end fin st sl m i =
-    (length fin ≡ length fin₀) × (length st ≡ length st₀) × (length sl ≡ length sl₀) × ((64 * k ≤ i) × (i ≤ 64 * k + 64)) × Dfs rec fin st sl 0 m × Kept fin₀ fin
-    × ((j : ℕ) → 64 * k ≤ j → j < i → Begun old rec fin j)
+    (length fin ≡ length fin₀) × (length st ≡ length st₀) × (length sl ≡ length sl₀) × ((16 * k ≤ i) × (i ≤ 16 * k + 16)) × Dfs rec fin st sl 0 m × Kept fin₀ fin
+    × ((j : ℕ) → 16 * k ≤ j → j < i → Begun old rec fin j)
 
 abbrev μ-loop : tie.MeasureT-loop
-μ-loop old rec fin₀ st₀ sl₀ k m0 m₀ i₀ i-end fin st sl m i = 64 * k + 64 - i
+μ-loop old rec fin₀ st₀ sl₀ k m0 m₀ i₀ i-end fin st sl m i = 16 * k + 16 - i
 
 same-run-requires : tie.Need-same-run-requires Inv-loop μ-loop
 same-run-requires c κs = search needs

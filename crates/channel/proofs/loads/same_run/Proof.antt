@@ -14,10 +14,10 @@ use Rattle.channel.proofs.loads.same_run.Statement.{statement}
 use Rattle.channel.proofs.loads.same_run.Tie as tie
 
 abbrev Inv-loop : tie.InvT-loop
-Inv-loop old rec k at same₀ j₀ same j = (j ≤ 64) × (same ≡ true → (i : ℕ) → i < j → getD old (at + i) 0 ≡ getD rec (at + i) 0)
+Inv-loop old rec k at same₀ j₀ same j = (j ≤ 16) × (same ≡ true → (i : ℕ) → i < j → getD old (at + i) 0 ≡ getD rec (at + i) 0)
 
 abbrev μ-loop : tie.MeasureT-loop
-μ-loop old rec k at same₀ j₀ same j = 64 - j
+μ-loop old rec k at same₀ j₀ same j = 16 - j
 
 mul-at : tie.Need-mul-at Inv-loop μ-loop
 mul-at c = omega arith
@@ -50,7 +50,7 @@ loop-again : tie.Need-loop-again Inv-loop μ-loop
 loop-again c =
     let l = c .before .before .before .loop in
     let s = c .before .before .before .before .args in
-    let at : ℕ = 3968 + 64 * s .k in
+    let at : ℕ = 3968 + 16 * s .k in
     let old = s .old .now in
     let rec = s .rec .now in (
       omega arith,

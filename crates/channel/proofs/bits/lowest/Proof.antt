@@ -1,9 +1,9 @@
--- `reach::lowest` meets its contract: the zeros under the lowest bit of 1 are counted. Assumes nothing.
+-- `bits::lowest` meets its contract: the zeros under the lowest bit of 1 are counted. Assumes nothing.
 use native.Mathlib.Omega.{arith}
 use lib.Count.{trailing-le}
-use Rattle.augment.specs.Slots.{lowest-is}
-use Rattle.augment.proofs.reach.lowest.Statement.{statement}
-use Rattle.augment.proofs.reach.lowest.Tie as tie
+use Rattle.sums.specs.Lowest.{lowest-is}
+use Rattle.channel.proofs.bits.lowest.Statement.{statement}
+use Rattle.channel.proofs.bits.lowest.Tie as tie
 
 cast-result : tie.Need-cast-result
 cast-result c = omega (arith, trailing-le 64 (c .args .x))

@@ -1,0 +1,119 @@
+-- `loads::strike` meets its contract: the bytes of the loaded slots passed are struck, and left has those from k on. Assumes nothing.
+use borrow.Author.Needs.{needs}
+use mathlib.Core.Path.{_≡_}
+use Prim.Native.Nat.{ℕ, _+_, _-_, _/_, _≤_, _<_}
+use native.Mathlib.Omega.{arith}
+use denote.Ref.{now}
+use Rattle.channel.specs.Map.LoadedSlots.{loadedFrom, from-small, next-slot, next-laden, next-after}
+use Rattle.channel.specs.Map.Numbers.{spots-is}
+use Rattle.channel.specs.Map.Struck.{Struck, Leaves, slot-leaves, struck-none, struck-more}
+use Rattle.channel.proofs.loads.strike.Statement.{statement}
+use Rattle.channel.proofs.loads.strike.Tie as tie
+
+abbrev Inv-loop : tie.InvT-loop
+Inv-loop work₀ rec u w left₀ k₀ work left k = (left ≡ loadedFrom rec u k) × Struck work₀ rec u work
+
+abbrev μ-loop : tie.MeasureT-loop
+μ-loop work₀ rec u w left₀ k₀ work left k = 5 - k
+
+returns : tie.Need-returns Inv-loop μ-loop
+returns c = struck-none _ _ _
+
+loop-holds : tie.Need-loop-holds Inv-loop μ-loop
+loop-holds c = (c .before .before .before .pre .3, struck-none _ _ _)
+
+lowest-requires : tie.Need-lowest-requires Inv-loop μ-loop
+lowest-requires c κs =
+    let s = c .before .before .before .before .before .args in
+    omega (arith, c .loop-test .taken, c .before .loop .inv .0, from-small (now (s .rec)) (s .u) (c .before .loop .k))
+
+-- the next loaded slot
+slot : (c : tie.After-lowest Inv-loop μ-loop) → c .before .before .loop .k + c .lowest .result < 5
+slot c =
+    let s = c .before .before .before .before .before .before .args in
+    let l = c .before .before .loop in
+    next-slot (now (s .rec)) (s .u) (l .k) (l .inv .0) (c .lowest .ensures)
+
+-- the byte of its link
+leaves : (c : tie.After-place-of Inv-loop μ-loop)
+    → let s = c .before .before .before .before .before .before .before .args in Leaves (now (s .rec)) (s .u) (c .place-of .result / 2 + s .u / 8)
+leaves c =
+    let z = c .before .before .before .before .before .before .before in
+    let s = z .args in
+    let l = c .before .before .before .loop in
+    slot-leaves (now (s .rec)) (s .u) (l .k + c .before .lowest .result) (c .place-of .result) (omega (arith, spots-is, z .pre .2))
+    (c .before .before .before .before .if1 .left) (slot (c .before))
+    (next-laden (now (s .rec)) (s .u) (l .k) (l .inv .0) (c .before .lowest .ensures)) (c .place-of .ensures)
+
+add-k : tie.Need-add-k Inv-loop μ-loop
+add-k c = omega (arith, slot c)
+
+mul-place-of : tie.Need-mul-place-of Inv-loop μ-loop
+mul-place-of c = search needs
+
+add-place-of : tie.Need-add-place-of Inv-loop μ-loop
+add-place-of c = omega (arith, slot c, c .before .before .before .before .before .before .pre .2)
+
+place-of-requires : tie.Need-place-of-requires Inv-loop μ-loop
+place-of-requires c κs = search needs
+
+add-a : tie.Need-add-a Inv-loop μ-loop
+add-a c = omega (arith, leaves c .high)
+
+shared-slice-read-work : tie.Need-shared-slice-read-work Inv-loop μ-loop
+shared-slice-read-work c = omega (arith, leaves (c .before) .high, c .before .before .before .before .before .before .before .before .pre .1)
+
+slice-write-work : tie.Need-slice-write-work Inv-loop μ-loop
+slice-write-work c =
+    omega (arith, leaves (c .before) .high, c .before .before .before .before .loop .inv .1 .long, c .before .before .before .before .before .before .before .before .pre .0)
+
+add-left : tie.Need-add-left Inv-loop μ-loop
+add-left c = omega (arith, slot (c .before .before))
+
+shr-left : tie.Need-shr-left Inv-loop μ-loop
+shr-left c = omega (arith, slot (c .before .before))
+
+add-k-2 : tie.Need-add-k-2 Inv-loop μ-loop
+add-k-2 c = omega (arith, slot (c .before .before))
+
+loop-less : tie.Need-loop-less Inv-loop μ-loop
+loop-less c = omega (arith, slot (c .before .before))
+
+loop-again : tie.Need-loop-again Inv-loop μ-loop
+loop-again c =
+    let z = c .before .before .before .before .before .before .before .before in
+    let s = z .args in
+    let l = c .before .before .before .before .loop in (
+      next-after (now (s .rec)) (s .u) (l .k) (l .inv .0) (c .before .before .lowest .ensures),
+      struck-more (z .pre .0) (l .inv .1) (leaves (c .before)),
+    )
+
+same-length : tie.Need-same-length Inv-loop μ-loop
+same-length c = c .before .loop .inv .1 .long
+
+returns-2 : tie.Need-returns-2 Inv-loop μ-loop
+returns-2 c = c .before .loop .inv .1
+
+pub strike-spec : {M : Type 1} → statement M
+strike-spec =
+    tie.close
+    (tie.spec
+    Inv-loop
+    μ-loop
+    returns
+    loop-holds
+    lowest-requires
+    add-k
+    mul-place-of
+    add-place-of
+    place-of-requires
+    add-a
+    shared-slice-read-work
+    slice-write-work
+    add-left
+    shr-left
+    add-k-2
+    loop-less
+    loop-again
+    same-length
+    returns-2)
