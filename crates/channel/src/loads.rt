@@ -21,6 +21,7 @@ use crate::table::PLACES;
 use crate::table::code_of;
 use crate::table::kind_of;
 use crate::table::owner_of;
+use crate::table::place_of;
 use crate::table::seat_of;
 use crate::table::sign_of;
 

@@ -91,10 +91,7 @@ pub fn spoke_move(job: &[u8], loads: &[u8], d: usize) -> bool
     requires { ⌜ (32768 ≤ length (now job)) × (32768 ≤ length (now loads)) × (d < 105024) × T (eqb (codeOf (d % 64)) 3 || eqb (codeOf (d % 64)) 4) ⌝ }
     ensures { λ b. ⌜ b ≡ moves (jobOf (now (job .entry))) (now (loads .entry)) d ⌝ }
 {
-    if 0 < load_against(loads, d) {
-        return false;
-    }
-    centre_free(job, d)
+    centre_free(job, d) & (load_against(loads, d) == 0)
 }
 
 // To a missing pin: the same.

@@ -216,16 +216,6 @@ module _ (J : Job) (rec : List ℕ) (d : ℕ) (l : d < darts) where
   unfolding carries isPassage backCode
   into-moves e = free-moves J rec d (cap-into J d e) (back-none rec d 6 l e refl refl)
 
-  pub spoke-shut : (codeOf (d % 64) ≡ 3) ⊎ (codeOf (d % 64) ≡ 4) → (a : ℕ) → a ≡ opposed rec d → 0 < a → false ≡ moves J rec d
-  spoke-shut w a e p =
-      let q : eqb (opposed rec d) 0 ≡ false = ne-eqb (opposed rec d) 0 (omega (arith, e)) in
-      rw (spoke-moves w, q) (sym (and-false (free J d)))
-
-  pub spoke-open : (codeOf (d % 64) ≡ 3) ⊎ (codeOf (d % 64) ≡ 4) → (a : ℕ) (b : Bool) → a ≡ opposed rec d → a ≤ 0 → b ≡ free J d → b ≡ moves J rec d
-  spoke-open w a b e p f =
-      let q : eqb (opposed rec d) 0 ≡ true = eq-eqb (opposed rec d) 0 (omega (arith, e)) in
-      rw (spoke-moves w, q, f) (sym (and-true (free J d)))
-
   pub into-shut : codeOf (d % 64) ≡ 6 → (b : Bool) → b ≡ free J d → b ≡ false → false ≡ moves J rec d
   into-shut e b f p = rw (into-moves e, sym f ∙ p)
 

@@ -15,9 +15,9 @@ use Rattle.model.specs.Record.{load}
 use Rattle.channel.specs.Map.{links, owners, signs, codes, kindOf, ownerOf, signOf, codeOf, carries, isPassage, placeOf}
 use Rattle.channel.specs.Map.{darts, inGrid, rowOf, columnOf, ownerCell, stepOf, cap, free, opposed, moves}
 use Rattle.channel.specs.Map.Ahead.{Bits, four-bits, eight-bits}
-use Rattle.channel.specs.Map.Bools.{if-so}
+use Rattle.channel.specs.Map.Bools.{if-so, between}
 use Rattle.channel.specs.Map.Caps.{cap-corner}
-use Rattle.channel.specs.Map.Laden.{inside, place-bound}
+use Rattle.channel.specs.Map.Laden.{place-bound}
 use Rattle.channel.specs.Map.Moving.{plain-moves, spoke-moves, into-moves, link-back-moves, centre-back-moves, none-moves, throughCentre}
 use Rattle.channel.specs.Map.Numbers.{is-dart}
 use Rattle.channel.specs.Map.Packed.{placeWords, place-word, not-least}
@@ -56,7 +56,7 @@ inner x k e = by (ltb x 41 || leb 1600 x) refl (ltb k 2) refl e
     by : (a : Bool) → (ltb x 41 || leb 1600 x) ≡ a → (b : Bool) → ltb k 2 ≡ b → (a || b) ≡ false → (41 ≤ x) × (x < 1600) × (2 ≤ k)
     by true p b q z = absurd (subst T z tt)
     by false p true q z = absurd (subst T z tt)
-    by false p false q z = let (l, m) = inside x p in (l, m, ltb-false k 2 q)
+    by false p false q z = let (l, m) = between x 41 1600 p in (l, m, ltb-false k 2 q)
 
 -- ---- the slots of a centre
 
