@@ -1,7 +1,7 @@
 -- What the writers store, and its laws. A record is told by its bytes: a byte of the header, of a cell of a plane, or of the rest of a longer buffer. A store at
--- a cell changes the job's table there and nowhere else, and a record of no loads differs from a legal one in the planes of loads only. Assumes nothing.
+-- a cell of a job's record gives the record of the job with that entry changed, and a record of no loads differs from a legal one in the planes of loads only.
+-- Assumes nothing.
 use mathlib.Core.Path.{_≡_, refl, sym, ap, _∙_}
-use mathlib.Core.Logic.{_≢_}
 use mathlib.Core.Bool.{Bool, true, false, not, _&&_}
 use mathlib.Core.List.{List, _∷_, _++_}
 use mathlib.Core.Option.{Option, none, some}
@@ -9,17 +9,14 @@ use Prim.Native.Nat.{ℕ, zero, suc, _+_, _-_, _*_, _/_, _%_, _≤_, _<_}
 use native.Mathlib.Omega.{arith}
 use lib.Dec.{T, eqb, ltb, eqb→eq, eqb-refl, ltb→lt, nltb→le, lit≤}
 use lib.ListN.{length, getD, getElem?, take, drop, set, replicate, length-append, length-drop, length-set, length-replicate, getD-replicate, List·getD-append}
-use borrow.Author.Tests.{eq-eqb}
 use borrow.Rule.Slice.PartMut.{midOf, putMid, mid-len, post-is}
 use lib.Seq.{ext-getD, drop-at, getD-append-add, getD-drop, getD-take, getD-set-same, getD-set-other, length-take-le}
-use Rattle.sums.specs.Counting.{when}
-use Rattle.sums.specs.Sums.{when-cong}
-use Rattle.sums.specs.Tests.{Same, same, other, same?, and-left, and-right, and-both, so}
+use Rattle.sums.specs.Tests.{Same, same, other, same?, and-left, and-right, and-both}
 use Rattle.model.specs.Job.{Job, fresh, put, marked, closed}
 use Rattle.model.specs.Links.{LinkKind, Step}
-use Rattle.model.specs.Record.{recordSize, markPlane, statePlane, offset, cell, jobOf, load, Legal, kinds, loadByteOf, planeByte, headByte, recordOf, noLoads}
+use Rattle.model.specs.Record.{recordSize, markPlane, statePlane, offset, jobOf, load, Legal, kinds, loadByteOf, planeByte, headByte, recordOf, noLoads}
 use Rattle.model.specs.Record.{unwiredRecord, over}
-use Rattle.model.proofs.RecordOf.{inCells, cells-row, cells-column, cells-have, length-record, head-back, cell-back, plane-high}
+use Rattle.model.proofs.RecordOf.{length-record, head-back, cell-back, plane-high}
 use Rattle.model.proofs.Over.{get-over}
 use Rattle.model.proofs.LegalRecord.{legal-record}
 
@@ -102,10 +99,6 @@ module _ (J : Job) (f : Step → ℕ) (rec : List ℕ) (long : recordSize ≤ le
 
 -- ---- a store at a cell
 
-when-so : (b : Bool) (x : ℕ) → T b → when b x ≡ x
-when-so true x t = refl
-when-so false x t = absurd t
-
 pub put-at : (f : ℕ → ℕ → ℕ) (r c v : ℕ) → put f r c v r c ≡ v
 put-at f r c v = by (eqb r r && eqb c c) (and-both (eqb r r) (eqb c c) (eqb-refl r) (eqb-refl c))
   where
@@ -119,43 +112,6 @@ put-else f r c v i j n = by (eqb i r && eqb j c) (λ t. n (eqb→eq i r (and-lef
     by : (b : Bool) → (T b → ⊥) → elim b as (λ y. ℕ) [ true ↦ v | false ↦ f i j ] ≡ f i j
     by true k = absurd (k tt)
     by false k = refl
-
--- two tables alike but for one entry, each as a byte of a cell
-module _ (rec : List ℕ) (p r c v : ℕ) (lp : p < 20) (lr : r < 40) (lc : c < 40) (long : recordSize ≤ length rec) where
-  abbrev stored : List ℕ
-  stored = set rec (offset p r c) v
-
-  head-kept : (i : ℕ) → i < 768 → getD stored i 0 ≡ getD rec i 0
-  head-kept i l = getD-set-other rec (offset p r c) i v 0 (omega arith)
-
-  plane-kept : (q i j : ℕ) → q ≢ p → cell stored q i j ≡ cell rec q i j
-  unfolding cell
-  plane-kept q i j n =
-      when-cong (inCells i j) _ _ (λ t. let a : i < 40 = cells-row i j t in let b : j < 40 = cells-column i j t in
-      getD-set-other rec (offset p r c) (offset q i j) v 0 (λ e. n (omega arith)))
-
-  cell-stored : (i j : ℕ) → cell stored p i j ≡ put (cell rec p) r c v i j
-  unfolding cell
-  cell-stored i j = by (eqb i r && eqb j c) here there
-    where
-      here : T (eqb i r && eqb j c) → when (inCells i j) (getD stored (offset p i j) 0) ≡ v
-      here t =
-          let x : i ≡ r = eqb→eq i r (and-left (eqb i r) (eqb j c) t) in
-          let y : j ≡ c = eqb→eq j c (and-right (eqb i r) (eqb j c) t) in
-          (λ k. when (inCells (x k) (y k)) (getD stored (offset p (x k) (y k)) 0))
-          ∙ (when-so (inCells r c) _ (cells-have r c lr lc) ∙ getD-set-same rec (offset p r c) v 0 (omega arith))
-
-      there : (T (eqb i r && eqb j c) → ⊥) → when (inCells i j) (getD stored (offset p i j) 0) ≡ when (inCells i j) (getD rec (offset p i j) 0)
-      there n =
-          when-cong (inCells i j) _ _ (λ t. let a : i < 40 = cells-row i j t in let b : j < 40 = cells-column i j t in
-          getD-set-other rec (offset p r c) (offset p i j) v 0
-          (λ e. n (and-both (eqb i r) (eqb j c) (so (eq-eqb i r (omega arith))) (so (eq-eqb j c (omega arith))))))
-
-      by : (b : Bool) → (T b → when (inCells i j) (getD stored (offset p i j) 0) ≡ v)
-          → ((T b → ⊥) → when (inCells i j) (getD stored (offset p i j) 0) ≡ when (inCells i j) (getD rec (offset p i j) 0))
-          → when (inCells i j) (getD stored (offset p i j) 0) ≡ elim b as (λ z. ℕ) [ true ↦ v | false ↦ when (inCells i j) (getD rec (offset p i j) 0) ]
-      by true f g = f tt
-      by false f g = g (λ t. t)
 
 -- the record of a job that differs in one cell
 store-over : (K L : Job) (f : Step → ℕ) (rec : List ℕ) (p r c v : ℕ) → recordSize ≤ length rec → p < 20 → r < 40 → c < 40
@@ -184,34 +140,6 @@ store-over K L f rec p r c v long lp lr lc h e o =
         by false (other n) =
             getD-set-other old (offset p r c) (offset q i j) v 0 n
             ∙ (over-cell K f rec long q i j a b d ∙ o q i j (λ x y z. n (λ k. offset (x k) (y k) (z k))))
-
-pub job-marked : (rec : List ℕ) (r c m : ℕ) → recordSize ≤ length rec → r < 40 → c < 40
-    → jobOf (set rec (offset markPlane r c) m) ≡ marked (jobOf rec) r c m
-unfolding jobOf
-job-marked rec r c m long lr lc =
-    λ t. record {
-      rows = head-kept rec 0 r c m (omega arith) lr lc long 0 (omega arith) t;
-      columns = head-kept rec 0 r c m (omega arith) lr lc long 1 (omega arith) t;
-      O = head-kept rec 0 r c m (omega arith) lr lc long 2 (omega arith) t;
-      D = head-kept rec 0 r c m (omega arith) lr lc long 3 (omega arith) t;
-      E = head-kept rec 0 r c m (omega arith) lr lc long 4 (omega arith) t;
-      mark = λ i j. cell-stored rec 0 r c m (omega arith) lr lc long i j t;
-      state = λ i j. plane-kept rec 0 r c m (omega arith) lr lc long 1 i j (omega arith) t;
-    }
-
-pub job-closed : (rec : List ℕ) (r c v : ℕ) → recordSize ≤ length rec → r < 40 → c < 40
-    → jobOf (set rec (offset statePlane r c) v) ≡ closed (jobOf rec) r c v
-unfolding jobOf
-job-closed rec r c v long lr lc =
-    λ t. record {
-      rows = head-kept rec 1 r c v (omega arith) lr lc long 0 (omega arith) t;
-      columns = head-kept rec 1 r c v (omega arith) lr lc long 1 (omega arith) t;
-      O = head-kept rec 1 r c v (omega arith) lr lc long 2 (omega arith) t;
-      D = head-kept rec 1 r c v (omega arith) lr lc long 3 (omega arith) t;
-      E = head-kept rec 1 r c v (omega arith) lr lc long 4 (omega arith) t;
-      mark = λ i j. plane-kept rec 1 r c v (omega arith) lr lc long 0 i j (omega arith) t;
-      state = λ i j. cell-stored rec 1 r c v (omega arith) lr lc long i j t;
-    }
 
 pub marked-over : (K : Job) (rec : List ℕ) (r c m : ℕ) → recordSize ≤ length rec → r < 40 → c < 40
     → set (over (unwiredRecord K) rec) (offset markPlane r c) m ≡ over (unwiredRecord (marked K r c m)) rec

@@ -27,10 +27,6 @@ less? a b = by (ltb a b) (ltb→lt a b) (nltb→le a b)
 
 -- ---- what the definitions say
 
-pub ahead-law : (d : ℕ) → ahead d ≡ d + turnOf (d % 64)
-unfolding ahead
-ahead-law d = refl
-
 pub owner-law : (d : ℕ) → ownerCell d ≡ d / 64 + ownerOf (d % 64)
 unfolding ownerCell
 owner-law d = refl

@@ -64,18 +64,6 @@ module _ (J : Job) where
   unfolding net
   net-head d = refl
 
-  pub net-cap : net J .cap ≡ cap J
-  unfolding net
-  net-cap = refl
-
-  pub net-free : net J .free ≡ free J
-  unfolding net
-  net-free = refl
-
-  pub net-want : net J .want ≡ want J
-  unfolding net
-  net-want = refl
-
   pub net-outside : net J .outside ≡ outside J
   unfolding net
   net-outside = refl
@@ -83,10 +71,6 @@ module _ (J : Job) where
   pub node-spot : {u : ℕ} → u < net J .nodes → u < spots
   unfolding net
   node-spot l = l
-
-  pub spot-node : {u : ℕ} → u < spots → u < net J .nodes
-  unfolding net
-  spot-node l = l
 
   pub net-dart : {d : ℕ} → d < net J .darts → d < darts
   unfolding net
