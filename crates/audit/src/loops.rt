@@ -5,7 +5,7 @@ ghost use Prim.Native.Nat.{_+_, _*_, _≤_, _<_};
 ghost use lib.ListN.{length, set};
 ghost use Rattle.channel.specs.Map.{spots};
 ghost use Rattle.audit.specs.Loops.{Room, Answer, LoopStands};
-ghost use Rattle.audit.specs.Loops.Dfs.{Cleared, Rest, Picked, Placed, Bared, Dfs, Turned, Searched, Traced, FreshTraced};
+ghost use Rattle.audit.specs.Loops.Dfs.{Cleared, Rest, Picked, Placed, Bared, Dfs, Aimed, Entered, Turned, Resumed, Searched, Traced, FreshTraced};
 
 // No closed chain; or the spots of one in st, and its slots in sl, from the first number to before the second.
 pub enum Found {
@@ -13,10 +13,19 @@ pub enum Found {
     Ring(usize, usize),
 }
 
-// What one turn leads to: another height of the stack, and how many spots are done; or a spot that is on the stack.
+// What one turn leads to: a spot that is not seen; or another height of the stack, and how many spots are done; or a spot that is on the stack.
 enum Turn {
+    New(usize),
     More(usize, usize),
     Hit(usize),
+}
+
+// What the turns up to a new spot lead to: the height of the stack, how many spots are done, and the spot; or how many are done, with nothing on the stack;
+// or the height, and a spot that is on the stack.
+enum Way {
+    Down(usize, usize, usize),
+    Up(usize),
+    Back(usize, usize),
 }
 
 // What the search from one spot leads to: how many spots are done; or a ring.
@@ -57,7 +66,7 @@ fn scan(rec: &[u8], fin: &[u16], u: usize, s0: usize) -> usize
 // One turn on a stack of n spots, with m done.
 fn advance(rec: &[u8], fin: &mut [u16], st: &mut [u16], sl: &mut [u8], n: usize, m: usize) -> Turn
     requires { ⌜ Dfs (now rec) (now fin) (now st) (now sl) n m × (0 < n) ⌝ }
-    ensures { λ t. ⌜ Turned (now (rec .entry)) (now (fin .entry)) n (now (fin .exit)) (now (st .exit)) (now (sl .exit)) t ⌝ }
+    ensures { λ t. ⌜ Turned (now (rec .entry)) (now (fin .entry)) n m (now (fin .exit)) (now (st .exit)) (now (sl .exit)) t ⌝ }
 {
     let i = n - 1;
     let u = st[i] as usize;
@@ -76,10 +85,41 @@ fn advance(rec: &[u8], fin: &mut [u16], st: &mut [u16], sl: &mut [u8], n: usize,
     if fin[v] == 1 {
         return Turn::Hit(v);
     }
+    Turn::New(v)
+}
+
+// Turns on a stack of n0 spots, with m0 done, up to a new spot.
+fn resume(rec: &[u8], fin: &mut [u16], st: &mut [u16], sl: &mut [u8], n0: usize, m0: usize) -> Way
+    requires { ⌜ Dfs (now rec) (now fin) (now st) (now sl) n0 m0 ⌝ }
+    ensures { λ y. ⌜ Resumed (now (rec .entry)) (now (fin .entry)) (now (fin .exit)) (now (st .exit)) (now (sl .exit)) y ⌝ }
+{
+    let mut n = n0;
+    let mut m = m0;
+    while 0 < n {
+        match advance(rec, fin, st, sl, n, m) {
+            Turn::New(v) => {
+                return Way::Down(n, m, v);
+            }
+            Turn::More(a, b) => {
+                n = a;
+                m = b;
+            }
+            Turn::Hit(v) => {
+                return Way::Back(n, v);
+            }
+        }
+    }
+    Way::Up(m)
+}
+
+// Puts the spot v on the stack as the n-th.
+fn enter(rec: &[u8], fin: &mut [u16], st: &mut [u16], sl: &mut [u8], n: usize, v: usize)
+    requires { ⌜ Room (now rec) (now fin) (now st) (now sl) × (n < spots) × (v < spots) ⌝ }
+    ensures { λ _. ⌜ Entered (now (rec .entry)) (now (fin .entry)) (now (st .entry)) (now (sl .entry)) n v (now (fin .exit)) (now (st .exit)) (now (sl .exit)) ⌝ }
+{
     fin[v] = 1;
     st[n] = v as u16;
     sl[n] = (8 * channel::loaded_slots(rec, v)) as u8;
-    Turn::More(n + 1, m)
 }
 
 // Where v stands among the first n of st; n if it does not.
@@ -107,26 +147,38 @@ fn bare(sl: &mut [u8], n: usize)
     }
 }
 
-// All that the one spot on the stack leads to, with m0 done.
-fn descend(rec: &[u8], fin: &mut [u16], st: &mut [u16], sl: &mut [u8], m0: usize) -> Search
-    requires { ⌜ Dfs (now rec) (now fin) (now st) (now sl) 1 m0 ⌝ }
-    ensures { λ s. ⌜ Searched (now (rec .entry)) (now (fin .entry)) (now (fin .exit)) (now (st .exit)) (now (sl .exit)) s ⌝ }
+// All that r leads to, which is not seen, with m0 done.
+fn descend(
+    rec: &[u8],
+    fin: &mut [u16],
+    st: &mut [u16],
+    sl: &mut [u8],
+    r: usize,
+    m0: usize,
+) -> Search
+    requires { ⌜ Aimed (now rec) (now fin) (now st) (now sl) 0 m0 r ⌝ }
+    ensures { λ s. ⌜ Searched (now (rec .entry)) (set (now (fin .entry)) r 1) (now (fin .exit)) (now (st .exit)) (now (sl .exit)) s ⌝ }
 {
-    let mut n = 1;
+    let mut n = 0;
     let mut m = m0;
-    while 0 < n {
-        match advance(rec, fin, st, sl, n, m) {
-            Turn::More(a, b) => {
+    let mut v = r;
+    loop {
+        enter(rec, fin, st, sl, n, v);
+        match resume(rec, fin, st, sl, n + 1, m) {
+            Way::Down(a, b, w) => {
                 n = a;
                 m = b;
+                v = w;
             }
-            Turn::Hit(v) => {
-                bare(sl, n);
-                return Search::Ring(place(st, n, v), n);
+            Way::Up(a) => {
+                return Search::Over(a);
+            }
+            Way::Back(a, w) => {
+                bare(sl, a);
+                return Search::Ring(place(st, a, w), a);
             }
         }
     }
-    Search::Over(m)
 }
 
 // All that r leads to, with m done.
@@ -137,10 +189,7 @@ fn explore(rec: &[u8], fin: &mut [u16], st: &mut [u16], sl: &mut [u8], r: usize,
     if fin[r] != 0 {
         return Search::Over(m);
     }
-    fin[r] = 1;
-    st[0] = r as u16;
-    sl[0] = (8 * channel::loaded_slots(rec, r)) as u8;
-    descend(rec, fin, st, sl, m)
+    descend(rec, fin, st, sl, r, m)
 }
 
 // All that the wires of the i-th load byte lead to, with m done.

@@ -5,7 +5,7 @@ use mathlib.Core.Logic.{_≢_}
 use mathlib.Core.List.{List}
 use Prim.Native.Nat.{ℕ, _+_, _-_, _*_, _/_, _%_, _≤_, _<_}
 use lib.Dec.{T, eqb}
-use lib.ListN.{getD}
+use lib.ListN.{getD, set}
 use Rattle.sums.specs.Counting.{when, sum}
 use Rattle.channel.specs.Map.{spots, rev, view}
 use Rattle.channel.specs.Map.Fresh.{isFresh}
@@ -13,7 +13,9 @@ use Rattle.channel.specs.Map.LoadedSlots.{loadedFrom}
 use Rattle.channel.specs.Map.Origins.{originOf}
 use Rattle.audit.specs.Loops.{Room, Closed}
 use Rattle.audit.specs.declared.loops.Turn.{Turn}
-use Rattle.audit.specs.declared.loops.Turn.the-variants.{More, Hit}
+use Rattle.audit.specs.declared.loops.Turn.the-variants.{New, More, Hit}
+use Rattle.audit.specs.declared.loops.Way.{Way}
+use Rattle.audit.specs.declared.loops.Way.the-variants.{Down, Up, Back}
 use Rattle.audit.specs.declared.loops.Search.{Search}
 use Rattle.audit.specs.declared.loops.Search.the-variants.{Over, Ring}
 
@@ -75,12 +77,37 @@ pub record Dfs (rec fin st sl : List ℕ) (n m : ℕ) : Type 0 where
 abbrev pub Kept : List ℕ → List ℕ → Type 0
 Kept fin fin' = (u : ℕ) → getD fin u 0 ≢ 0 → getD fin' u 0 ≢ 0
 
--- one turn: the stack grows or shrinks, and there is less to do; or its top leads to v, which is on it
-pub data Turned (rec fin : List ℕ) (n : ℕ) (fin' st' sl' : List ℕ) : Turn → Type 0 where
-  more : {n' m' : ℕ} → Dfs rec fin' st' sl' n' m' → Kept fin fin' → unseen fin' + unseen fin' + n' < unseen fin + unseen fin + n
-      → Turned rec fin n fin' st' sl' (More n' m')
+-- besides, no other is seen
+pub record Still (fin fin' : List ℕ) : Type 0 where
+  pub kept : Kept fin fin'
+  pub count : unseen fin' ≡ unseen fin
+
+-- v is not seen, and the top of n spots on the stack leads to it
+pub record Aimed (rec fin st sl : List ℕ) (n m v : ℕ) : Type 0 where
+  pub state : Dfs rec fin st sl n m
+  pub spot : v < spots
+  pub blank : getD fin v 0 ≡ 0
+  pub edge : (i : ℕ) → n ≡ i + 1 → Edge rec (getD st i 0) (getD sl i 0 % 8) v
+
+-- v is the n-th on the stack, at its first slot
+pub record Entered (rec fin st sl : List ℕ) (n v : ℕ) (fin' st' sl' : List ℕ) : Type 0 where
+  pub marks : fin' ≡ set fin v 1
+  pub stack : st' ≡ set st n v
+  pub slots : sl' ≡ set sl n (8 * loadedFrom rec v 0)
+
+-- one turn: the top leads to v, which is not seen; or it is done, and the stack shrinks; or it leads to v, which is on the stack
+pub data Turned (rec fin : List ℕ) (n m : ℕ) (fin' st' sl' : List ℕ) : Turn → Type 0 where
+  new : {v : ℕ} → Aimed rec fin' st' sl' n m v → Still fin fin' → Turned rec fin n m fin' st' sl' (New v)
+  more : {n' m' : ℕ} → Dfs rec fin' st' sl' n' m' → Still fin fin' → n' < n → Turned rec fin n m fin' st' sl' (More n' m')
   hit : {v m' : ℕ} → Dfs rec fin' st' sl' n m' → Edge rec (getD st' (n - 1) 0) (getD sl' (n - 1) 0 % 8) v → getD fin' v 0 ≡ 1
-      → Turned rec fin n fin' st' sl' (Hit v)
+      → Turned rec fin n m fin' st' sl' (Hit v)
+
+-- the turns up to a new spot: the top leads to it; or nothing is left on the stack; or the top leads to v, which is on the stack
+pub data Resumed (rec fin fin' st' sl' : List ℕ) : Way → Type 0 where
+  down : {n' m' v : ℕ} → Aimed rec fin' st' sl' n' m' v → Still fin fin' → Resumed rec fin fin' st' sl' (Down n' m' v)
+  up : {m' : ℕ} → Dfs rec fin' st' sl' 0 m' → Kept fin fin' → Resumed rec fin fin' st' sl' (Up m')
+  back : {n' m' v : ℕ} → Dfs rec fin' st' sl' n' m' → Edge rec (getD st' (n' - 1) 0) (getD sl' (n' - 1) 0 % 8) v → getD fin' v 0 ≡ 1
+      → Resumed rec fin fin' st' sl' (Back n' v)
 
 -- the search from one spot: all that was seen is done; or a ring stands
 pub data Searched (rec fin fin' st' sl' : List ℕ) : Search → Type 0 where

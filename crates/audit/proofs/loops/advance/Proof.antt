@@ -1,14 +1,12 @@
--- `loops::advance` meets its contract: the top of the stack is done, or meets a spot on the stack, or a new spot goes on it. Assumes nothing.
+-- `loops::advance` meets its contract: the top of the stack is done, or meets a spot on the stack, or a new spot. Assumes nothing.
 use borrow.Author.Needs.{needs}
 use Prim.Native.Nat.{_-_, _<_}
 use native.Mathlib.Omega.{arith}
 use denote.Ref.{now}
-use lib.ListN.{getD, length-set}
-use Rattle.channel.specs.Map.LoadedSlots.{from-small}
+use lib.ListN.{getD}
 use Rattle.channel.specs.Map.Numbers.{spots-is}
 use Rattle.channel.specs.Map.{spots}
-use Rattle.audit.specs.Loops.Marks.{unseen-less}
-use Rattle.audit.specs.Loops.Turns.{turn-pop, turn-next, turn-hit, new-spot, turn-push}
+use Rattle.audit.specs.Loops.Turns.{turn-pop, turn-next, turn-hit, turn-new}
 use Rattle.audit.proofs.loops.advance.Statement.{statement}
 use Rattle.audit.proofs.loops.advance.Tie as tie
 
@@ -140,70 +138,19 @@ returns-3 c =
     let h = c .before .before .head-of in
     turn-hit (s .pre .0) (s .pre .1) (k .ensures) (i .left) (h .ensures .0) (c .if3 .taken)
 
-mul-fin-2 : tie.Need-mul-fin-2
-mul-fin-2 c = search needs
-
-slice-write-fin-2 : tie.Need-slice-write-fin-2
-slice-write-fin-2 c = search (needs, spots-is)
-
-cast-st : tie.Need-cast-st
-cast-st c = search needs
-
-mul-st : tie.Need-mul-st
-mul-st c = search needs
-
--- a spot that was not seen leaves room on the stack
-space : (c : tie.Else3) → c .before .before .before .before .before .before .before .before .before .before .before .before .args .n < spots
-space c =
-    let s = c .before .before .before .before .before .before .before .before .before .before .before .before in
-    let k = c .before .before .before .before .scan in
-    let i = c .before .before .before .if1 in
-    let h = c .before .before .head-of in
-    let (lv, z) = new-spot (s .pre .0) (s .pre .1) (k .ensures) (i .left) (h .ensures .0) (c .if3 .left) in
-    omega (arith, s .pre .0 .count, unseen-less (now (s .args .fin)) (h .result) lv (omega (arith, lv, s .pre .0 .room .marks)) 0 z)
-
-slice-write-st : tie.Need-slice-write-st
-slice-write-st c =
-    let p = c .before .before .before .before .before .before .before .before .before .before .before .before .pre in
-    omega (arith, space c, p .0 .room .stack)
-
-loaded-slots-requires : tie.Need-loaded-slots-requires
-loaded-slots-requires c κs = search needs
-
-mul-sl-2 : tie.Need-mul-sl-2
-mul-sl-2 c =
-    let r = now (c .before .before .before .before .before .before .before .before .before .before .before .before .before .args .rec) in
-    omega (arith, c .loaded-slots .ensures, from-small r (c .before .before .before .head-of .result) 0)
-
-cast-sl-3 : tie.Need-cast-sl-3
-cast-sl-3 c =
-    let r = now (c .before .before .before .before .before .before .before .before .before .before .before .before .before .args .rec) in
-    omega (arith, c .loaded-slots .ensures, from-small r (c .before .before .before .head-of .result) 0)
-
-slice-write-sl-3 : tie.Need-slice-write-sl-3
-slice-write-sl-3 c =
-    let p = c .before .before .before .before .before .before .before .before .before .before .before .before .before .pre in
-    simp length-set (omega (arith, space (c .before), p .0 .room .slots))
-
-add-t12 : tie.Need-add-t12
-add-t12 c = search needs
-
 same-length-6 : tie.Need-same-length-6
 same-length-6 c = search needs
 
 same-length-7 : tie.Need-same-length-7
 same-length-7 c = search needs
 
-same-length-8 : tie.Need-same-length-8
-same-length-8 c = search needs
-
 returns-4 : tie.Need-returns-4
 returns-4 c =
-    let s = c .before .before .before .before .before .before .before .before .before .before .before .before .before in
-    let k = c .before .before .before .before .before .scan in
-    let i = c .before .before .before .before .if1 in
-    let h = c .before .before .before .head-of in
-    turn-push (s .pre .0) (s .pre .1) (k .ensures) (i .left) (h .ensures .0) (c .before .if3 .left) _ (c .loaded-slots .ensures)
+    let s = c .before .before .before .before .before .before .before .before .before .before .before .before in
+    let k = c .before .before .before .before .scan in
+    let i = c .before .before .before .if1 in
+    let h = c .before .before .head-of in
+    turn-new (s .pre .0) (s .pre .1) (k .ensures) (i .left) (h .ensures .0) (c .if3 .left)
 
 pub advance-spec : {M : Type 1} → statement M
 advance-spec =
@@ -246,17 +193,6 @@ advance-spec =
     same-length-4
     same-length-5
     returns-3
-    mul-fin-2
-    slice-write-fin-2
-    cast-st
-    mul-st
-    slice-write-st
-    loaded-slots-requires
-    mul-sl-2
-    cast-sl-3
-    slice-write-sl-3
-    add-t12
     same-length-6
     same-length-7
-    same-length-8
     returns-4)

@@ -1,80 +1,100 @@
--- `loops::descend` meets its contract: each turn keeps the state, and leaves less to do. Assumes nothing.
+-- `loops::descend` meets its contract: each spot that goes on the stack leaves one less that is not seen. Assumes nothing.
 use borrow.Author.Needs.{needs}
-use Prim.Native.Nat.{_+_}
 use mathlib.Core.Path.{_≡_, refl, _∙_}
 use native.Mathlib.Omega.{arith}
-use lib.ListN.{length}
-use Rattle.audit.specs.Loops.Dfs.{unseen, Dfs, Kept, over, ring}
+use lib.ListN.{length, set}
+use Rattle.channel.specs.Map.Numbers.{spots-is}
+use Rattle.audit.specs.Loops.Dfs.{unseen, Kept, Aimed, over, ring}
 use Rattle.audit.specs.Loops.Rings.{hit-closed}
-use Rattle.audit.specs.Loops.Stack.{dfs-empty}
-use Rattle.audit.specs.Loops.Turns.{took-more, took-hit}
+use Rattle.audit.specs.Loops.Turns.{aimed-space, aimed-kept, entered-dfs, entered-less, entered-kept, went-down, went-up, went-back}
 use Rattle.audit.proofs.loops.descend.Statement.{statement}
 use Rattle.audit.proofs.loops.descend.Tie as tie
 
 abbrev Inv-loop : tie.InvT-loop
-Inv-loop rec fin₀ st₀ sl₀ m0 n₀ m₀ fin st sl n m =
-    (length fin ≡ length fin₀) × (length st ≡ length st₀) × (length sl ≡ length sl₀) × Dfs rec fin st sl n m × Kept fin₀ fin
+Inv-loop rec fin₀ st₀ sl₀ r m0 n₀ m₀ v₀ fin st sl n m v =
+    (length fin ≡ length fin₀) × (length st ≡ length st₀) × (length sl ≡ length sl₀) × Aimed rec fin st sl n m v × Kept (set fin₀ r 1) (set fin v 1)
 
 abbrev μ-loop : tie.MeasureT-loop
-μ-loop rec fin₀ st₀ sl₀ m0 n₀ m₀ fin st sl n m = unseen fin + unseen fin + n
+μ-loop rec fin₀ st₀ sl₀ r m0 n₀ m₀ v₀ fin st sl n m v = unseen fin
 
 loop-holds : tie.Need-loop-holds Inv-loop μ-loop
 loop-holds c = (refl, refl, refl, c .before .before .before .before .pre, λ u h. h)
 
-advance-requires : tie.Need-advance-requires Inv-loop μ-loop
-advance-requires c κs = (c .before .before .before .before .loop .inv .3, c .before .before .before .loop-test .taken)
+enter-requires : tie.Need-enter-requires Inv-loop μ-loop
+enter-requires c κs = let a = c .before .before .before .loop .inv .3 in (a .state .room, aimed-space a, a .spot)
+
+add-resume : tie.Need-add-resume Inv-loop μ-loop
+add-resume c = omega (arith, spots-is, aimed-space (c .before .before .before .before .before .before .before .before .before .before .before .before .before .loop .inv .3))
+
+resume-requires : tie.Need-resume-requires Inv-loop μ-loop
+resume-requires c κs = entered-dfs (c .before .before .before .before .before .before .before .before .before .before .before .before .before .loop .inv .3) (c .before .before .before .before .before .before .before .before .before .enter .ensures)
 
 enum-known-a : tie.Need-enum-known-a Inv-loop μ-loop
 enum-known-a c = search needs
 
 loop-less : tie.Need-loop-less Inv-loop μ-loop
-loop-less c = took-more (c .before .before .before .before .before .before .before .before .before .advance .ensures) (c .before .a .given .1) .2
+loop-less c =
+    let (a, k) = went-down (c .before .before .before .before .before .before .before .before .before .resume .ensures) (c .before .a .given .1) in
+    omega (arith, k .count, entered-less (c .before .before .before .before .before .before .before .before .before .before .before .before .before .before .before .before .before .before .before .before .before .before .before .loop .inv .3) (c .before .before .before .before .before .before .before .before .before .before .before .before .before .before .before .before .before .before .before .enter .ensures))
 
 loop-again : tie.Need-loop-again Inv-loop μ-loop
 loop-again c =
-    let l = c .before .before .before .before .before .before .before .before .before .before .before .before .before .before .loop .inv in
-    let k = c .before .before .before .before .before .before .before .before .before .advance .kept .1 in
-    let (s, kept, less) = took-more (c .before .before .before .before .before .before .before .before .before .advance .ensures) (c .before .a .given .1) in
-    (k .0 ∙ l .0, k .1 .0 ∙ l .1, k .1 .1 .0 ∙ l .2, s, λ u n. kept u (l .4 u n))
+    let l = c .before .before .before .before .before .before .before .before .before .before .before .before .before .before .before .before .before .before .before .before .before .before .before .loop .inv in
+    let e = c .before .before .before .before .before .before .before .before .before .before .before .before .before .before .before .before .before .before .before .enter in
+    let k = e .kept .1 in
+    let q = c .before .before .before .before .before .before .before .before .before .resume .kept .1 in
+    let (a, s) = went-down (c .before .before .before .before .before .before .before .before .before .resume .ensures) (c .before .a .given .1) in (
+      q .0 ∙ k .0 ∙ l .0,
+      q .1 .0 ∙ k .1 .0 ∙ l .1,
+      q .1 .1 .0 ∙ k .1 .1 .0 ∙ l .2,
+      a,
+      λ u h. aimed-kept a u (s .kept u (entered-kept (l .3) (e .ensures) u (l .4 u h))),
+    )
 
-enum-known-v : tie.Need-enum-known-v Inv-loop μ-loop
-enum-known-v c = search needs
+enum-known-a-2 : tie.Need-enum-known-a-2 Inv-loop μ-loop
+enum-known-a-2 c = search needs
+
+same-length : tie.Need-same-length Inv-loop μ-loop
+same-length c = c .before .before .before .before .before .before .before .before .before .resume .kept .1 .0 ∙ c .before .before .before .before .before .before .before .before .before .before .before .before .before .before .before .before .before .before .before .enter .kept .1 .0 ∙ c .before .before .before .before .before .before .before .before .before .before .before .before .before .before .before .before .before .before .before .before .before .before .before .loop .inv .0
+
+same-length-2 : tie.Need-same-length-2 Inv-loop μ-loop
+same-length-2 c = c .before .before .before .before .before .before .before .before .before .resume .kept .1 .1 .0 ∙ c .before .before .before .before .before .before .before .before .before .before .before .before .before .before .before .before .before .before .before .enter .kept .1 .1 .0 ∙ c .before .before .before .before .before .before .before .before .before .before .before .before .before .before .before .before .before .before .before .before .before .before .before .loop .inv .1
+
+same-length-3 : tie.Need-same-length-3 Inv-loop μ-loop
+same-length-3 c = c .before .before .before .before .before .before .before .before .before .resume .kept .1 .1 .1 .0 ∙ c .before .before .before .before .before .before .before .before .before .before .before .before .before .before .before .before .before .before .before .enter .kept .1 .1 .1 .0 ∙ c .before .before .before .before .before .before .before .before .before .before .before .before .before .before .before .before .before .before .before .before .before .before .before .loop .inv .2
+
+returns : tie.Need-returns Inv-loop μ-loop
+returns c =
+    let l = c .before .before .before .before .before .before .before .before .before .before .before .before .before .before .before .before .before .before .before .before .before .before .before .loop .inv in
+    let (d, k) = went-up (c .before .before .before .before .before .before .before .before .before .resume .ensures) (c .before .a2 .given .1) in
+    over d (λ u h. k u (entered-kept (l .3) (c .before .before .before .before .before .before .before .before .before .before .before .before .before .before .before .before .before .before .before .enter .ensures) u (l .4 u h)))
+
+enum-known-a-3 : tie.Need-enum-known-a-3 Inv-loop μ-loop
+enum-known-a-3 c = search needs
 
 bare-requires : tie.Need-bare-requires Inv-loop μ-loop
 bare-requires c κs =
-    let (m, s, e, h) = took-hit (c .before .before .before .before .before .before .before .before .before .before .advance .ensures) (c .before .before .v .given .1) in
+    let (m, s, e, h) = went-back (c .before .before .before .before .before .before .before .before .before .before .resume .ensures) (c .before .before .a3 .given .1) in
     omega (arith, s .count, s .room .slots)
 
 place-requires : tie.Need-place-requires Inv-loop μ-loop
 place-requires c κs =
-    let (m, s, e, h) = took-hit (c .before .before .before .before .before .before .before .before .before .before .before .before .before .before .advance .ensures) (c .before .before .before .before .before .before .v .given .1) in
+    let (m, s, e, h) = went-back (c .before .before .before .before .before .before .before .before .before .before .before .before .before .before .resume .ensures) (c .before .before .before .before .before .before .a3 .given .1) in
     omega (arith, s .count, s .room .stack)
 
-same-length : tie.Need-same-length Inv-loop μ-loop
-same-length c = c .before .before .before .before .before .before .before .before .before .before .before .before .before .before .before .advance .kept .1 .0 ∙ c .before .before .before .before .before .before .before .before .before .before .before .before .before .before .before .before .before .before .before .before .loop .inv .0
-
-same-length-2 : tie.Need-same-length-2 Inv-loop μ-loop
-same-length-2 c = c .before .before .before .before .before .before .before .before .before .before .before .before .before .before .before .advance .kept .1 .1 .0 ∙ c .before .before .before .before .before .before .before .before .before .before .before .before .before .before .before .before .before .before .before .before .loop .inv .1
-
-same-length-3 : tie.Need-same-length-3 Inv-loop μ-loop
-same-length-3 c = c .before .before .before .before .bare .kept .0 ∙ (c .before .before .before .before .before .before .before .before .before .before .before .before .before .before .before .advance .kept .1 .1 .1 .0 ∙ c .before .before .before .before .before .before .before .before .before .before .before .before .before .before .before .before .before .before .before .before .loop .inv .2)
-
-returns : tie.Need-returns Inv-loop μ-loop
-returns c =
-    let (m, s, e, h) = took-hit (c .before .before .before .before .before .before .before .before .before .before .before .before .before .before .before .advance .ensures) (c .before .before .before .before .before .before .before .v .given .1) in
-    ring (hit-closed s (c .before .before .before .before .bare .ensures) e _ h (c .place .ensures))
-
 same-length-4 : tie.Need-same-length-4 Inv-loop μ-loop
-same-length-4 c = c .before .loop .inv .0
+same-length-4 c = c .before .before .before .before .before .before .before .before .before .before .before .before .before .before .before .resume .kept .1 .0 ∙ c .before .before .before .before .before .before .before .before .before .before .before .before .before .before .before .before .before .before .before .before .before .before .before .before .before .enter .kept .1 .0 ∙ c .before .before .before .before .before .before .before .before .before .before .before .before .before .before .before .before .before .before .before .before .before .before .before .before .before .before .before .before .before .loop .inv .0
 
 same-length-5 : tie.Need-same-length-5 Inv-loop μ-loop
-same-length-5 c = c .before .loop .inv .1
+same-length-5 c = c .before .before .before .before .before .before .before .before .before .before .before .before .before .before .before .resume .kept .1 .1 .0 ∙ c .before .before .before .before .before .before .before .before .before .before .before .before .before .before .before .before .before .before .before .before .before .before .before .before .before .enter .kept .1 .1 .0 ∙ c .before .before .before .before .before .before .before .before .before .before .before .before .before .before .before .before .before .before .before .before .before .before .before .before .before .before .before .before .before .loop .inv .1
 
 same-length-6 : tie.Need-same-length-6 Inv-loop μ-loop
-same-length-6 c = c .before .loop .inv .2
+same-length-6 c = c .before .before .before .before .bare .kept .0 ∙ c .before .before .before .before .before .before .before .before .before .before .before .before .before .before .before .resume .kept .1 .1 .1 .0 ∙ c .before .before .before .before .before .before .before .before .before .before .before .before .before .before .before .before .before .before .before .before .before .before .before .before .before .enter .kept .1 .1 .1 .0 ∙ c .before .before .before .before .before .before .before .before .before .before .before .before .before .before .before .before .before .before .before .before .before .before .before .before .before .before .before .before .before .loop .inv .2
 
 returns-2 : tie.Need-returns-2 Inv-loop μ-loop
-returns-2 c = over (dfs-empty (c .before .loop .inv .3) (c .loop-test .left)) (c .before .loop .inv .4)
+returns-2 c =
+    let (m, s, e, h) = went-back (c .before .before .before .before .before .before .before .before .before .before .before .before .before .before .before .resume .ensures) (c .before .before .before .before .before .before .before .a3 .given .1) in
+    ring (hit-closed s (c .before .before .before .before .bare .ensures) e _ h (c .place .ensures))
 
 pub descend-spec : {M : Type 1} → statement M
 descend-spec =
@@ -83,17 +103,20 @@ descend-spec =
     Inv-loop
     μ-loop
     loop-holds
-    advance-requires
+    enter-requires
+    add-resume
+    resume-requires
     enum-known-a
     loop-less
     loop-again
-    enum-known-v
-    bare-requires
-    place-requires
+    enum-known-a-2
     same-length
     same-length-2
     same-length-3
     returns
+    enum-known-a-3
+    bare-requires
+    place-requires
     same-length-4
     same-length-5
     same-length-6
