@@ -30,6 +30,7 @@ pub mod Entered
 pub mod Ways
 pub mod Codes
 pub mod LinkTests
+pub mod Sides
 pub mod Caps
 pub mod Moving
 pub mod Laying

@@ -5,7 +5,7 @@ ghost use Prim.Native.Nat.{_/_, _%_, _≤_, _<_};
 ghost use lib.Dec.{T, eqb};
 ghost use lib.ListN.{length, getD};
 ghost use Rattle.model.specs.Job.{centreLimit};
-ghost use Rattle.model.specs.Links.{isPlace, northSide, westSide, link, go, come, aheadOf, may};
+ghost use Rattle.model.specs.Links.{isPlace, northSide, westSide, go, come, aheadOf, may};
 ghost use Rattle.model.specs.Record.{kinds, jobOf};
 ghost use Rattle.channel.specs.Map.{cap, free, kindOf, codeOf, mayTake, reaches, ownerMark};
 use crate::header::clear_in;
@@ -19,7 +19,6 @@ use crate::header::orthogonal;
 use crate::table::code_of;
 use crate::table::kind_of;
 use crate::table::owner_of;
-use crate::table::sign_of;
 
 // Whether a wire may go north over the north side of (r, c).
 pub fn may_north(job: &[u8], r: usize, c: usize) -> bool
@@ -65,37 +64,34 @@ pub fn may_west(job: &[u8], r: usize, c: usize) -> bool
     open_in(job, r, c) & open_in(job, r, c - 1)
 }
 
-// Whether one may go over the side of kind k in the direction of sign s.
-fn may_side(job: &[u8], k: usize, s: usize, r: usize, c: usize) -> bool
-    requires { ⌜ (32768 ≤ length (now job)) × (k < 2) × (s < 2) × (r < 40) × (c < 40) ⌝ }
-    ensures { λ b. ⌜ b ≡ may (jobOf (now (job .entry))) (record { link = link (getD kinds k northSide) r c; forth = eqb s 0 }) ⌝ }
-{
-    if k == 0 {
-        if s == 0 {
-            return may_north(job, r, c);
-        }
-        return may_south(job, r, c);
-    }
-    if s == 0 {
-        return may_east(job, r, c);
-    }
-    may_west(job, r, c)
-}
-
-// Whether the step of a side's dart may be taken.
+// Whether the step of a side's dart may be taken: its own tile is open, and the tile across is open or no tile. Over the rim no tile lies across: the last
+// column of a row and the first of the next are no neighbours.
 fn side_way(job: &[u8], d: usize) -> bool
     requires { ⌜ (32768 ≤ length (now job)) × (d < 105024) × (codeOf (d % 64) ≡ 1) ⌝ }
     ensures { λ b. ⌜ b ≡ mayTake (jobOf (now (job .entry))) d ⌝ }
 {
-    let i = d % 64;
-    let o = d / 64 + owner_of(i);
-    if o < 41 {
+    let x = d / 64;
+    if x < 41 {
         return false;
     }
-    if o >= 1641 {
+    // the cell across, 40 more
+    let y = x + (0x2750_2900_0000 >> (d / 8 % 8 * 8)) % 256;
+    let c = (x - 41) % 40;
+    let e = (y - 41) % 40;
+    let own = open_in(job, (x - 41) / 40, c);
+    if y < 81 {
+        return own;
+    }
+    if c + 1 < e {
+        return own;
+    }
+    if y >= 1681 {
         return false;
     }
-    may_side(job, kind_of(i), sign_of(i), (o - 41) / 40, (o - 41) % 40)
+    if e + 1 < c {
+        return false;
+    }
+    own & clear_in(job, (y - 81) / 40, e)
 }
 
 // Whether the leg of kind k leads from the pin (r, c) into an open tile.

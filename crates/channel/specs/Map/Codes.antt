@@ -5,7 +5,7 @@ use mathlib.Core.Bool.{Bool, true, false, not, _||_}
 use Prim.Native.Nat.{ℕ, zero, suc, _+_, _/_, _%_, _≤_, _<_}
 use native.Mathlib.Omega.{arith}
 use borrow.Author.Tests.{eq-eqb, ne-eqb}
-use lib.Dec.{T, eqb, eqb→eq, leb, leb→le, ltb, ltb→lt}
+use lib.Dec.{T, eqb, eqb→eq, leb, leb→le}
 use Rattle.sums.specs.Tests.{Same, same, other, same?, so, below, below-at}
 use Rattle.channel.specs.Map.{links, owners, signs, codes, kindOf, ownerOf, signOf, codeOf, ownerCell, carries, isPassage}
 use Rattle.channel.specs.Map.Bools.{if-so}
@@ -23,11 +23,6 @@ row-own i l t = eqb→eq _ _ (if-so (own (codeOf i)) (eqb (ownerOf i) 0) (below-
 
 pub own-cell : (d c : ℕ) → codeOf (d % 64) ≡ c → T (own c) → ownerCell d ≡ d / 64
 own-cell d c e t = sym (owner-is d 0 (sym (row-own (d % 64) (omega arith) (subst (λ (x : ℕ). T (own x)) (sym e) t)))) ∙ omega arith
-
-pub side-kind : (i : ℕ) → i < 64 → codeOf i ≡ 1 → kindOf i < 2
-unfolding below kindOf links codeOf codes
-side-kind i l e =
-    ltb→lt _ _ (if-so (eqb (codeOf i) 1) (ltb (kindOf i) 2) (below-at 64 (λ i. not (eqb (codeOf i) 1) || ltb (kindOf i) 2) tt i l) (so (eq-eqb _ _ e)))
 
 -- codes 6 and 7
 pub leg-kind : (i : ℕ) → i < 64 → T (eqb (codeOf i) 6 || eqb (codeOf i) 7) → 10 ≤ kindOf i

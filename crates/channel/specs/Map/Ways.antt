@@ -99,7 +99,7 @@ module _ (J : Job) where
   leg-entered west (suc r) zero = refl
   leg-entered west (suc r) (suc c) = refl
 
-  open-tile : (r c : ℕ) → T (isOpen J r c) → (suc r < J .rows) × (suc c < J .columns)
+  pub open-tile : (r c : ℕ) → T (isOpen J r c) → (suc r < J .rows) × (suc c < J .columns)
   unfolding isOpen
   open-tile r c t =
       let u : T (isTile J r c) = and-left (isTile J r c) (eqb (J .state r c) 0) t in
