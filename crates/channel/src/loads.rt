@@ -13,7 +13,7 @@ ghost use Rattle.channel.specs.Map.LoadedSlots.{loadedFrom};
 ghost use Rattle.channel.specs.Map.Origins.{originOf};
 ghost use Rattle.channel.specs.Map.Packed.{SlotWords};
 ghost use Rattle.channel.specs.Map.Struck.{Struck};
-ghost use Rattle.channel.specs.Map.{inGrid, rowOf, columnOf, ownerCell, stepOf, carries, isPassDart, passedOf, view, opposed, address, placeOf};
+ghost use Rattle.channel.specs.Map.{inGrid, rowOf, columnOf, ownerCell, stepOf, carries, isPassDart, passedOf, wayPart, view, opposed, address, placeOf};
 use crate::bits::lowest;
 use crate::header::in_grid;
 use crate::header::wide;
@@ -39,6 +39,16 @@ pub fn back(b: usize) -> usize
     if b < 32 { 0 } else { b - 32 }
 }
 
+// What it has one way or the other.
+fn one_way(b: usize, along: bool) -> usize
+    ensures { λ r. ⌜ (r ≡ wayPart along b) × (r ≤ b) ⌝ }
+{
+    if along {
+        return forth(b);
+    }
+    back(b)
+}
+
 // The byte of the dart's link, 0 where no cell of the grid owns it.
 fn byte_of(rec: &[u8], d: usize) -> usize
     requires { ⌜ (32768 ≤ length (now rec)) × (d < 105024) ⌝ }
@@ -60,11 +70,7 @@ pub fn load_along(rec: &[u8], d: usize) -> usize
     requires { ⌜ (32768 ≤ length (now rec)) × (d < 105024) ⌝ }
     ensures { λ r. ⌜ (r ≡ when (inGrid (ownerCell d)) (load (now (rec .entry)) (stepOf d))) × (r < 256) ⌝ }
 {
-    let b = byte_of(rec, d);
-    if sign_of(d % 64) == 0 {
-        return forth(b);
-    }
-    back(b)
+    one_way(byte_of(rec, d), sign_of(d % 64) == 0)
 }
 
 // How many go the other way.
@@ -72,11 +78,7 @@ pub fn load_against(rec: &[u8], d: usize) -> usize
     requires { ⌜ (32768 ≤ length (now rec)) × (d < 105024) ⌝ }
     ensures { λ r. ⌜ (r ≡ opposed (now (rec .entry)) d) × (r < 256) ⌝ }
 {
-    let b = byte_of(rec, d);
-    if sign_of(d % 64) == 0 {
-        return back(b);
-    }
-    forth(b)
+    one_way(byte_of(rec, d), sign_of(d % 64) != 0)
 }
 
 // What four planes from p on have at the cell x against their links' positive way.

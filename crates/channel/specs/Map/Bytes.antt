@@ -13,7 +13,7 @@ use Rattle.sums.specs.Tests.{and-right, so, below, below-at}
 use Rattle.model.specs.Links.{pin, missing, centre, at, northSide, linkCode, link}
 use Rattle.model.specs.Loads.{arrivals, departures}
 use Rattle.model.specs.Record.{forthPart, backPart, kinds, cell, load}
-use Rattle.channel.specs.Map.{inGrid, rowOf, columnOf, ownerCell, stepOf, carries, isPassage, isStored, isLinkDart, isPassDart, passedOf, view, opposed, address, kindOf, ownerOf, signOf, codeOf}
+use Rattle.channel.specs.Map.{inGrid, rowOf, columnOf, ownerCell, stepOf, carries, isPassage, isStored, isLinkDart, isPassDart, passedOf, wayPart, view, opposed, address, kindOf, ownerOf, signOf, codeOf}
 use Rattle.channel.specs.Map.Bools.{if-true, if-false, same-test, not-so}
 use Rattle.channel.specs.Map.Bounds.{kind-bound, code-bound}
 use Rattle.channel.specs.Map.Grid.{grid-low, grid-in, grid-high, grid-bounds, cell-byte}
@@ -57,46 +57,53 @@ step-cell rec d t =
     let k : linkCode (getD kinds (kindOf (d % 64)) northSide) ≡ kindOf (d % 64) = kind-code (kindOf (d % 64)) (kind-bound (d % 64) (omega arith)) in
     cell-byte rec _ (ownerCell d) l m ∙ ap (λ (x : ℕ). getD rec x 0) (omega (arith, k))
 
--- the part of a byte that goes a step's way
-way : Bool → ℕ → ℕ
-way f b = elim f [ true ↦ forthPart b | false ↦ backPart b ]
+pub way-forth : (f : Bool) (b : ℕ) → f ≡ true → forthPart b ≡ wayPart f b
+unfolding wayPart
+way-forth f b e = sym (if-true f _ _ e)
 
-way-none : (f : Bool) → way f 0 ≡ 0
-unfolding way
+pub way-back : (f : Bool) (b : ℕ) → f ≡ false → backPart b ≡ wayPart f b
+unfolding wayPart
+way-back f b e = sym (if-false f _ _ e)
+
+pub way-none : (f : Bool) → wayPart f 0 ≡ 0
+unfolding wayPart
 way-none true = refl
 way-none false = refl
 
-load-way : (rec : List ℕ) (d : ℕ) (f : Bool) → when (inGrid (ownerCell d)) (load rec (record { link = stepOf d .link; forth = f })) ≡ way f (kept rec d)
-unfolding load way stepOf
+load-way : (rec : List ℕ) (d : ℕ) (f : Bool) → when (inGrid (ownerCell d)) (load rec (record { link = stepOf d .link; forth = f })) ≡ wayPart f (kept rec d)
+unfolding load wayPart stepOf
 load-way rec d f = go (inGrid (ownerCell d)) (step-cell rec d)
   where
     go : (b : Bool) → (T b → cell rec (2 + linkCode (getD kinds (kindOf (d % 64)) northSide)) (rowOf (ownerCell d)) (columnOf (ownerCell d)) ≡ getD rec
         (address d) 0)
         → when b (load rec (record { link = link (getD kinds (kindOf (d % 64)) northSide) (rowOf (ownerCell d)) (columnOf (ownerCell d)); forth = f }))
-        ≡ way f (when b (getD rec (address d) 0))
-    go true e = ap (way f) (e tt)
+        ≡ wayPart f (when b (getD rec (address d) 0))
+    go true e = ap (wayPart f) (e tt)
     go false e = sym (way-none f)
 
 module _ (rec : List ℕ) (d b s : ℕ) (e : b ≡ kept rec d) (f : s ≡ signOf (d % 64)) where
+  byte-way : (w : Bool) → wayPart w b ≡ when (inGrid (ownerCell d)) (load rec (record { link = stepOf d .link; forth = w }))
+  byte-way w = ap (wayPart w) e ∙ sym (load-way rec d w)
+
+  pub along-way : wayPart (eqb s 0) b ≡ when (inGrid (ownerCell d)) (load rec (stepOf d))
+  unfolding stepOf
+  along-way = ap (λ (n : ℕ). wayPart (eqb n 0) b) f ∙ byte-way (eqb (signOf (d % 64)) 0)
+
+  pub against-way : wayPart (not (eqb s 0)) b ≡ opposed rec d
+  unfolding opposed stepOf
+  against-way = ap (λ (n : ℕ). wayPart (not (eqb n 0)) b) f ∙ byte-way (not (eqb (signOf (d % 64)) 0))
+
   pub along-forth : s ≡ 0 → forthPart b ≡ when (inGrid (ownerCell d)) (load rec (stepOf d))
-  unfolding way stepOf
-  along-forth z =
-      ap forthPart e ∙ sym (load-way rec d (eqb (signOf (d % 64)) 0) ∙ if-true (eqb (signOf (d % 64)) 0) _ _ (eq-eqb _ _ (sym f ∙ z)))
+  along-forth z = way-forth (eqb s 0) b (eq-eqb s 0 z) ∙ along-way
 
   pub along-back : s ≢ 0 → backPart b ≡ when (inGrid (ownerCell d)) (load rec (stepOf d))
-  unfolding way stepOf
-  along-back z =
-      ap backPart e ∙ sym (load-way rec d (eqb (signOf (d % 64)) 0) ∙ if-false (eqb (signOf (d % 64)) 0) _ _ (ne-eqb _ _ (λ q. z (f ∙ q))))
+  along-back z = way-back (eqb s 0) b (ne-eqb s 0 z) ∙ along-way
 
   pub against-back : s ≡ 0 → backPart b ≡ opposed rec d
-  unfolding opposed way stepOf
-  against-back z =
-      ap backPart e ∙ sym (load-way rec d (not (eqb (signOf (d % 64)) 0)) ∙ if-false (not (eqb (signOf (d % 64)) 0)) _ _ (ap not (eq-eqb _ _ (sym f ∙ z))))
+  against-back z = way-back (not (eqb s 0)) b (ap not (eq-eqb s 0 z)) ∙ against-way
 
   pub against-forth : s ≢ 0 → forthPart b ≡ opposed rec d
-  unfolding opposed way stepOf
-  against-forth z =
-      ap forthPart e ∙ sym (load-way rec d (not (eqb (signOf (d % 64)) 0)) ∙ if-true (not (eqb (signOf (d % 64)) 0)) _ _ (ap not (ne-eqb _ _ (λ q. z (f ∙ q)))))
+  against-forth z = way-forth (not (eqb s 0)) b (ap not (ne-eqb s 0 z)) ∙ against-way
 
 -- ---- through a place
 

@@ -15,6 +15,7 @@ use Rattle.model.specs.Links.{linkCode, Step}
 use Rattle.model.specs.Loads.{arrivals}
 use Rattle.model.specs.Record.{loadPlane, load}
 use Rattle.channel.specs.Map.{codes, ownerOf, codeOf, seatOf, dartOf, wayPart}
+use Rattle.channel.specs.Map.Bytes.{way-none}
 use Rattle.channel.specs.Map.{spots, inGrid, ownerCell, stepOf, carries, isPassage, isLinkDart, isPassDart, passedOf, view, address}
 use Rattle.channel.specs.Map.Bools.{if-true, if-false}
 use Rattle.channel.specs.Map.Darts.{OnGrid, kind-code}
@@ -91,15 +92,10 @@ module _ (s : Step) (g : OnGrid s) where
 
 -- bytes of 0 hold no wire
 pub no-load : (rec : List ℕ) → ((i : ℕ) → i < 32768 → getD rec i 0 ≡ 0) → (s : Step) → load rec s ≡ 0
-unfolding wayPart
 no-load rec z s = by (grid? rec s)
   where
-    none : (f : Bool) → wayPart f 0 ≡ 0
-    none true = refl
-    none false = refl
-
     by : OnGrid s ⊎ (load rec s ≡ 0) → load rec s ≡ 0
-    by (inl g) = step-load s g rec ∙ ap (wayPart (s .forth)) (z (3968 + stepByte s) (omega (arith, step-byte< s g))) ∙ none (s .forth)
+    by (inl g) = step-load s g rec ∙ ap (wayPart (s .forth)) (z (3968 + stepByte s) (omega (arith, step-byte< s g))) ∙ way-none (s .forth)
     by (inr e) = e
 
 -- ---- slots

@@ -2,7 +2,7 @@
 use borrow.Author.Needs.{needs}
 use mathlib.Core.Path.{_∙_}
 use native.Mathlib.Omega.{arith}
-use Rattle.channel.specs.Map.Bytes.{along-forth, along-back}
+use Rattle.channel.specs.Map.Bytes.{along-way}
 use Rattle.channel.proofs.loads.load_along.Statement.{statement}
 use Rattle.channel.proofs.loads.load_along.Tie as tie
 
@@ -12,31 +12,15 @@ byte-of-requires c κs = search needs
 sign-of-requires : tie.Need-sign-of-requires
 sign-of-requires c κs = search needs
 
-forth-requires : tie.Need-forth-requires
-forth-requires c κs = search needs
+one-way-requires : tie.Need-one-way-requires
+one-way-requires c κs = search needs
 
 returns : tie.Need-returns
 returns c =
-    let s = c .before .before .before .before .before in (
-      c .forth .ensures .0
-          ∙ along-forth (s .args .rec .now) (s .args .d) _ _ (c .before .before .before .byte-of .ensures .0) (c .before .before .sign-of .ensures)
-          (c .before .if1 .taken),
-      omega arith,
-    )
-
-back-requires : tie.Need-back-requires
-back-requires c κs = search needs
-
-returns-2 : tie.Need-returns-2
-returns-2 c =
-    let s = c .before .before .before .before .before in (
-      c .back .ensures .0
-          ∙ along-back (s .args .rec .now) (s .args .d) _ _ (c .before .before .before .byte-of .ensures .0) (c .before .before .sign-of .ensures)
-          (c .before .if1 .left),
+    let s = c .before .before .before .before .args in (
+      c .one-way .ensures .0 ∙ along-way (s .rec .now) (s .d) _ _ (c .before .before .byte-of .ensures .0) (c .before .sign-of .ensures),
       omega arith,
     )
 
 pub load-along-spec : {M : Type 1} → statement M
-load-along-spec =
-    tie.close
-    (tie.spec byte-of-requires sign-of-requires forth-requires returns back-requires returns-2)
+load-along-spec = tie.close (tie.spec byte-of-requires sign-of-requires one-way-requires returns)
