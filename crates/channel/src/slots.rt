@@ -7,7 +7,8 @@ ghost use Rattle.model.specs.Job.{Job};
 ghost use Rattle.model.specs.Record.{load, jobOf};
 ghost use Rattle.channel.specs.Map.{inGrid, ownerCell, stepOf, cap, free, opposed, moves, placeOf};
 ghost use Rattle.channel.specs.Map.Ahead.{Bits};
-ghost use Rattle.channel.specs.Map.Slots.{hasRoom, Words};
+ghost use Rattle.channel.specs.Map.Packed.{SlotWords};
+ghost use Rattle.channel.specs.Map.Slots.{hasRoom};
 use crate::header::wide;
 use crate::limits::centre_free;
 use crate::limits::corner_limit;
@@ -86,7 +87,7 @@ fn by_words(
     centre: bool,
     pin: bool,
 ) -> usize
-    requires { ⌜ (32768 ≤ length (now loads)) × (41 ≤ u / 8) × (u / 8 < 1600) × (2 ≤ u % 8) × (u % 8 < 6) × Words (u % 8) p q ⌝ }
+    requires { ⌜ (32768 ≤ length (now loads)) × (41 ≤ u / 8) × (u / 8 < 1600) × (2 ≤ u % 8) × (u % 8 < 6) × SlotWords (u % 8) p q ⌝ }
     ensures { λ r. ⌜ ((J : Job) → across ≡ cap J (8 * u) → half ≡ cap J (8 * u + 1) → centre ≡ free J (8 * u + 2) → pin ≡ free J (8 * u + 4)
         → Bits 8 (λ k. when (moves J (now (loads .entry)) (8 * u + k)) 1) r) ⌝ }
 {

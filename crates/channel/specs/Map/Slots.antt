@@ -20,7 +20,7 @@ use Rattle.channel.specs.Map.Caps.{cap-corner}
 use Rattle.channel.specs.Map.Laden.{place-bound}
 use Rattle.channel.specs.Map.Moving.{plain-moves, spoke-moves, into-moves, link-back-moves, centre-back-moves, none-moves, throughCentre}
 use Rattle.channel.specs.Map.Numbers.{is-dart}
-use Rattle.channel.specs.Map.Packed.{placeWords, place-word, not-least}
+use Rattle.channel.specs.Map.Packed.{SlotWords, not-least}
 
 -- ---- tests as bits
 
@@ -123,19 +123,6 @@ module _ (J : Job) (rec : List ℕ) (d : ℕ) (l : d + 7 < 105024) where
 abbrev pub hasRoom : List ℕ → ℕ → ℕ → Bool
 hasRoom rec d most = ltb (when (inGrid (ownerCell d)) (load rec (stepOf d))) most || ltb 0 (opposed rec d)
 
--- p and q are the place words of slots 0 to 3 and of slot 4, at a spot of kind k
-pub record Words (k p q : ℕ) : Type 0 where
-  pub first : (j : ℕ) → j < 4 → p / 2 ^ (j * 16) % 65536 ≡ placeOf (8 * k + j)
-  pub last : q % 65536 ≡ placeOf (8 * k + 4)
-
-pub words : {k : ℕ} (w : ℕ) → k < 8 → k ≡ w → Words k (getD placeWords (2 * w) 0) (getD placeWords (2 * w + 1) 0)
-words {k} w l e =
-    record {
-      first = λ j h. place-word {k = 2 * k} {w = 2 * w} (omega arith) (omega arith) j h ∙ ap placeOf (omega arith);
-      last = let q : 4 * (2 * k + 1) + 0 ≡ 8 * k + 4 = omega arith in
-          omega (arith, place-word {k = 2 * k + 1} {w = 2 * w + 1} (omega arith) (omega arith) 0 (omega arith), ap placeOf q);
-    }
-
 -- the last kind is the one that is none of the others
 pub from-five : (k : ℕ) → 2 ≤ k → k < 6 → ((Unit {0} × (k ≢ 2)) × (k ≢ 3)) × (k ≢ 4) → k ≡ 5
 from-five k l m r = let h : 5 ≤ k = not-least k 4 (not-least k 3 (not-least k 2 l (r .0 .0 .1)) (r .0 .1)) (r .1) in omega arith
@@ -199,22 +186,22 @@ module _ (u : ℕ) (m : 2 ≤ u % 8) (n : u % 8 < 6) where
   link-place i j l e =
       row-place i (omega arith) (and-both (onSide i) (ltb (i % 8) 5) (on-side i j (omega arith) e) (lt→ltb (i % 8) 5 (omega arith)))
 
-  module _ {p q : ℕ} (w : Words (u % 8) p q) where
+  module _ {p q : ℕ} (w : SlotWords (u % 8) p q) where
     pub first-word : (j : ℕ) → j < 4 → (1 < p / 2 ^ (j * 16) % 65536) × (p / 2 ^ (j * 16) % 65536 < 50000)
     first-word j l =
         let i = 8 * (u % 8) + j in
-        rw (w .first j l) (link-place i j (omega arith) refl, place-bound i (omega arith))
+        rw (w .four j l) (link-place i j (omega arith) refl, place-bound i (omega arith))
 
     pub last-word : (1 < q % 65536) × (q % 65536 < 50000)
     last-word =
         let i = 8 * (u % 8) + 4 in
-        rw (w .last) (link-place i 4 (omega arith) refl, place-bound i (omega arith))
+        rw (w .fifth) (link-place i 4 (omega arith) refl, place-bound i (omega arith))
 
     pub first-row : (d j : ℕ) → j < 4 → d ≡ 8 * u + j → placeOf (d % 64) ≡ p / 2 ^ (j * 16) % 65536
-    first-row d j l e = ap placeOf (omega arith) ∙ sym (w .first j l)
+    first-row d j l e = ap placeOf (omega arith) ∙ sym (w .four j l)
 
     pub last-row : placeOf ((8 * u + 4) % 64) ≡ q % 65536
-    last-row = ap placeOf (omega arith) ∙ sym (w .last)
+    last-row = ap placeOf (omega arith) ∙ sym (w .fifth)
 
   module _ (J : Job) (rec : List ℕ) (l : u < 13128) where
     dart : (j : ℕ) → j < 8 → 8 * u + j < darts

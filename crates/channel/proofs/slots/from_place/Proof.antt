@@ -7,7 +7,8 @@ use native.Mathlib.Omega.{arith}
 use denote.Ref.{now}
 use lib.Dec.{T, eqb}
 use Rattle.model.specs.Record.{jobOf}
-use Rattle.channel.specs.Map.Slots.{words, from-five, slot-code}
+use Rattle.channel.specs.Map.Packed.{slot-words}
+use Rattle.channel.specs.Map.Slots.{from-five, slot-code}
 use Rattle.channel.proofs.slots.from_place.Statement.{statement}
 use Rattle.channel.proofs.slots.from_place.Tie as tie
 
@@ -65,7 +66,7 @@ array-read-by-words-2 c = search needs
 by-words-requires : tie.Need-by-words-requires
 by-words-requires c κs =
     let (_, z, l, m, g, h) = c .before .before .before .before .before .before .before .pre in
-    (z, l, m, g, h, words 2 (omega arith) (c .match .keys1))
+    (z, l, m, g, h, slot-words (omega arith) (c .match .keys1) tt)
 
 array-read-by-words-3 : tie.Need-array-read-by-words-3
 array-read-by-words-3 c = search needs
@@ -76,7 +77,7 @@ array-read-by-words-4 c = search needs
 by-words-requires-2 : tie.Need-by-words-requires-2
 by-words-requires-2 c κs =
     let (_, z, l, m, g, h) = c .before .before .before .before .before .before .before .pre in
-    (z, l, m, g, h, words 3 (omega arith) (c .match .keys2))
+    (z, l, m, g, h, slot-words (omega arith) (c .match .keys2) tt)
 
 array-read-by-words-5 : tie.Need-array-read-by-words-5
 array-read-by-words-5 c = search needs
@@ -87,7 +88,7 @@ array-read-by-words-6 c = search needs
 by-words-requires-3 : tie.Need-by-words-requires-3
 by-words-requires-3 c κs =
     let (_, z, l, m, g, h) = c .before .before .before .before .before .before .before .pre in
-    (z, l, m, g, h, words 4 (omega arith) (c .match .keys3))
+    (z, l, m, g, h, slot-words (omega arith) (c .match .keys3) tt)
 
 array-read-by-words-7 : tie.Need-array-read-by-words-7
 array-read-by-words-7 c = search needs
@@ -98,7 +99,7 @@ array-read-by-words-8 c = search needs
 by-words-requires-4 : tie.Need-by-words-requires-4
 by-words-requires-4 c κs =
     let (_, z, l, m, g, h) = c .before .before .before .before .before .before .before .pre in
-    (z, l, m, g, h, words 5 (omega arith) (from-five _ g h (c .match .rest)))
+    (z, l, m, g, h, slot-words (omega arith) (from-five _ g h (c .match .rest)) tt)
 
 returns : tie.Need-returns
 returns c =
