@@ -26,21 +26,21 @@ use crate::table::seat_of;
 use crate::table::sign_of;
 
 // What a byte has along the link's positive way.
-pub fn forth(b: usize) -> usize
+fn forth(b: usize) -> usize
     ensures { λ r. ⌜ (r ≡ forthPart b) × (r ≤ b) ⌝ }
 {
     if b < 32 { b } else { 0 }
 }
 
 // What it has against it.
-pub fn back(b: usize) -> usize
+fn back(b: usize) -> usize
     ensures { λ r. ⌜ (r ≡ backPart b) × (r ≤ b) ⌝ }
 {
     if b < 32 { 0 } else { b - 32 }
 }
 
 // What it has one way or the other.
-fn one_way(b: usize, along: bool) -> usize
+pub fn one_way(b: usize, along: bool) -> usize
     ensures { λ r. ⌜ (r ≡ wayPart along b) × (r ≤ b) ⌝ }
 {
     if along {

@@ -14,10 +14,9 @@ use crate::limits::centre_free;
 use crate::limits::corner_limit;
 use crate::limits::pin_free;
 use crate::limits::side_limit;
-use crate::loads::back;
 use crate::loads::bit;
-use crate::loads::forth;
 use crate::loads::load_against;
+use crate::loads::one_way;
 use crate::moves::can_move;
 use crate::moves::centre_back;
 use crate::moves::centre_move;
@@ -49,11 +48,7 @@ fn along(loads: &[u8], w: usize, x: usize) -> usize
     requires { ⌜ (32768 ≤ length (now loads)) × (1 < w) × (w < 50000) × (41 ≤ x) × (x < 1600) ⌝ }
     ensures { λ r. ⌜ ((d : ℕ) → d / 64 ≡ x → placeOf (d % 64) ≡ w → r ≡ when (inGrid (ownerCell d)) (load (now (loads .entry)) (stepOf d))) ⌝ }
 {
-    let b = wide(loads[w / 2 + x]);
-    if w % 2 == 0 {
-        return forth(b);
-    }
-    back(b)
+    one_way(wide(loads[w / 2 + x]), w % 2 == 0)
 }
 
 // How many go the other way.
@@ -61,11 +56,7 @@ fn against(loads: &[u8], w: usize, x: usize) -> usize
     requires { ⌜ (32768 ≤ length (now loads)) × (1 < w) × (w < 50000) × (41 ≤ x) × (x < 1600) ⌝ }
     ensures { λ r. ⌜ ((d : ℕ) → d / 64 ≡ x → placeOf (d % 64) ≡ w → r ≡ opposed (now (loads .entry)) d) ⌝ }
 {
-    let b = wide(loads[w / 2 + x]);
-    if w % 2 == 0 {
-        return back(b);
-    }
-    forth(b)
+    one_way(wide(loads[w / 2 + x]), w % 2 != 0)
 }
 
 // 1 where fewer wires than most go the dart's way, or some the other way. Nothing branches on the byte.

@@ -99,12 +99,6 @@ module _ (rec : List ℕ) (d b s : ℕ) (e : b ≡ kept rec d) (f : s ≡ signOf
   pub along-back : s ≢ 0 → backPart b ≡ when (inGrid (ownerCell d)) (load rec (stepOf d))
   along-back z = way-back (eqb s 0) b (ne-eqb s 0 z) ∙ along-way
 
-  pub against-back : s ≡ 0 → backPart b ≡ opposed rec d
-  against-back z = way-back (not (eqb s 0)) b (ap not (eq-eqb s 0 z)) ∙ against-way
-
-  pub against-forth : s ≢ 0 → forthPart b ≡ opposed rec d
-  against-forth z = way-forth (not (eqb s 0)) b (ap not (ne-eqb s 0 z)) ∙ against-way
-
 -- ---- through a place
 
 module _ (rec : List ℕ) (x : ℕ) (l : 41 ≤ x) (m : x < 1641) where

@@ -11,11 +11,11 @@ use lib.ListN.{getD}
 use Rattle.sums.specs.Counting.{when}
 use Rattle.sums.specs.Tests.{Same, same, other, same?, below, below-at, and-left, and-right, and-both, both-ways}
 use Rattle.model.specs.Record.{forthPart, backPart, load}
-use Rattle.channel.specs.Map.{ownerCell, stepOf, opposed, address}
+use Rattle.channel.specs.Map.{ownerCell, stepOf, wayPart, opposed, address}
 use Rattle.channel.specs.Map.{inGrid, links, owners, signs, codes, carries, isPassage, isPassDart, view, kindOf, ownerOf, signOf, codeOf, placeOf}
 use Rattle.channel.specs.Map.Bools.{if-so, is-off, or-false}
 use Rattle.channel.specs.Map.Bounds.{owner-bound, sign-bound, code-bound}
-use Rattle.channel.specs.Map.Bytes.{kept-in, along-forth, along-back, against-forth, against-back, carries-no-pass, view-link, view-none}
+use Rattle.channel.specs.Map.Bytes.{kept-in, along-way, against-way, along-forth, along-back, carries-no-pass, view-link, view-none}
 use Rattle.channel.specs.Map.LoadedSlots.{slotBit, loadedFrom, from-five}
 use Rattle.channel.specs.Map.Packed.{SlotWords, entry-place}
 
@@ -109,31 +109,22 @@ module _ (rec : List ℕ) (d w : ℕ) (e : placeOf (d % 64) ≡ w) where
     kept-at b q =
         q ∙ (at-link ∙ kept-in rec d (ownerOf (d % 64)) refl (kindOf (d % 64)) refl (omega arith) (omega (arith, owner-bound (d % 64) (omega arith))))
 
-    sign-even : w % 2 ≡ 0 → signOf (d % 64) ≡ 0
-    sign-even z = omega (arith, stands .word, sign-bound (d % 64) (omega arith))
-
-    sign-odd : w % 2 ≢ 0 → signOf (d % 64) ≢ 0
-    sign-odd z = λ y. z (omega (arith, stands .word))
+    sign-is : w % 2 ≡ signOf (d % 64)
+    sign-is = omega (arith, stands .word, sign-bound (d % 64) (omega arith))
 
     -- what goes along the dart's link its way, and the other way, by the byte
     module _ (b : ℕ) (q : b ≡ getD rec (w / 2 + x) 0) where
-      pub even-along : w % 2 ≡ 0 → forthPart b ≡ when (inGrid (ownerCell d)) (load rec (stepOf d))
-      even-along z = along-forth rec d b (signOf (d % 64)) (kept-at b q) refl (sign-even z)
+      pub word-along : wayPart (eqb (w % 2) 0) b ≡ when (inGrid (ownerCell d)) (load rec (stepOf d))
+      word-along = along-way rec d b (w % 2) (kept-at b q) sign-is
 
-      pub odd-along : w % 2 ≢ 0 → backPart b ≡ when (inGrid (ownerCell d)) (load rec (stepOf d))
-      odd-along z = along-back rec d b (signOf (d % 64)) (kept-at b q) refl (sign-odd z)
-
-      pub even-against : w % 2 ≡ 0 → backPart b ≡ opposed rec d
-      even-against z = against-back rec d b (signOf (d % 64)) (kept-at b q) refl (sign-even z)
-
-      pub odd-against : w % 2 ≢ 0 → forthPart b ≡ opposed rec d
-      odd-against z = against-forth rec d b (signOf (d % 64)) (kept-at b q) refl (sign-odd z)
+      pub word-against : wayPart (not (eqb (w % 2) 0)) b ≡ opposed rec d
+      word-against = against-way rec d b (w % 2) (kept-at b q) sign-is
 
       laden-forth : w % 2 ≡ 0 → (ltb 0 b && ltb b 32) ≡ ltb 0 (view rec d)
-      laden-forth z = forth-test b ∙ ap (ltb 0) (even-along z ∙ view-link rec d (stands .carried))
+      laden-forth z = forth-test b ∙ ap (ltb 0) (along-forth rec d b (w % 2) (kept-at b q) sign-is z ∙ view-link rec d (stands .carried))
 
       laden-back : w % 2 ≢ 0 → ltb 32 b ≡ ltb 0 (view rec d)
-      laden-back z = back-test b ∙ ap (ltb 0) (odd-along z ∙ view-link rec d (stands .carried))
+      laden-back z = back-test b ∙ ap (ltb 0) (along-back rec d b (w % 2) (kept-at b q) sign-is z ∙ view-link rec d (stands .carried))
 
   -- by the way that the word says, and the byte
   pub laden : (x : ℕ) → d / 64 ≡ x → w ≢ 1 → 41 ≤ x → x < 1600 → (b : ℕ) → b ≡ getD rec (w / 2 + x) 0

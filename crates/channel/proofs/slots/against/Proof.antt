@@ -3,7 +3,7 @@ use borrow.Author.Needs.{needs}
 use mathlib.Core.Path.{_∙_}
 use native.Mathlib.Omega.{arith}
 use denote.Ref.{now}
-use Rattle.channel.specs.Map.Laden.{even-against, odd-against}
+use Rattle.channel.specs.Map.Laden.{word-against}
 use Rattle.channel.proofs.slots.against.Statement.{statement}
 use Rattle.channel.proofs.slots.against.Tie as tie
 
@@ -16,36 +16,15 @@ shared-slice-read-wide c = search needs
 wide-requires : tie.Need-wide-requires
 wide-requires c κs = search needs
 
-back-requires : tie.Need-back-requires
-back-requires c κs = search needs
+one-way-requires : tie.Need-one-way-requires
+one-way-requires c κs = search needs
 
 returns : tie.Need-returns
 returns c d h e =
-    let s = c .before .before .before .before .before in
+    let s = c .before .before .before .before in
     let (_, g, _, l, m) = s .pre in
-    c .back .ensures .0
-    ∙ even-against (now (s .args .loads)) d (s .args .w) e (s .args .x) h (omega arith) (omega arith) l m _ (c .before .before .wide .ensures .0)
-    (c .before .if1 .taken)
-
-forth-requires : tie.Need-forth-requires
-forth-requires c κs = search needs
-
-returns-2 : tie.Need-returns-2
-returns-2 c d h e =
-    let s = c .before .before .before .before .before in
-    let (_, g, _, l, m) = s .pre in
-    c .forth .ensures .0
-    ∙ odd-against (now (s .args .loads)) d (s .args .w) e (s .args .x) h (omega arith) (omega arith) l m _ (c .before .before .wide .ensures .0)
-    (c .before .if1 .left)
+    c .one-way .ensures .0
+    ∙ word-against (now (s .args .loads)) d (s .args .w) e (s .args .x) h (omega arith) (omega arith) l m _ (c .before .wide .ensures .0)
 
 pub against-spec : {M : Type 1} → statement M
-against-spec =
-    tie.close
-    (tie.spec
-    add-wide
-    shared-slice-read-wide
-    wide-requires
-    back-requires
-    returns
-    forth-requires
-    returns-2)
+against-spec = tie.close (tie.spec add-wide shared-slice-read-wide wide-requires one-way-requires returns)

@@ -3,7 +3,7 @@ use borrow.Author.Needs.{needs}
 use mathlib.Core.Path.{_∙_}
 use native.Mathlib.Omega.{arith}
 use denote.Ref.{now}
-use Rattle.channel.specs.Map.Laden.{even-along, odd-along}
+use Rattle.channel.specs.Map.Laden.{word-along}
 use Rattle.channel.proofs.slots.along.Statement.{statement}
 use Rattle.channel.proofs.slots.along.Tie as tie
 
@@ -16,36 +16,15 @@ shared-slice-read-wide c = search needs
 wide-requires : tie.Need-wide-requires
 wide-requires c κs = search needs
 
-forth-requires : tie.Need-forth-requires
-forth-requires c κs = search needs
+one-way-requires : tie.Need-one-way-requires
+one-way-requires c κs = search needs
 
 returns : tie.Need-returns
 returns c d h e =
-    let s = c .before .before .before .before .before in
+    let s = c .before .before .before .before in
     let (_, g, _, l, m) = s .pre in
-    c .forth .ensures .0
-    ∙ even-along (now (s .args .loads)) d (s .args .w) e (s .args .x) h (omega arith) (omega arith) l m _ (c .before .before .wide .ensures .0)
-    (c .before .if1 .taken)
-
-back-requires : tie.Need-back-requires
-back-requires c κs = search needs
-
-returns-2 : tie.Need-returns-2
-returns-2 c d h e =
-    let s = c .before .before .before .before .before in
-    let (_, g, _, l, m) = s .pre in
-    c .back .ensures .0
-    ∙ odd-along (now (s .args .loads)) d (s .args .w) e (s .args .x) h (omega arith) (omega arith) l m _ (c .before .before .wide .ensures .0)
-    (c .before .if1 .left)
+    c .one-way .ensures .0
+    ∙ word-along (now (s .args .loads)) d (s .args .w) e (s .args .x) h (omega arith) (omega arith) l m _ (c .before .wide .ensures .0)
 
 pub along-spec : {M : Type 1} → statement M
-along-spec =
-    tie.close
-    (tie.spec
-    add-wide
-    shared-slice-read-wide
-    wide-requires
-    forth-requires
-    returns
-    back-requires
-    returns-2)
+along-spec = tie.close (tie.spec add-wide shared-slice-read-wide wide-requires one-way-requires returns)
