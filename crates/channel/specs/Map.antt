@@ -19,6 +19,7 @@ pub mod SpotLoads
 pub mod Carry
 pub mod Stores
 pub mod Places
+pub mod Rings
 pub mod Starts
 pub mod Bools
 pub mod Bounds
