@@ -294,7 +294,8 @@ pub fn same_run(old: &[u8], rec: &[u8], k: usize) -> bool
     same
 }
 
-// The bytes of the loaded links that leave u, its loaded slots being the bits of w, become those of the record. An entry's one loaded slot is no link's.
+// The bytes of the loaded links that leave u, its loaded slots being the bits of w, become those of the record, and no other byte changes. An entry's one loaded
+// slot is no link's.
 pub fn strike(work: &mut [u8], rec: &[u8], u: usize, w: usize)
     requires { ⌜ (32768 ≤ length (now work)) × (32768 ≤ length (now rec)) × (u < 13128) × (w ≡ loadedFrom (now rec) u 0) ⌝ }
     ensures { λ _. ⌜ Struck (now (work .entry)) (now (rec .entry)) u (now (work .exit)) ⌝ }

@@ -11,6 +11,7 @@ use lib.Seq.{getD-set-same}
 use Rattle.channel.specs.Map.{spots, rev}
 use Rattle.channel.specs.Map.LoadedSlots.{loadedFrom, from-half}
 use Rattle.channel.specs.Map.Origins.{originOf}
+use Rattle.channel.specs.Map.Struck.{struck-or}
 use Rattle.audit.specs.Loops.{Closed}
 use Rattle.audit.specs.Loops.Dfs.{Edge, Rest, Picked, unseen, Dfs, Kept, Still, Aimed, Entered, Turned, new, more, hit, Resumed, down, up, back, Followed, Searched, over, ring, Traced}
 use Rattle.sums.specs.Tests.{below-or}
@@ -83,7 +84,7 @@ module _ {rec fin st sl : List ℕ} {n m v : ℕ} (a : Aimed rec fin st sl n m v
 
     -- its links are followed besides
     pub entered-followed : {old : List ℕ} → Followed old rec fin work → Followed old rec fin' work'
-    entered-followed {old} f = record { each = λ i l. ⊎-elim (λ p. before i p (f .each i l)) (λ p. inr (p .0, here i (p .1))) (e .struck .each i l) }
+    entered-followed {old} f = record { each = λ i l. ⊎-elim (λ p. before i p (f .each i l)) (λ p. inr (p .0, here i (p .1))) (struck-or (e .struck) i l) }
       where
         here : (i : ℕ) → originOf rec i ≡ v → getD fin' (originOf rec i) 0 ≢ 0
         here i o z = omega (arith, ap (λ (x : List ℕ). getD x v 0) (e .marks), ap (λ (x : ℕ). getD fin' x 0) o, getD-set-same fin v 1 0 marked)

@@ -45,16 +45,16 @@ module _ (rec : List ℕ) (d o : ℕ) (e : o ≡ ownerOf (d % 64)) where
 
 -- ---- along it and against it
 
-kind-code : (k : ℕ) → k < 14 → linkCode (getD kinds k northSide) ≡ k
+pub code-kind : (k : ℕ) → k < 14 → linkCode (getD kinds k northSide) ≡ k
 unfolding below
-kind-code k l = eqb→eq _ _ (below-at 14 (λ k. eqb (linkCode (getD kinds k northSide)) k) tt k l)
+code-kind k l = eqb→eq _ _ (below-at 14 (λ k. eqb (linkCode (getD kinds k northSide)) k) tt k l)
 
 step-cell : (rec : List ℕ) (d : ℕ) → T (inGrid (ownerCell d))
     → cell rec (2 + linkCode (getD kinds (kindOf (d % 64)) northSide)) (rowOf (ownerCell d)) (columnOf (ownerCell d)) ≡ getD rec (address d) 0
 unfolding address
 step-cell rec d t =
     let (l, m) = grid-bounds (ownerCell d) t in
-    let k : linkCode (getD kinds (kindOf (d % 64)) northSide) ≡ kindOf (d % 64) = kind-code (kindOf (d % 64)) (kind-bound (d % 64) (omega arith)) in
+    let k : linkCode (getD kinds (kindOf (d % 64)) northSide) ≡ kindOf (d % 64) = code-kind (kindOf (d % 64)) (kind-bound (d % 64) (omega arith)) in
     cell-byte rec _ (ownerCell d) l m ∙ ap (λ (x : ℕ). getD rec x 0) (omega (arith, k))
 
 pub way-forth : (f : Bool) (b : ℕ) → f ≡ true → forthPart b ≡ wayPart f b

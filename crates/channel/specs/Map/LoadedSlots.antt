@@ -5,7 +5,7 @@ use mathlib.Core.Bool.{Bool, true, false}
 use mathlib.Core.List.{List}
 use Prim.Native.Nat.{ℕ, zero, suc, _+_, _-_, _*_, _/_, _%_, _^_, _≤_, _<_}
 use native.Mathlib.Decide.{decLt}
-use native.Mathlib.Nat.{div-div-eq-div-mul}
+use native.Mathlib.Nat.{div-div-eq-div-mul, zero-div}
 use native.Mathlib.Numerals.{add-one}
 use native.Mathlib.Omega.{arith}
 use borrow.Author.Tests.{ltb-true, ltb-false}
@@ -121,6 +121,14 @@ module _ (rec : List ℕ) (u : ℕ) where
       let q : j + 1 ≡ suc j = omega arith in
       ap (λ (x : ℕ). loadedFrom rec u k / 2 ^ x) (sym q) ∙ ap (λ (x : ℕ). loadedFrom rec u k / x) (pow-add 2 j 1)
       ∙ sym (div-div-eq-div-mul (loadedFrom rec u k) (2 ^ j) (2 ^ 1)) ∙ ap (λ (x : ℕ). x / 2) (from-shift k j) ∙ half (k + j) ∙ ap (loadedFrom rec u) p
+
+  -- where nothing is left, no slot from k on is loaded
+  pub from-none : (k : ℕ) → loadedFrom rec u k ≡ 0 → (j : ℕ) → k ≤ j → j < 5 → view rec (8 * u + j) ≡ 0
+  from-none k e j l h =
+      let q : k + (j - k) ≡ j = omega arith in
+      let z : loadedFrom rec u j ≡ 0 =
+      ap (loadedFrom rec u) (sym q) ∙ sym (from-shift k (j - k)) ∙ ap (λ (x : ℕ). x / 2 ^ (j - k)) e ∙ zero-div (2 ^ (j - k)) in
+      from-idle j h (λ o. omega (arith, z))
 
   -- the next loaded slot, by the lowest bit of what is left from slot k on
   module _ (k : ℕ) {left i : ℕ} (e : left ≡ loadedFrom rec u k) (w : Lowest left i) where

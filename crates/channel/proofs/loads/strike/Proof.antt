@@ -1,26 +1,27 @@
--- `loads::strike` meets its contract: the bytes of the loaded slots passed are struck, and left has those from k on. Assumes nothing.
+-- `loads::strike` meets its contract: the bytes of the loaded slots below k are struck, a byte with no wires that leave u is as it was, and left has the slots
+-- from k on. Assumes nothing.
 use borrow.Author.Needs.{needs}
-use mathlib.Core.Path.{_≡_}
+use mathlib.Core.Path.{_≡_, sym, ap, subst}
 use Prim.Native.Nat.{ℕ, _+_, _-_, _/_, _≤_, _<_}
 use native.Mathlib.Omega.{arith}
 use denote.Ref.{now}
-use Rattle.channel.specs.Map.LoadedSlots.{loadedFrom, from-small, next-slot, next-laden, next-after}
-use Rattle.channel.specs.Map.Numbers.{spots-is}
-use Rattle.channel.specs.Map.Struck.{Struck, Leaves, slot-leaves, struck-none, struck-more}
+use Rattle.channel.specs.Map.LoadedSlots.{loadedFrom, from-small, next-slot, next-laden, next-idle, next-after}
+use Rattle.channel.specs.Map.Numbers.{is-spot}
+use Rattle.channel.specs.Map.Struck.{slotByte, Leaves, slot-leaves, struck-entry, Striking, striking-none, striking-more, striking-over}
 use Rattle.channel.proofs.loads.strike.Statement.{statement}
 use Rattle.channel.proofs.loads.strike.Tie as tie
 
 abbrev Inv-loop : tie.InvT-loop
-Inv-loop work₀ rec u w left₀ k₀ work left k = (left ≡ loadedFrom rec u k) × Struck work₀ rec u work
+Inv-loop work₀ rec u w left₀ k₀ work left k = (left ≡ loadedFrom rec u k) × Striking work₀ rec u k work
 
 abbrev μ-loop : tie.MeasureT-loop
 μ-loop work₀ rec u w left₀ k₀ work left k = 5 - k
 
 returns : tie.Need-returns Inv-loop μ-loop
-returns c = struck-none _ _ _
+returns c = struck-entry _ _ _ (is-spot (c .before .before .before .pre .2)) (c .if1 .taken)
 
 loop-holds : tie.Need-loop-holds Inv-loop μ-loop
-loop-holds c = (c .before .before .before .pre .3, struck-none _ _ _)
+loop-holds c = (c .before .before .before .pre .3, striking-none _ _ _)
 
 lowest-requires : tie.Need-lowest-requires Inv-loop μ-loop
 lowest-requires c κs =
@@ -35,15 +36,20 @@ slot c =
     next-slot (now (s .rec)) (s .u) (l .k) (l .inv .0) (c .lowest .ensures)
 
 -- the byte of its link
+place : (c : tie.After-place-of Inv-loop μ-loop)
+    → let u = c .before .before .before .before .before .before .before .args .u in
+    c .place-of .result / 2 + u / 8 ≡ slotByte u (c .before .before .before .loop .k + c .before .lowest .result)
+place c = ap (λ (p : ℕ). p / 2 + c .before .before .before .before .before .before .before .args .u / 8) (c .place-of .ensures)
+
 leaves : (c : tie.After-place-of Inv-loop μ-loop)
     → let s = c .before .before .before .before .before .before .before .args in Leaves (now (s .rec)) (s .u) (c .place-of .result / 2 + s .u / 8)
 leaves c =
     let z = c .before .before .before .before .before .before .before in
     let s = z .args in
     let l = c .before .before .before .loop in
-    slot-leaves (now (s .rec)) (s .u) (l .k + c .before .lowest .result) (c .place-of .result) (omega (arith, spots-is, z .pre .2))
-    (c .before .before .before .before .if1 .left) (slot (c .before))
-    (next-laden (now (s .rec)) (s .u) (l .k) (l .inv .0) (c .before .lowest .ensures)) (c .place-of .ensures)
+    subst (Leaves (now (s .rec)) (s .u)) (sym (place c))
+    (slot-leaves (now (s .rec)) (s .u) (is-spot (z .pre .2)) (l .k + c .before .lowest .result) (c .before .before .before .before .if1 .left) (slot (c .before))
+    (next-laden (now (s .rec)) (s .u) (l .k) (l .inv .0) (c .before .lowest .ensures)))
 
 add-k : tie.Need-add-k Inv-loop μ-loop
 add-k c = omega (arith, slot c)
@@ -83,16 +89,19 @@ loop-again : tie.Need-loop-again Inv-loop μ-loop
 loop-again c =
     let z = c .before .before .before .before .before .before .before .before in
     let s = z .args in
-    let l = c .before .before .before .before .loop in (
-      next-after (now (s .rec)) (s .u) (l .k) (l .inv .0) (c .before .before .lowest .ensures),
-      struck-more (z .pre .0) (l .inv .1) (leaves (c .before)),
+    let l = c .before .before .before .before .loop in
+    let w = c .before .before .lowest .ensures in (
+      next-after (now (s .rec)) (s .u) (l .k) (l .inv .0) w,
+      striking-more _ (z .pre .0) (l .inv .1) (next-idle (now (s .rec)) (s .u) (l .k) (l .inv .0) w) (place (c .before)) (leaves (c .before)),
     )
 
 same-length : tie.Need-same-length Inv-loop μ-loop
 same-length c = c .before .loop .inv .1 .long
 
 returns-2 : tie.Need-returns-2 Inv-loop μ-loop
-returns-2 c = c .before .loop .inv .1
+returns-2 c =
+    let l = c .before .loop in
+    striking-over (is-spot (c .before .before .before .before .before .pre .2)) (omega (arith, c .loop-test .left, l .inv .0)) (l .inv .1)
 
 pub strike-spec : {M : Type 1} → statement M
 strike-spec =
