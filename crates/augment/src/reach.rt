@@ -108,7 +108,8 @@ fn expand(
     Step::More(m)
 }
 
-// From start to the outside, the outermost ring first, or until no row has a spot that waits.
+// From start to the outside, the outermost ring first, or until no row has a spot that waits. Each turn takes a spot or goes on to the next ring, and 65,536
+// turns are more than there can be; what would wait after them is expanded by `reach`.
 fn lead(
     job: &[u8],
     loads: &[u8],
