@@ -15,7 +15,7 @@ use Rattle.sums.specs.Counting.{when}
 use Rattle.sums.specs.Lowest.{Lowest}
 use Rattle.model.specs.Job.{Job}
 use Rattle.channel.specs.Map.{rev, moves}
-use Rattle.channel.specs.Map.Ahead.{Bits, unset, marked}
+use Rattle.slots.specs.Ahead.{Bits, unset, marked}
 use Rattle.augment.specs.Steps.{Grown}
 
 -- ---- the bits of two numbers

@@ -5,7 +5,7 @@ ghost use lib.Dec.{T};
 ghost use lib.ListN.{length};
 ghost use Rattle.model.specs.Record.{jobOf};
 ghost use Rattle.channel.specs.Map.{spots, moves};
-ghost use Rattle.channel.specs.Map.Ahead.{Bits};
+ghost use Rattle.slots.specs.Ahead.{Bits};
 ghost use Rattle.augment.specs.Slots.{goesOn};
 ghost use Rattle.augment.specs.Spread.{Room};
 ghost use Rattle.augment.specs.Rings.{Unused, Led};
@@ -16,8 +16,8 @@ use crate::rings::take;
 use channel::head_of;
 use channel::is_outside;
 use channel::lowest;
-use channel::move_slots;
-use channel::unmarked;
+use slots::move_slots;
+use slots::unmarked;
 
 // The way out: slot k of the j-th spot in the queue, which has n; or there is none, and the queue has n.
 pub enum Way {

@@ -40,8 +40,8 @@ pub mod Fresh
 pub mod Laden
 pub mod LoadedSlots
 pub mod Struck
-pub mod Ahead
-pub mod Slots
+pub mod Heads
+pub mod Kinds
 use mathlib.Core.Path.{_≡_}
 use mathlib.Core.Logic.{_⊎_}
 use mathlib.Core.Bool.{Bool, true, false, not, _&&_, _||_}

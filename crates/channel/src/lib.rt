@@ -1,16 +1,13 @@
 // The channel map in code: the constant table, the job and the loads of a record, limits and moves. A crate above calls these functions by their contracts.
 pub mod bits; // the lowest bit of a number
 pub mod table; // the table's rows, and the way back of a dart
-pub mod ahead; // the slots that lead to spots with no mark
 pub mod header; // the job that a record holds
 pub mod loads; // how many wires go along a dart
 pub mod limits; // how many wires a dart takes
 pub mod places; // the places that darts lead to
 pub mod moves; // the moves of the search, and what a move stores
-pub mod slots; // the slots along which the search may move
 pub mod write; // a new job, one mark or state, no wires
 
-pub use ahead::unmarked;
 pub use bits::lowest;
 pub use header::chosen_at;
 pub use header::columns;
@@ -45,7 +42,6 @@ pub use moves::is_outside;
 pub use moves::is_start;
 pub use moves::lay;
 pub use moves::wire_starts;
-pub use slots::move_slots;
 pub use table::head_of;
 pub use table::reverse;
 pub use write::set_mark;
