@@ -16,7 +16,7 @@ use Rattle.channel.specs.Map.{inGrid, links, owners, signs, codes, carri
 use Rattle.channel.specs.Map.Bools.{if-so, is-off, or-false}
 use Rattle.channel.specs.Map.Bounds.{owner-bound, sign-bound, code-bound}
 use Rattle.channel.specs.Map.Bytes.{kept-in, along-way, against-way, along-forth, along-back, carries-no-pass, view-link, view-none}
-use Rattle.channel.specs.Map.LoadedSlots.{slotBit, loadedFrom, from-five}
+use Rattle.channel.specs.Map.LoadedSlots.{loadedFrom, from-five}
 use Rattle.channel.specs.Map.Packed.{SlotWords, entry-place}
 
 -- ---- tests of a load
@@ -151,12 +151,12 @@ module _ {k w last : ℕ} (s : SlotWords k w last) (h : k < 8) where
   fifth-link = (omega (arith, s .fifth, place-bound (8 * k + 4) (omega arith)), s .link)
 
 pub slot-test : (rec : List ℕ) (u k w : ℕ) (b : Bool) → k < 8 → w ≡ placeOf (8 * (u % 8) + k)
-    → ((d : ℕ) → d / 64 ≡ u / 8 → placeOf (d % 64) ≡ w → b ≡ ltb 0 (view rec d)) → when b 1 ≡ slotBit rec u k
+    → ((d : ℕ) → d / 64 ≡ u / 8 → placeOf (d % 64) ≡ w → b ≡ ltb 0 (view rec d)) → when b 1 ≡ when (ltb 0 (view rec (8 * u + k))) 1
 slot-test rec u k w b h q f = ap (λ (b : Bool). when b 1) (f (8 * u + k) (omega arith) (ap placeOf (omega arith) ∙ sym q))
 
 -- of an entry only slot 4 is loaded
-pub entry-slots : (rec : List ℕ) (u : ℕ) → (u % 8 ≡ 0) ⊎ (u % 8 ≡ 6) → 16 * slotBit rec u 4 ≡ loadedFrom rec u 0
+pub entry-slots : (rec : List ℕ) (u : ℕ) → (u % 8 ≡ 0) ⊎ (u % 8 ≡ 6) → 16 * when (ltb 0 (view rec (8 * u + 4))) 1 ≡ loadedFrom rec u 0
 entry-slots rec u e = omega (arith, from-five rec u, idle 0 (omega arith), idle 1 (omega arith), idle 2 (omega arith), idle 3 (omega arith))
   where
-    idle : (k : ℕ) → k < 4 → 0 ≡ slotBit rec u k
+    idle : (k : ℕ) → k < 4 → 0 ≡ when (ltb 0 (view rec (8 * u + k))) 1
     idle k l = ap (λ (b : Bool). when b 1) (unladen rec (8 * u + k) 0 (ap placeOf (omega arith) ∙ entry-place (u % 8) e k l) refl)

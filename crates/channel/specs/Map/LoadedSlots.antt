@@ -16,7 +16,7 @@ use Rattle.sums.specs.Lowest.{Lowest}
 use Rattle.channel.specs.Map.{view}
 
 -- whether slot k of u is loaded, as a bit
-abbrev pub slotBit : List ℕ → ℕ → ℕ → ℕ
+abbrev slotBit : List ℕ → ℕ → ℕ → ℕ
 slotBit rec u k = when (ltb 0 (view rec (8 * u + k))) 1
 
 -- the last c of the five slots of u

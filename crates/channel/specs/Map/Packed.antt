@@ -29,7 +29,7 @@ turnWords =
     ∷ 0x0a77_0a70_0a69_0a62 ∷ 0x0a80_0a80_0a80_0a88 ∷ 0x0a72_0a6b_0a64_0a5d ∷ 0x0a80_0a80_0a80_0a78 ∷ []
 
 -- and where the bytes of their links stand
-abbrev pub placeWords : List ℕ
+abbrev placeWords : List ℕ
 placeWords =
     0x0000_0000_0000_0000 ∷ 0x0000_0000_0000_0001 ∷ 0xc12e_b4ae_a82e_9bae ∷ 0x0000_0000_0000_0000 ∷ 0x5d2f_69af_37ae_1eae ∷ 0x0000_0000_0000_a82f ∷ 0x37af_762f_442e_2b30 ∷ 0x0000_0000_0000_b4b1 ∷ 0x442f_82af_50ae_1eff ∷ 0x0000_0000_0000_c181 ∷ 0x50af_8f2f_5d2e_2b2f ∷ 0x0000_0000_0000_9bff ∷ 0x0000_0000_0000_0000 ∷ 0x0000_0000_0000_0001 ∷ 0x8f2e_82ae_762e_69ae ∷ 0x0000_0000_0000_0000 ∷ []
 

@@ -101,7 +101,7 @@ entry-row i l t e =
     (if-so (carries (codeOf i)) (not (eqb (i / 8 % 6) 0)) (below-at 64 (λ i. not (carries (codeOf i)) || not (eqb (i / 8 % 6) 0)) tt i l) t)
 
 -- where the byte of slot k of u stands
-abbrev pub slotByte : ℕ → ℕ → ℕ
+abbrev slotByte : ℕ → ℕ → ℕ
 slotByte u k = placeOf ((8 * u + k) % 64) / 2 + u / 8
 
 -- a load byte with wires that leave u

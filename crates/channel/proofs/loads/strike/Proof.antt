@@ -2,12 +2,13 @@
 -- from k on. Assumes nothing.
 use borrow.Author.Needs.{needs}
 use mathlib.Core.Path.{_≡_, sym, ap, subst}
-use Prim.Native.Nat.{ℕ, _+_, _-_, _/_, _≤_, _<_}
+use Prim.Native.Nat.{ℕ, _+_, _-_, _*_, _/_, _%_, _≤_, _<_}
 use native.Mathlib.Omega.{arith}
 use denote.Ref.{now}
 use Rattle.channel.specs.Map.LoadedSlots.{loadedFrom, from-small, next-slot, next-laden, next-idle, next-after}
 use Rattle.channel.specs.Map.Numbers.{is-spot}
-use Rattle.channel.specs.Map.Struck.{slotByte, Leaves, slot-leaves, struck-entry, Striking, striking-none, striking-more, striking-over}
+use Rattle.channel.specs.Map.{placeOf}
+use Rattle.channel.specs.Map.Struck.{Leaves, slot-leaves, struck-entry, Striking, striking-none, striking-more, striking-over}
 use Rattle.channel.proofs.loads.strike.Statement.{statement}
 use Rattle.channel.proofs.loads.strike.Tie as tie
 
@@ -38,7 +39,7 @@ slot c =
 -- the byte of its link
 place : (c : tie.After-place-of Inv-loop μ-loop)
     → let u = c .before .before .before .before .before .before .before .args .u in
-    c .place-of .result / 2 + u / 8 ≡ slotByte u (c .before .before .before .loop .k + c .before .lowest .result)
+    c .place-of .result / 2 + u / 8 ≡ placeOf ((8 * u + (c .before .before .before .loop .k + c .before .lowest .result)) % 64) / 2 + u / 8
 place c = ap (λ (p : ℕ). p / 2 + c .before .before .before .before .before .before .before .args .u / 8) (c .place-of .ensures)
 
 leaves : (c : tie.After-place-of Inv-loop μ-loop)
