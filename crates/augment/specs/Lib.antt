@@ -11,7 +11,6 @@ pub mod Marks
 pub mod Spread
 pub mod Steps
 pub mod Queue
-pub mod Rings
 pub mod Slots
 pub mod Ways
 -- The search over all pins.

@@ -3,13 +3,13 @@ use mathlib.Core.Path.{_≡_, refl, sym, ap, _∙_}
 use mathlib.Core.Logic.{_≢_, _⊎_, inl, inr, ⊎-elim}
 use mathlib.Core.Bool.{Bool, true, false, not, _&&_}
 use mathlib.Core.List.{List}
-use Prim.Native.Nat.{ℕ, zero, suc, _+_, _≤_, _<_}
+use Prim.Native.Nat.{ℕ, _+_, _≤_, _<_}
 use native.Mathlib.Decide.{ℕ-discrete}
 use native.Mathlib.Omega.{arith}
 use borrow.Author.Count.{below-more}
 use borrow.Author.Tests.{eq-eqb, ne-eqb}
 use lib.Dec.{T, eqb, ltb, ltb→lt, lt→ltb, eqb→eq}
-use lib.ListN.{length, getD, set, replicate}
+use lib.ListN.{length, getD, set}
 use lib.Seq.{getD-set-same, getD-set-other}
 use Rattle.sums.specs.Counting.{when, sum}
 use Rattle.sums.specs.Tests.{and-left, and-right, and-both, so}
@@ -43,13 +43,6 @@ same-or a b = by (ℕ-discrete a b)
 -- what stands at x after a store at v
 pub after : (t : List ℕ) (v a x : ℕ) → v < length t → ((x ≡ v) × (getD (set t v a) x 0 ≡ a)) ⊎ ((x ≢ v) × (getD (set t v a) x 0 ≡ getD t x 0))
 after t v a x l = ⊎-elim (λ e. inl (e, rw e (getD-set-same t v a 0 l))) (λ n. inr (n, getD-set-other t v x a 0 n)) (same-or x v)
-
--- ---- a list of zeros
-
-pub zeros-at : (n u : ℕ) → _≡_ {A = ℕ} (getD (replicate n 0) u 0) 0
-zeros-at zero u = refl
-zeros-at (suc n) zero = refl
-zeros-at (suc n) (suc u) = zeros-at n u
 
 -- ---- how many are not marked
 

@@ -1,4 +1,4 @@
--- The laws of the search from one spot: how it begins, what one more spot in the queue keeps, and what is known at its end. Assumes nothing.
+-- The laws of the breadth-first search: how it begins, what one more spot in the queue keeps, and what is known at its end. Assumes nothing.
 use mathlib.Core.Path.{_≡_, refl, sym, subst, _∙_}
 use mathlib.Core.Logic.{_≢_, _⊎_, inl, inr, ⊎-elim}
 use mathlib.Core.List.{List}
@@ -12,10 +12,10 @@ use Rattle.model.specs.Job.{Job}
 use Rattle.channel.specs.Map.{spots, rev, outside, moves}
 use Rattle.augment.specs.Marks.{unmarked, unmarked-le, after, mark-less}
 use Rattle.augment.specs.Spread.{Room, Came, Spread, Alike}
-use Rattle.augment.specs.Steps.{Whole, Ready, Fresh, Tried, exit, old, new, Grown, Expanded, more, Explored, Front, Found, Searched, closed}
+use Rattle.augment.specs.Steps.{Whole, Ready, Fresh, Tried, exit, old, new, Grown, Expanded, more, Front, Searched, out, closed}
 use Rattle.augment.specs.declared.reach.Step.{Step}
 use Rattle.augment.specs.declared.reach.Step.the-variants.{Exit, More}
-use Rattle.augment.specs.declared.reach.Way.the-variants.{Closed}
+use Rattle.augment.specs.declared.reach.Way.the-variants.{Out, Closed}
 
 -- a mark more keeps the marks
 marks-keep : (t : List ℕ) (v x : ℕ) → v < length t → getD t x 0 ≡ 1 → getD (set t v 1) x 0 ≡ 1
@@ -224,66 +224,40 @@ front-start {t = t} {start = start} r s =
       done = λ i l. absurd (omega arith);
     }
 
--- a spot that led to none outside has all its slots tried
-pub expanded-grown : {J : Job} {rec : List ℕ} {u h : ℕ} {t q f w : List ℕ} {n : ℕ} {t' q' f' w' : List ℕ} {s : Step} {a : ℕ}
-    → Expanded J rec u h t q f w n t' q' f' w' s → s ≡ More a → Grown J rec u 8 h t q f w n t' q' f' w' a
-expanded-grown {J} {rec} {u} {h} {t} {q} {f} {w} {n} {t'} {q'} {f'} {w'} {a = a} y e =
-    by (subst (λ (x : Step). Expanded J rec u h t q f w n t' q' f' w' x) e y)
-  where
-    by : Expanded J rec u h t q f w n t' q' f' w' (More a) → Grown J rec u 8 h t q f w n t' q' f' w' a
-    by (more g) = g
-
--- what is expanded stays so
-pub explored-more : (J : Job) (rec t t' : List ℕ) (u : ℕ) → ((x : ℕ) → getD t x 0 ≡ 1 → getD t' x 0 ≡ 1) → Explored J rec t u → Explored J rec t' u
-explored-more J rec t t' u m d k l y = m (rev (8 * u + k) / 8) (d k l y)
-
 module _ {J : Job} {rec : List ℕ} {start : ℕ} {t₀ t q f w : List ℕ} {h n : ℕ} (F : Front J rec start t₀ t q f w h n) where
+  pub front-ready : {job : List ℕ} → Whole job rec → h < n → Ready job rec t q f w (getD q h 0) h n
+  front-ready o l = record { whole = o; room = F .room; count = F .count; early = l; spot = F .spread .spot h l }
+
   pub front-end : n ≤ h → Searched J rec start t₀ t q f w (Closed n)
   front-end l = closed (F .spread) (omega (arith, F .count)) (λ i m. F .done i (omega arith))
 
-  -- the next spot is expanded already
-  pub front-next : h < n → Explored J rec t (getD q h 0) → Front J rec start t₀ t q f w (h + 1) n
-  front-next l d =
-      record {
-        room = F .room;
-        count = F .count;
-        le = omega arith;
-        spread = F .spread;
-        done = below-more (λ i. Explored J rec t (getD q i 0)) h (F .done) d;
-      }
+  module _ (l : h < n) {t' q' f' w' : List ℕ} where
+    more-front : {a : ℕ} → Expanded J rec (getD q h 0) h t q f w n t' q' f' w' (More a) → Front J rec start t₀ t' q' f' w' (h + 1) a
+    more-front (more g) =
+        record {
+          room = g .room;
+          count = g .count;
+          le = omega (arith, g .up);
+          spread = g .spread start t₀ refl (F .spread);
+          done = below-more (λ i. (k : ℕ) → k < 8 → T (moves J rec (8 * getD q' i 0 + k)) → getD t' (rev (8 * getD q' i 0 + k) / 8) 0 ≡ 1) h
+              (λ i li. rw (g .keep i (omega arith)) (λ k lk m. g .marks (rev (8 * getD q i 0 + k) / 8) (F .done i li k lk m)))
+              (rw (g .keep h l) (λ k lk m. g .done k lk m));
+        }
 
-  -- the j-th spot is expanded
-  module _ (j : ℕ) (l : j < n) where
-    pub front-ready : {job : List ℕ} → Whole job rec → Ready job rec t q f w (getD q j 0) j n
-    front-ready o = record { whole = o; room = F .room; count = F .count; early = l; spot = F .spread .spot j l }
+    exit-front : {k a : ℕ} → Expanded J rec (getD q h 0) h t q f w n t' q' f' w' (Exit k a) → Searched J rec start t₀ t' q' f' w' (Out h k a)
+    exit-front {k} (Expanded.exit lk may o g) =
+        out {j = h} (record {
+          spread = g .spread start t₀ refl (F .spread);
+          within = omega (arith, g .count);
+          place = omega (arith, g .up);
+          slot = lk;
+          may = rw (g .keep h l) may;
+          exit = rw (g .keep h l) o;
+        })
 
-    module _ {t' q' f' w' : List ℕ} where
-      pub front-grown : {a : ℕ} → Grown J rec (getD q j 0) 8 j t q f w n t' q' f' w' a → Front J rec start t₀ t' q' f' w' h a
-      front-grown g =
-          record {
-            room = g .room;
-            count = g .count;
-            le = omega (arith, g .up, F .le);
-            spread = g .spread start t₀ refl (F .spread);
-            done = λ i li. rw (g .keep i (omega (arith, F .le))) (explored-more J rec t t' (getD q i 0) (g .marks) (F .done i li));
-          }
+    module _ {s : Step} (y : Expanded J rec (getD q h 0) h t q f w n t' q' f' w' s) where
+      pub front-more : {a : ℕ} → s ≡ More a → Front J rec start t₀ t' q' f' w' (h + 1) a
+      front-more e = more-front (subst (λ (x : Step). Expanded J rec (getD q h 0) h t q f w n t' q' f' w' x) e y)
 
-      exit-found : {k a : ℕ} → Expanded J rec (getD q j 0) j t q f w n t' q' f' w' (Exit k a) → Found J rec start t₀ t' q' f' w' j k a
-      exit-found (Expanded.exit lk may o g) =
-          record {
-            spread = g .spread start t₀ refl (F .spread);
-            within = omega (arith, g .count);
-            place = omega (arith, g .up);
-            slot = lk;
-            may = rw (g .keep j l) may;
-            exit = rw (g .keep j l) o;
-          }
-
-      -- a slot of it leads outside
-      pub front-exit : {s : Step} {k a : ℕ} → Expanded J rec (getD q j 0) j t q f w n t' q' f' w' s → s ≡ Exit k a → Found J rec start t₀ t' q' f' w' j k a
-      front-exit y e = exit-found (subst (λ (x : Step). Expanded J rec (getD q j 0) j t q f w n t' q' f' w' x) e y)
-
--- the j-th spot is expanded once its slots are tried
-pub grown-explored : {J : Job} {rec : List ℕ} {j : ℕ} {t q f w : List ℕ} {n : ℕ} {t' q' f' w' : List ℕ} {a : ℕ} → j < n
-    → Grown J rec (getD q j 0) 8 j t q f w n t' q' f' w' a → Explored J rec t' (getD q' j 0)
-grown-explored {j = j} l g = rw (g .keep j l) (g .done)
+      pub front-exit : {k a : ℕ} → s ≡ Exit k a → Searched J rec start t₀ t' q' f' w' (Out h k a)
+      front-exit e = exit-front (subst (λ (x : Step). Expanded J rec (getD q h 0) h t q f w n t' q' f' w' x) e y)

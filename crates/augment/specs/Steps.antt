@@ -50,13 +50,9 @@ pub data Expanded (J : Job) (rec : List ℕ) (u h : ℕ) (t q f w : List ℕ) (n
       → Expanded J rec u h t q f w n t' q' f' w' (Exit k n')
   more : {n' : ℕ} → Grown J rec u 8 h t q f w n t' q' f' w' n' → Expanded J rec u h t q f w n t' q' f' w' (More n')
 
--- the spot u is expanded: each of its moves leads to a marked spot
-abbrev pub Explored : Job → List ℕ → List ℕ → ℕ → Type 0
-Explored J rec t u = (k : ℕ) → k < 8 → T (moves J rec (8 * u + k)) → getD t (rev (8 * u + k) / 8) 0 ≡ 1
-
--- the first h spots in the queue are
+-- the first h spots in the queue are expanded: each of their moves leads to a marked spot
 abbrev pub Done : Job → List ℕ → List ℕ → List ℕ → ℕ → Type 0
-Done J rec t q h = (i : ℕ) → i < h → Explored J rec t (getD q i 0)
+Done J rec t q h = (i : ℕ) → i < h → (k : ℕ) → k < 8 → T (moves J rec (8 * getD q i 0 + k)) → getD t (rev (8 * getD q i 0 + k) / 8) 0 ≡ 1
 
 -- the state of the search
 pub record Front (J : Job) (rec : List ℕ) (start : ℕ) (t₀ t q f w : List ℕ) (h n : ℕ) : Type 0 where

@@ -1,5 +1,4 @@
 // One wire more: over the channel map's published promise alone.
-mod rings; // the spots that wait, by rings
-pub mod reach; // from a pin, to the outside or to a closed set
+pub mod reach; // breadth-first from a pin, to the outside or to a closed set
 pub mod ways; // the way that a search found: laid, and its marks taken back
 pub mod next; // the pins, one after the other

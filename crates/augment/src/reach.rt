@@ -1,5 +1,4 @@
-// The search for a way out: from one spot along moves, never entering a marked spot, ring by ring from the rim and breadth-first in each ring. It works on what
-// is lent to it.
+// The search for a way out: breadth-first from one spot along moves, never entering a marked spot. It works on what is lent to it.
 ghost use Prim.Native.Nat.{_+_, _*_, _≤_, _<_};
 ghost use lib.Dec.{T};
 ghost use lib.ListN.{length};
@@ -8,11 +7,7 @@ ghost use Rattle.channel.specs.Map.{spots, moves};
 ghost use Rattle.slots.specs.Ahead.{Bits};
 ghost use Rattle.augment.specs.Slots.{goesOn};
 ghost use Rattle.augment.specs.Spread.{Room};
-ghost use Rattle.augment.specs.Rings.{Unused, Led};
 ghost use Rattle.augment.specs.Steps.{Whole, Ready, Tried, Expanded, Searched, Fresh};
-use crate::rings::EXPANDED;
-use crate::rings::admit;
-use crate::rings::take;
 use channel::head_of;
 use channel::is_outside;
 use channel::lowest;
@@ -108,55 +103,7 @@ fn expand(
     Step::More(m)
 }
 
-// From start to the outside, the outermost ring first, or until no row has a spot that waits. Each turn takes a spot or goes on to the next ring, and 65,536
-// turns are more than there can be; what would wait after them is expanded by `reach`.
-fn lead(
-    job: &[u8],
-    loads: &[u8],
-    start: usize,
-    marks: &mut [u8],
-    queue: &mut [u16],
-    parent: &mut [u16],
-    slot: &mut [u8],
-    link: &mut [u16],
-) -> Way
-    requires { ⌜ Whole (now job) (now loads) × Room (now marks) (now queue) (now parent) (now slot) × Fresh (jobOf (now job)) (now marks) start × Unused (now link) ⌝ }
-    ensures { λ y. ⌜ Led (jobOf (now (job .entry))) (now (loads .entry)) start
-        (now (marks .entry)) (now (marks .exit)) (now (queue .exit)) (now (parent .exit)) (now (slot .exit)) (now (link .exit)) y ⌝ }
-{
-    marks[start] = 1;
-    queue[0] = start as u16;
-    let mut first = [0u16; 41];
-    let mut last = [0u16; 41];
-    let mut n = 1;
-    let mut z = admit(job, queue, link, &mut first, &mut last, 0, n, 40);
-    let mut left: usize = 65536;
-    while 0 < left {
-        left -= 1;
-        let h = take(link, &mut first, z, n);
-        if n <= h {
-            if z == 40 {
-                return Way::Closed(n);
-            }
-            z += 1;
-            continue;
-        }
-        let u = queue[h] as usize;
-        match expand(job, loads, u, h, marks, queue, parent, slot, n) {
-            Step::Exit(k, a) => {
-                return Way::Out(h, k, a);
-            }
-            Step::More(a) => {
-                link[h] = EXPANDED;
-                z = admit(job, queue, link, &mut first, &mut last, n, a, z);
-                n = a;
-            }
-        }
-    }
-    Way::Closed(n)
-}
-
-// From start to the outside, or to all that moves reach. What still waits in the end is expanded in the order in which it was found.
+// From start to the outside, or to all that moves reach.
 pub fn reach(
     job: &[u8],
     loads: &[u8],
@@ -170,22 +117,11 @@ pub fn reach(
     ensures { λ y. ⌜ Searched (jobOf (now (job .entry))) (now (loads .entry)) start
         (now (marks .entry)) (now (marks .exit)) (now (queue .exit)) (now (parent .exit)) (now (slot .exit)) y ⌝ }
 {
-    let mut link = [0u16; 13128];
-    let mut n = 0;
-    match lead(job, loads, start, marks, queue, parent, slot, &mut link) {
-        Way::Out(j, k, a) => {
-            return Way::Out(j, k, a);
-        }
-        Way::Closed(a) => {
-            n = a;
-        }
-    }
+    marks[start] = 1;
+    queue[0] = start as u16;
+    let mut n = 1;
     let mut h = 0;
     while h < n {
-        if link[h] == EXPANDED {
-            h += 1;
-            continue;
-        }
         let u = queue[h] as usize;
         match expand(job, loads, u, h, marks, queue, parent, slot, n) {
             Step::Exit(k, a) => {

@@ -19,7 +19,6 @@ pub mod SpotLoads
 pub mod Carry
 pub mod Stores
 pub mod Places
-pub mod Rings
 pub mod Starts
 pub mod Bools
 pub mod Bounds

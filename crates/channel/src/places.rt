@@ -6,11 +6,8 @@ ghost use lib.ListN.{length};
 ghost use Rattle.sums.specs.Counting.{when};
 ghost use Rattle.model.specs.Links.{pin, at, turn};
 ghost use Rattle.model.specs.Near.{exit};
-ghost use Rattle.model.specs.Record.{load, jobOf};
+ghost use Rattle.model.specs.Record.{load};
 ghost use Rattle.channel.specs.Map.{rowOf, columnOf, stepOf, isLinkDart, dartOf};
-ghost use Rattle.channel.specs.Map.Rings.{lesser, fromEnds, ringOf};
-use crate::header::columns;
-use crate::header::rows;
 use crate::loads::carries_load;
 use crate::loads::load_against;
 use crate::loads::load_along;
@@ -39,39 +36,6 @@ pub fn column_of(x: usize) -> usize
     ensures { λ r. ⌜ r ≡ columnOf x ⌝ }
 {
     (x - 41) % 40
-}
-
-// The smaller of two.
-fn smaller(a: usize, b: usize) -> usize
-    ensures { λ r. ⌜ (r ≡ lesser a b) × (r ≤ a) ⌝ }
-{
-    if a < b { a } else { b }
-}
-
-// How many tiles lie between the x-th and the nearer end of a line of n pins.
-fn from_ends(x: usize, n: usize) -> usize
-    requires { ⌜ x < 256 ⌝ }
-    ensures { λ r. ⌜ (r ≡ fromEnds x n) × (r ≤ x) ⌝ }
-{
-    if n < x + 2 {
-        return 0;
-    }
-    smaller(x, n - (x + 2))
-}
-
-// The ring of a spot's cell: how many tiles lie between it and the nearest rim.
-pub fn ring(job: &[u8], u: usize) -> usize
-    requires { ⌜ (32768 ≤ length (now job)) × (u < 13128) ⌝ }
-    ensures { λ r. ⌜ (r ≡ ringOf (jobOf (now (job .entry))) (u / 8)) × (r ≤ 40) ⌝ }
-{
-    let x = u / 8;
-    if x < 41 {
-        return 0;
-    }
-    smaller(
-        from_ends(row_of(x), rows(job)),
-        from_ends(column_of(x), columns(job)),
-    )
 }
 
 // The dart that takes the step of d back: by it a place is left along the link by which d comes to it.

@@ -4,11 +4,11 @@ use mathlib.Core.Path.{_≡_, refl, sym, ap, subst, _∙_}
 use mathlib.Core.Logic.{_≢_}
 use mathlib.Core.Bool.{Bool, true, false, not, _&&_}
 use mathlib.Core.List.{List}
-use Prim.Native.Nat.{ℕ, _+_, _*_, _/_, _<_}
+use Prim.Native.Nat.{ℕ, zero, suc, _+_, _*_, _/_, _<_}
 use native.Mathlib.Omega.{arith}
 use borrow.Author.Tests.{eq-eqb}
 use lib.Dec.{T, eqb, ltb}
-use lib.ListN.{replicate}
+use lib.ListN.{getD, replicate}
 use Rattle.sums.specs.Tests.{and-both, so}
 use Rattle.model.specs.Job.{Job, isChosen}
 use Rattle.model.specs.Links.{pin, at, Step}
@@ -22,7 +22,6 @@ use Rattle.model.specs.Calls.{wiredIn, wiresIn}
 use Rattle.wire.specs.Held.{sound-holds}
 use Rattle.channel.specs.Map.{spots}
 use Rattle.channel.specs.Map.Starts.{wanted-pin}
-use Rattle.augment.specs.Marks.{zeros-at}
 use Rattle.augment.specs.OneMore.{OneMore, wires-more, pin-gains, pin-keeps}
 use Rattle.augment.specs.Pins.{Held, Unwired, AnySpot, Answered, laid, nothing}
 use Rattle.augment.specs.Passing.{array-size, chosen-within}
@@ -32,6 +31,11 @@ use Rattle.search.specs.Filling.{cleared-none, saturated-greatest}
 use Rattle.search.specs.Copies.{front, front-load, front-held, new-length, put-job, put-wired, put-wires, put-legal}
 use Rattle.search.specs.Outcome.{Extended, one, none}
 use Rattle.augment.specs.declared.next.Next.{Next}
+
+zeros-at : (n u : ℕ) → _≡_ {A = ℕ} (getD (replicate n 0) u 0) 0
+zeros-at zero u = refl
+zeros-at (suc n) zero = refl
+zeros-at (suc n) (suc u) = zeros-at n u
 
 -- marks that begin at 0 are cleared
 pub zeros-cleared : (n : ℕ) → Cleared (replicate n 0)
