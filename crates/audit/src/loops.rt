@@ -1,6 +1,6 @@
 // Closed chains of loaded links. A depth-first search with its own stack, from the spots that the wires of fresh links leave, says that there is none behind
 // them, with an order along which loaded darts fall, or gives one. A link is fresh that has the first wire of a direction, beside old loads. The search works
-// on what is lent to it. The old loads are lent as work: the bytes of links that are followed become those of the record there, so that they are fresh no more.
+// on what is lent to it.
 ghost use Prim.Native.Nat.{_+_, _*_, _≤_, _<_};
 ghost use lib.ListN.{length, set};
 ghost use Rattle.channel.specs.Map.{spots};
@@ -112,25 +112,14 @@ fn resume(rec: &[u8], fin: &mut [u16], st: &mut [u16], sl: &mut [u8], n0: usize,
     Way::Up(m)
 }
 
-// Puts the spot v on the stack as the n-th, and strikes its loaded links.
-fn enter(
-    rec: &[u8],
-    work: &mut [u8],
-    fin: &mut [u16],
-    st: &mut [u16],
-    sl: &mut [u8],
-    n: usize,
-    v: usize,
-)
-    requires { ⌜ Room (now rec) (now fin) (now st) (now sl) × (32768 ≤ length (now work)) × (n < spots) × (v < spots) ⌝ }
-    ensures { λ _. ⌜ Entered (now (rec .entry)) (now (work .entry)) (now (fin .entry)) (now (st .entry)) (now (sl .entry)) n v
-        (now (work .exit)) (now (fin .exit)) (now (st .exit)) (now (sl .exit)) ⌝ }
+// Puts the spot v on the stack as the n-th.
+fn enter(rec: &[u8], fin: &mut [u16], st: &mut [u16], sl: &mut [u8], n: usize, v: usize)
+    requires { ⌜ Room (now rec) (now fin) (now st) (now sl) × (n < spots) × (v < spots) ⌝ }
+    ensures { λ _. ⌜ Entered (now (rec .entry)) (now (fin .entry)) (now (st .entry)) (now (sl .entry)) n v (now (fin .exit)) (now (st .exit)) (now (sl .exit)) ⌝ }
 {
-    let w = channel::loaded_slots(rec, v);
     fin[v] = 1;
     st[n] = v as u16;
-    sl[n] = (8 * w) as u8;
-    channel::strike(work, rec, v, w);
+    sl[n] = (8 * channel::loaded_slots(rec, v)) as u8;
 }
 
 // Where v stands among the first n of st; n if it does not.
@@ -161,21 +150,20 @@ fn bare(sl: &mut [u8], n: usize)
 // All that r leads to, which is not seen, with m0 done.
 fn descend(
     rec: &[u8],
-    work: &mut [u8],
     fin: &mut [u16],
     st: &mut [u16],
     sl: &mut [u8],
     r: usize,
     m0: usize,
 ) -> Search
-    requires { ⌜ Aimed (now rec) (now fin) (now st) (now sl) 0 m0 r × (32768 ≤ length (now work)) ⌝ }
-    ensures { λ s. ⌜ Searched (now (rec .entry)) (now (work .entry)) (set (now (fin .entry)) r 1) (now (work .exit)) (now (fin .exit)) (now (st .exit)) (now (sl .exit)) s ⌝ }
+    requires { ⌜ Aimed (now rec) (now fin) (now st) (now sl) 0 m0 r ⌝ }
+    ensures { λ s. ⌜ Searched (now (rec .entry)) (set (now (fin .entry)) r 1) (now (fin .exit)) (now (st .exit)) (now (sl .exit)) s ⌝ }
 {
     let mut n = 0;
     let mut m = m0;
     let mut v = r;
     loop {
-        enter(rec, work, fin, st, sl, n, v);
+        enter(rec, fin, st, sl, n, v);
         match resume(rec, fin, st, sl, n + 1, m) {
             Way::Down(a, b, w) => {
                 n = a;
@@ -194,82 +182,66 @@ fn descend(
 }
 
 // All that r leads to, with m done.
-fn explore(
-    rec: &[u8],
-    work: &mut [u8],
-    fin: &mut [u16],
-    st: &mut [u16],
-    sl: &mut [u8],
-    r: usize,
-    m: usize,
-) -> Search
-    requires { ⌜ Dfs (now rec) (now fin) (now st) (now sl) 0 m × (r < spots) × (32768 ≤ length (now work)) ⌝ }
-    ensures { λ s. ⌜ Searched (now (rec .entry)) (now (work .entry)) (set (now (fin .entry)) r 1) (now (work .exit)) (now (fin .exit)) (now (st .exit)) (now (sl .exit)) s ⌝ }
+fn explore(rec: &[u8], fin: &mut [u16], st: &mut [u16], sl: &mut [u8], r: usize, m: usize) -> Search
+    requires { ⌜ Dfs (now rec) (now fin) (now st) (now sl) 0 m × (r < spots) ⌝ }
+    ensures { λ s. ⌜ Searched (now (rec .entry)) (set (now (fin .entry)) r 1) (now (fin .exit)) (now (st .exit)) (now (sl .exit)) s ⌝ }
 {
     if fin[r] != 0 {
         return Search::Over(m);
     }
-    descend(rec, work, fin, st, sl, r, m)
+    descend(rec, fin, st, sl, r, m)
 }
 
 // All that the wires of the i-th load byte lead to, with m done.
-fn trace(
-    rec: &[u8],
-    work: &mut [u8],
-    fin: &mut [u16],
-    st: &mut [u16],
-    sl: &mut [u8],
-    i: usize,
-    m: usize,
-) -> Search
-    requires { ⌜ Dfs (now rec) (now fin) (now st) (now sl) 0 m × (32768 ≤ length (now work)) × (i < 22400) ⌝ }
-    ensures { λ s. ⌜ Traced (now (rec .entry)) (now (work .entry)) i (now (fin .entry)) (now (work .exit)) (now (fin .exit)) (now (st .exit)) (now (sl .exit)) s ⌝ }
+fn trace(rec: &[u8], fin: &mut [u16], st: &mut [u16], sl: &mut [u8], i: usize, m: usize) -> Search
+    requires { ⌜ Dfs (now rec) (now fin) (now st) (now sl) 0 m × (i < 22400) ⌝ }
+    ensures { λ s. ⌜ Traced (now (rec .entry)) i (now (fin .entry)) (now (fin .exit)) (now (st .exit)) (now (sl .exit)) s ⌝ }
 {
     let r = channel::origin(rec, i);
     if r >= 13128 {
         return Search::Over(m);
     }
-    explore(rec, work, fin, st, sl, r, m)
+    explore(rec, fin, st, sl, r, m)
 }
 
 // All that the wires of the i-th load byte lead to if its link is fresh, with m done.
 fn trace_fresh(
     rec: &[u8],
-    work: &mut [u8],
+    old: &[u8],
     fin: &mut [u16],
     st: &mut [u16],
     sl: &mut [u8],
     i: usize,
     m: usize,
 ) -> Search
-    requires { ⌜ Dfs (now rec) (now fin) (now st) (now sl) 0 m × (32768 ≤ length (now work)) × (i < 22400) ⌝ }
-    ensures { λ s. ⌜ FreshTraced (now (rec .entry)) (now (work .entry)) i (i + 1) (now (fin .entry)) (now (work .exit)) (now (fin .exit)) (now (st .exit)) (now (sl .exit)) s ⌝ }
+    requires { ⌜ Dfs (now rec) (now fin) (now st) (now sl) 0 m × (32768 ≤ length (now old)) × (i < 22400) ⌝ }
+    ensures { λ s. ⌜ FreshTraced (now (old .entry)) (now (rec .entry)) i (i + 1) (now (fin .entry)) (now (fin .exit)) (now (st .exit)) (now (sl .exit)) s ⌝ }
 {
-    if !channel::is_fresh(work, rec, i) {
+    if !channel::is_fresh(old, rec, i) {
         return Search::Over(m);
     }
-    trace(rec, work, fin, st, sl, i, m)
+    trace(rec, fin, st, sl, i, m)
 }
 
 // All that the wires of the k-th 16 load bytes lead to on fresh links, with m0 done.
 fn trace_run(
     rec: &[u8],
-    work: &mut [u8],
+    old: &[u8],
     fin: &mut [u16],
     st: &mut [u16],
     sl: &mut [u8],
     k: usize,
     m0: usize,
 ) -> Search
-    requires { ⌜ Dfs (now rec) (now fin) (now st) (now sl) 0 m0 × (32768 ≤ length (now work)) × (k < 1400) ⌝ }
-    ensures { λ s. ⌜ FreshTraced (now (rec .entry)) (now (work .entry)) (16 * k) (16 * k + 16) (now (fin .entry)) (now (work .exit)) (now (fin .exit)) (now (st .exit)) (now (sl .exit)) s ⌝ }
+    requires { ⌜ Dfs (now rec) (now fin) (now st) (now sl) 0 m0 × (32768 ≤ length (now old)) × (k < 1400) ⌝ }
+    ensures { λ s. ⌜ FreshTraced (now (old .entry)) (now (rec .entry)) (16 * k) (16 * k + 16) (now (fin .entry)) (now (fin .exit)) (now (st .exit)) (now (sl .exit)) s ⌝ }
 {
-    if channel::same_run(work, rec, k) {
+    if channel::stale_run(old, rec, k) {
         return Search::Over(m0);
     }
     let mut m = m0;
     for i in 16 * k..16 * k + 16 {
-        match trace_fresh(rec, work, fin, st, sl, i, m) {
+        match trace_fresh(rec, old, fin, st, sl, i, m) {
             Search::Over(a) => {
                 m = a;
             }
@@ -282,15 +254,15 @@ fn trace_run(
 }
 
 // Says that no chain of loaded darts behind the fresh links is closed, with fin as the order along which they fall; or gives one. With no closed chain in
-// the old loads, which are lent as work, there is then none at all. The last bytes come first: they are those of the legs, so that whole wires are followed.
-pub fn find(rec: &[u8], work: &mut [u8], fin: &mut [u16], st: &mut [u16], sl: &mut [u8]) -> Found
-    requires { ⌜ Room (now rec) (now fin) (now st) (now sl) × (32768 ≤ length (now work)) ⌝ }
-    ensures { λ f. ⌜ Answer (now (work .entry)) (now (rec .entry)) (now (fin .exit)) (now (st .exit)) (now (sl .exit)) f ⌝ }
+// the old loads there is then none at all. The last bytes come first: they are those of the legs, so that whole wires are followed.
+pub fn find(rec: &[u8], old: &[u8], fin: &mut [u16], st: &mut [u16], sl: &mut [u8]) -> Found
+    requires { ⌜ Room (now rec) (now fin) (now st) (now sl) × (32768 ≤ length (now old)) ⌝ }
+    ensures { λ f. ⌜ Answer (now (old .entry)) (now (rec .entry)) (now (fin .exit)) (now (st .exit)) (now (sl .exit)) f ⌝ }
 {
     clear(fin);
     let mut m = 0;
     for k in 0..1400 {
-        match trace_run(rec, work, fin, st, sl, 1399 - k, m) {
+        match trace_run(rec, old, fin, st, sl, 1399 - k, m) {
             Search::Over(a) => {
                 m = a;
             }
@@ -307,11 +279,11 @@ pub fn stands(rec: &[u8]) -> bool
     requires { ⌜ 32768 ≤ length (now rec) ⌝ }
     ensures { λ b. ⌜ LoopStands (now (rec .entry)) b ⌝ }
 {
-    let mut work = [0u8; 32768];
+    let old = [0u8; 32768];
     let mut fin = [0u16; 13128];
     let mut st = [0u16; 13128];
     let mut sl = [0u8; 13128];
-    match find(rec, &mut work, &mut fin, &mut st, &mut sl) {
+    match find(rec, &old, &mut fin, &mut st, &mut sl) {
         Found::Free => false,
         Found::Ring(_, _) => true,
     }

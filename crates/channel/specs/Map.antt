@@ -38,7 +38,6 @@ pub mod Origins
 pub mod Fresh
 pub mod Laden
 pub mod LoadedSlots
-pub mod Struck
 pub mod Heads
 pub mod Kinds
 use mathlib.Core.Path.{_≡_}

@@ -8,20 +8,17 @@ ghost use Rattle.sums.specs.Counting.{when};
 ghost use Rattle.model.specs.Links.{pin, missing, centre, at};
 ghost use Rattle.model.specs.Loads.{arrivals, departures};
 ghost use Rattle.model.specs.Record.{forthPart, backPart, load};
-ghost use Rattle.channel.specs.Map.Fresh.{isFresh, SameRun};
+ghost use Rattle.channel.specs.Map.Fresh.{gains, isFresh, StaleRun};
 ghost use Rattle.channel.specs.Map.LoadedSlots.{loadedFrom};
 ghost use Rattle.channel.specs.Map.Origins.{originOf};
 ghost use Rattle.channel.specs.Map.Packed.{SlotWords};
-ghost use Rattle.channel.specs.Map.Struck.{Struck};
 ghost use Rattle.channel.specs.Map.{inGrid, rowOf, columnOf, ownerCell, stepOf, carries, isPassDart, passedOf, wayPart, view, opposed, address, placeOf};
-use crate::bits::lowest;
 use crate::header::in_grid;
 use crate::header::wide;
 use crate::table::PLACES;
 use crate::table::code_of;
 use crate::table::kind_of;
 use crate::table::owner_of;
-use crate::table::place_of;
 use crate::table::seat_of;
 use crate::table::sign_of;
 
@@ -268,49 +265,31 @@ pub fn origin(rec: &[u8], i: usize) -> usize
     8 * (41 + i % 1600 - owner_of(j)) + j / 8
 }
 
+// Whether wires go along the link of the byte b in a direction in which none go by a. It compares bytes and nothing branches, so that a loop of such tests
+// can be made one of vectors.
+fn gains(a: u8, b: u8) -> bool
+    ensures { λ r. ⌜ r ≡ gains a b ⌝ }
+{
+    ((0 < b) & (b < 32) & ((a == 0) | (32 <= a))) | ((32 < b) & (a <= 32))
+}
+
 // Whether wires go along the i-th link in a direction in which none went by the old loads.
 pub fn is_fresh(old: &[u8], rec: &[u8], i: usize) -> bool
     requires { ⌜ (32768 ≤ length (now old)) × (32768 ≤ length (now rec)) × (i < 22400) ⌝ }
     ensures { λ b. ⌜ b ≡ isFresh (now (old .entry)) (now (rec .entry)) i ⌝ }
 {
-    let a = wide(old[3968 + i]);
-    let b = wide(rec[3968 + i]);
-    if a == b {
-        return false;
-    }
-    ((0 < forth(b)) & (forth(a) == 0)) | ((0 < back(b)) & (back(a) == 0))
+    gains(old[3968 + i], rec[3968 + i])
 }
 
-// Whether the k-th 16 load bytes are the same in both. The loop has no way out, so that it can be made one of vectors.
-pub fn same_run(old: &[u8], rec: &[u8], k: usize) -> bool
+// Whether no link of the k-th 16 load bytes is fresh. The loop has no way out, so that it can be made one of vectors.
+pub fn stale_run(old: &[u8], rec: &[u8], k: usize) -> bool
     requires { ⌜ (32768 ≤ length (now old)) × (32768 ≤ length (now rec)) × (k < 1400) ⌝ }
-    ensures { λ b. ⌜ SameRun (now (old .entry)) (now (rec .entry)) k b ⌝ }
+    ensures { λ b. ⌜ StaleRun (now (old .entry)) (now (rec .entry)) k b ⌝ }
 {
     let at = 3968 + 16 * k;
-    let mut same = true;
+    let mut stale = true;
     for j in 0..16 {
-        same = same & (old[at + j] == rec[at + j]);
+        stale = stale & !gains(old[at + j], rec[at + j]);
     }
-    same
-}
-
-// The bytes of the loaded links that leave u, its loaded slots being the bits of w, become those of the record, and no other byte changes. An entry's one loaded
-// slot is no link's.
-pub fn strike(work: &mut [u8], rec: &[u8], u: usize, w: usize)
-    requires { ⌜ (32768 ≤ length (now work)) × (32768 ≤ length (now rec)) × (u < 13128) × (w ≡ loadedFrom (now rec) u 0) ⌝ }
-    ensures { λ _. ⌜ Struck (now (work .entry)) (now (rec .entry)) u (now (work .exit)) ⌝ }
-{
-    if u % 8 % 6 == 0 {
-        return;
-    }
-    let mut left = w;
-    let mut k = 0;
-    while left != 0 {
-        let skip = lowest(left);
-        k += skip;
-        let a = place_of((8 * u + k) % 64) / 2 + u / 8;
-        work[a] = rec[a];
-        left = left >> (skip + 1);
-        k += 1;
-    }
+    stale
 }

@@ -3,7 +3,7 @@
 ghost use mathlib.Core.Path.{_≡_};
 ghost use Prim.Native.Nat.{ℕ, _+_, _*_, _/_, _%_, _^_, _<_};
 ghost use lib.Dec.{ltb};
-ghost use Rattle.channel.specs.Map.{rev, turnOf, kindOf, ownerOf, signOf, codeOf, seatOf, placeOf};
+ghost use Rattle.channel.specs.Map.{rev, turnOf, kindOf, ownerOf, signOf, codeOf, seatOf};
 
 // The neighbours of a spot by its kind, in document 01's clockwise order, a byte for each slot: what the dart is, and 16 times the kind of its link.
 const NEIGHBOURS: [usize; 8] = [
@@ -106,39 +106,6 @@ fn turn_word(k: usize) -> usize
         14 => TURNS[14],
         _ => TURNS[15],
     }
-}
-
-// Where the bytes of the rows 4 k to 4 k + 3 stand.
-fn place_word(k: usize) -> usize
-    requires { ⌜ k < 16 ⌝ }
-    ensures { λ r. ⌜ ((j : ℕ) → j < 4 → r / 2 ^ (j * 16) % 65536 ≡ placeOf (4 * k + j)) ⌝ }
-{
-    match k {
-        0 => PLACES[0],
-        1 => PLACES[1],
-        2 => PLACES[2],
-        3 => PLACES[3],
-        4 => PLACES[4],
-        5 => PLACES[5],
-        6 => PLACES[6],
-        7 => PLACES[7],
-        8 => PLACES[8],
-        9 => PLACES[9],
-        10 => PLACES[10],
-        11 => PLACES[11],
-        12 => PLACES[12],
-        13 => PLACES[13],
-        14 => PLACES[14],
-        _ => PLACES[15],
-    }
-}
-
-// Where the byte of a dart's link stands, and the dart's way.
-pub fn place_of(i: usize) -> usize
-    requires { ⌜ i < 64 ⌝ }
-    ensures { λ r. ⌜ r ≡ placeOf i ⌝ }
-{
-    (place_word(i / 4) >> (i % 4 * 16)) % 65536
 }
 
 // The rows of eight kinds of links one way.

@@ -1,7 +1,7 @@
 -- The state of the loop finder. fin has 0 for a spot that is not seen, 1 for one on the stack, and 2 more than the number of those done before it for one
 -- that is done; st has the spots on the stack, and sl the slots at which they stand, each with 8 times the loaded slots from it on, as bits. Assumes nothing.
 use mathlib.Core.Path.{_≡_}
-use mathlib.Core.Logic.{_≢_, _⊎_}
+use mathlib.Core.Logic.{_≢_}
 use mathlib.Core.List.{List}
 use Prim.Native.Nat.{ℕ, _+_, _-_, _*_, _/_, _%_, _≤_, _<_}
 use lib.Dec.{T, eqb}
@@ -11,7 +11,6 @@ use Rattle.channel.specs.Map.{spots, rev, view}
 use Rattle.channel.specs.Map.Fresh.{isFresh}
 use Rattle.channel.specs.Map.LoadedSlots.{loadedFrom}
 use Rattle.channel.specs.Map.Origins.{originOf}
-use Rattle.channel.specs.Map.Struck.{Struck}
 use Rattle.audit.specs.Loops.{Room, Closed}
 use Rattle.audit.specs.declared.loops.Turn.{Turn}
 use Rattle.audit.specs.declared.loops.Turn.the-variants.{New, More, Hit}
@@ -90,9 +89,8 @@ pub record Aimed (rec fin st sl : List ℕ) (n m v : ℕ) : Type 0 where
   pub blank : getD fin v 0 ≡ 0
   pub edge : (i : ℕ) → n ≡ i + 1 → Edge rec (getD st i 0) (getD sl i 0 % 8) v
 
--- v is the n-th on the stack, at its first slot, and its loaded links are struck
-pub record Entered (rec work fin st sl : List ℕ) (n v : ℕ) (work' fin' st' sl' : List ℕ) : Type 0 where
-  pub struck : Struck work rec v work'
+-- v is the n-th on the stack, at its first slot
+pub record Entered (rec fin st sl : List ℕ) (n v : ℕ) (fin' st' sl' : List ℕ) : Type 0 where
   pub marks : fin' ≡ set fin v 1
   pub stack : st' ≡ set st n v
   pub slots : sl' ≡ set sl n (8 * loadedFrom rec v 0)
@@ -111,19 +109,14 @@ pub data Resumed (rec fin fin' st' sl' : List ℕ) : Way → Type 0 where
   back : {n' m' v : ℕ} → Dfs rec fin' st' sl' n' m' → Edge rec (getD st' (n' - 1) 0) (getD sl' (n' - 1) 0 % 8) v → getD fin' v 0 ≡ 1
       → Resumed rec fin fin' st' sl' (Back n' v)
 
--- each load byte of work' is that of work, or that of rec, whose wires leave a spot that is seen
-pub record Followed (work rec fin work' : List ℕ) : Type 0 where
-  pub each : (i : ℕ) → i < 22400
-      → (getD work' (3968 + i) 0 ≡ getD work (3968 + i) 0) ⊎ ((getD work' (3968 + i) 0 ≡ getD rec (3968 + i) 0) × (getD fin (originOf rec i) 0 ≢ 0))
-
 -- the search from one spot: all that was seen is done; or a ring stands
-pub data Searched (rec work fin work' fin' st' sl' : List ℕ) : Search → Type 0 where
-  over : {m' : ℕ} → Dfs rec fin' st' sl' 0 m' → Kept fin fin' → Followed work rec fin' work' → Searched rec work fin work' fin' st' sl' (Over m')
-  ring : {j n : ℕ} → Closed rec st' sl' j n → Searched rec work fin work' fin' st' sl' (Ring j n)
+pub data Searched (rec fin fin' st' sl' : List ℕ) : Search → Type 0 where
+  over : {m' : ℕ} → Dfs rec fin' st' sl' 0 m' → Kept fin fin' → Searched rec fin fin' st' sl' (Over m')
+  ring : {j n : ℕ} → Closed rec st' sl' j n → Searched rec fin fin' st' sl' (Ring j n)
 
 -- the search from the spot of the i-th load byte: where there is one, it is seen
-pub record Traced (rec work : List ℕ) (i : ℕ) (fin work' fin' st' sl' : List ℕ) (s : Search) : Type 0 where
-  pub search : Searched rec work fin work' fin' st' sl' s
+pub record Traced (rec : List ℕ) (i : ℕ) (fin fin' st' sl' : List ℕ) (s : Search) : Type 0 where
+  pub search : Searched rec fin fin' st' sl' s
   pub seen : {m' : ℕ} → s ≡ Over m' → originOf rec i < spots → getD fin' (originOf rec i) 0 ≢ 0
 
 -- the spot of the i-th load byte is seen, if its link is fresh
@@ -131,6 +124,6 @@ abbrev pub Begun : List ℕ → List ℕ → List ℕ → ℕ → Type 0
 Begun old rec fin i = T (isFresh old rec i) → originOf rec i < spots → getD fin (originOf rec i) 0 ≢ 0
 
 -- the search from the spots of the fresh links from the a-th to before the b-th: they are seen
-pub record FreshTraced (rec work : List ℕ) (a b : ℕ) (fin work' fin' st' sl' : List ℕ) (s : Search) : Type 0 where
-  pub search : Searched rec work fin work' fin' st' sl' s
-  pub seen : {m' : ℕ} → s ≡ Over m' → (i : ℕ) → a ≤ i → i < b → Begun work rec fin' i
+pub record FreshTraced (old rec : List ℕ) (a b : ℕ) (fin fin' st' sl' : List ℕ) (s : Search) : Type 0 where
+  pub search : Searched rec fin fin' st' sl' s
+  pub seen : {m' : ℕ} → s ≡ Over m' → (i : ℕ) → a ≤ i → i < b → Begun old rec fin' i

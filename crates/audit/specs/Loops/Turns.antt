@@ -1,6 +1,6 @@
 -- What one turn of the loop finder does, and what a caller reads off its answers. Assumes nothing.
 use mathlib.Core.Path.{_≡_, refl, sym, ap, subst, _∙_}
-use mathlib.Core.Logic.{_≢_, _⊎_, inl, inr, ⊎-elim}
+use mathlib.Core.Logic.{_≢_, ⊎-elim}
 use mathlib.Core.List.{List}
 use Prim.Native.Nat.{ℕ, suc, _+_, _-_, _*_, _/_, _%_, _≤_, _<_}
 use native.Mathlib.Numerals.{add-two}
@@ -11,9 +11,8 @@ use lib.Seq.{getD-set-same}
 use Rattle.channel.specs.Map.{spots, rev}
 use Rattle.channel.specs.Map.LoadedSlots.{loadedFrom, from-half}
 use Rattle.channel.specs.Map.Origins.{originOf}
-use Rattle.channel.specs.Map.Struck.{struck-or}
 use Rattle.audit.specs.Loops.{Closed}
-use Rattle.audit.specs.Loops.Dfs.{Edge, Rest, Picked, unseen, Dfs, Kept, Still, Aimed, Entered, Turned, new, more, hit, Resumed, down, up, back, Followed, Searched, over, ring, Traced}
+use Rattle.audit.specs.Loops.Dfs.{Edge, Rest, Picked, unseen, Dfs, Kept, Still, Aimed, Entered, Turned, new, more, hit, Resumed, down, up, back, Searched, over, ring, Traced}
 use Rattle.sums.specs.Tests.{below-or}
 use Rattle.audit.specs.Loops.Marks.{after, unseen-less, unseen-same, kept-set}
 use Rattle.audit.specs.Loops.Stack.{edge-node, Below, dfs-slot, dfs-push, dfs-pop}
@@ -36,24 +35,6 @@ still-refl fin = record { kept = λ u h. h; count = refl }
 pub still-then : {a b c : List ℕ} → Still a b → Still b c → Still a c
 still-then p q = record { kept = λ u h. q .kept u (p .kept u h); count = q .count ∙ p .count }
 
--- ---- what is followed
-
-pub followed-none : (work rec fin : List ℕ) → Followed work rec fin work
-followed-none work rec fin = record { each = λ i l. inl refl }
-
--- more spots are seen
-pub followed-kept : {work rec fin fin' work' : List ℕ} → Followed work rec fin work' → Kept fin fin' → Followed work rec fin' work'
-followed-kept f k = record { each = λ i l. ⊎-elim (λ p. inl p) (λ p. inr (p .0, k _ (p .1))) (f .each i l) }
-
-pub followed-then : {a rec fin b c : List ℕ} → Followed a rec fin b → Followed b rec fin c → Followed a rec fin c
-followed-then {a} {rec} {fin} {b} {c} f g = record { each = λ i l. ⊎-elim (λ p. by i p (f .each i l)) (λ p. inr p) (g .each i l) }
-  where
-    by : (i : ℕ) → getD c (3968 + i) 0 ≡ getD b (3968 + i) 0
-        → (getD b (3968 + i) 0 ≡ getD a (3968 + i) 0) ⊎ ((getD b (3968 + i) 0 ≡ getD rec (3968 + i) 0) × (getD fin (originOf rec i) 0 ≢ 0))
-        → (getD c (3968 + i) 0 ≡ getD a (3968 + i) 0) ⊎ ((getD c (3968 + i) 0 ≡ getD rec (3968 + i) 0) × (getD fin (originOf rec i) 0 ≢ 0))
-    by i p (inl q) = inl (p ∙ q)
-    by i p (inr q) = inr (p ∙ q .0, q .1)
-
 -- ---- a spot goes on the stack
 
 module _ {rec fin st sl : List ℕ} {n m v : ℕ} (a : Aimed rec fin st sl n m v) where
@@ -70,7 +51,7 @@ module _ {rec fin st sl : List ℕ} {n m v : ℕ} (a : Aimed rec fin st sl n m v
   pub aimed-kept : Kept fin (set fin v 1)
   aimed-kept = kept-set fin v 0 marked
 
-  module _ {work work' fin' st' sl' : List ℕ} (e : Entered rec work fin st sl n v work' fin' st' sl') where
+  module _ {fin' st' sl' : List ℕ} (e : Entered rec fin st sl n v fin' st' sl') where
     pub entered-dfs : Dfs rec fin' st' sl' (n + 1) m
     entered-dfs =
         rw (e .marks, e .stack, e .slots)
@@ -81,19 +62,6 @@ module _ {rec fin st sl : List ℕ} {n m v : ℕ} (a : Aimed rec fin st sl n m v
 
     pub entered-kept : Kept (set fin v 1) fin'
     entered-kept = subst (Kept (set fin v 1)) (sym (e .marks)) (λ u h. h)
-
-    -- its links are followed besides
-    pub entered-followed : {old : List ℕ} → Followed old rec fin work → Followed old rec fin' work'
-    entered-followed {old} f = record { each = λ i l. ⊎-elim (λ p. before i p (f .each i l)) (λ p. inr (p .0, here i (p .1))) (struck-or (e .struck) i l) }
-      where
-        here : (i : ℕ) → originOf rec i ≡ v → getD fin' (originOf rec i) 0 ≢ 0
-        here i o z = omega (arith, ap (λ (x : List ℕ). getD x v 0) (e .marks), ap (λ (x : ℕ). getD fin' x 0) o, getD-set-same fin v 1 0 marked)
-
-        before : (i : ℕ) → getD work' (3968 + i) 0 ≡ getD work (3968 + i) 0
-            → (getD work (3968 + i) 0 ≡ getD old (3968 + i) 0) ⊎ ((getD work (3968 + i) 0 ≡ getD rec (3968 + i) 0) × (getD fin (originOf rec i) 0 ≢ 0))
-            → (getD work' (3968 + i) 0 ≡ getD old (3968 + i) 0) ⊎ ((getD work' (3968 + i) 0 ≡ getD rec (3968 + i) 0) × (getD fin' (originOf rec i) 0 ≢ 0))
-        before i p (inl q) = inl (p ∙ q)
-        before i p (inr q) = inr (p ∙ q .0, entered-kept (originOf rec i) (aimed-kept (originOf rec i) (q .1)))
 
 -- ---- a turn, after the slots of the top were scanned
 
@@ -208,39 +176,39 @@ module _ {rec fin fin' st' sl' : List ℕ} {y : Way} (d : Resumed rec fin fin' s
           → (m' : ℕ) × Dfs rec fin' st' sl' n' m' × Edge rec (getD st' (n' - 1) 0) (getD sl' (n' - 1) 0 % 8) v × (getD fin' v 0 ≡ 1)
       by (back {m' = m'} s a b) = (m', s, a, b)
 
-module _ {rec work fin work' fin' st' sl' : List ℕ} {a : Search} (d : Searched rec work fin work' fin' st' sl' a) where
-  pub was-over : {m' : ℕ} → a ≡ Over m' → Dfs rec fin' st' sl' 0 m' × Kept fin fin' × Followed work rec fin' work'
-  was-over {m'} e = by (subst (λ (x : Search). Searched rec work fin work' fin' st' sl' x) e d)
+module _ {rec fin fin' st' sl' : List ℕ} {a : Search} (d : Searched rec fin fin' st' sl' a) where
+  pub was-over : {m' : ℕ} → a ≡ Over m' → Dfs rec fin' st' sl' 0 m' × Kept fin fin'
+  was-over {m'} e = by (subst (λ (x : Search). Searched rec fin fin' st' sl' x) e d)
     where
-      by : Searched rec work fin work' fin' st' sl' (Over m') → Dfs rec fin' st' sl' 0 m' × Kept fin fin' × Followed work rec fin' work'
-      by (over s k f) = (s, k, f)
+      by : Searched rec fin fin' st' sl' (Over m') → Dfs rec fin' st' sl' 0 m' × Kept fin fin'
+      by (over s k) = (s, k)
 
   pub was-ring : {j n : ℕ} → a ≡ Ring j n → Closed rec st' sl' j n
-  was-ring {j} {n} e = by (subst (λ (x : Search). Searched rec work fin work' fin' st' sl' x) e d)
+  was-ring {j} {n} e = by (subst (λ (x : Search). Searched rec fin fin' st' sl' x) e d)
     where
-      by : Searched rec work fin work' fin' st' sl' (Ring j n) → Closed rec st' sl' j n
+      by : Searched rec fin fin' st' sl' (Ring j n) → Closed rec st' sl' j n
       by (ring c) = c
 
 -- ---- the search from one spot
 
-module _ {rec fin st sl : List ℕ} {m : ℕ} (d : Dfs rec fin st sl 0 m) (work : List ℕ) where
-  pub search-seen : (r : ℕ) → r < spots → getD fin r 0 ≢ 0 → Searched rec work (set fin r 1) work fin st sl (Over m)
+module _ {rec fin st sl : List ℕ} {m : ℕ} (d : Dfs rec fin st sl 0 m) where
+  pub search-seen : (r : ℕ) → r < spots → getD fin r 0 ≢ 0 → Searched rec (set fin r 1) fin st sl (Over m)
   search-seen r l s =
       let lf : r < length fin = omega (arith, d .room .marks) in
-      over d (λ u n. ⊎-elim (λ w. rw (w .0) s) (λ w e. n (w .1 ∙ e)) (after fin r 1 u lf)) (followed-none work rec fin)
+      over d (λ u n. ⊎-elim (λ w. rw (w .0) s) (λ w e. n (w .1 ∙ e)) (after fin r 1 u lf))
 
   -- ---- the search from the spot of a load byte
 
   module _ (i : ℕ) where
-    pub trace-none : spots ≤ originOf rec i → Traced rec work i fin work fin st sl (Over m)
-    trace-none l = record { search = over d (λ u h. h) (followed-none work rec fin); seen = λ e h. absurd (omega arith) }
+    pub trace-none : spots ≤ originOf rec i → Traced rec i fin fin st sl (Over m)
+    trace-none l = record { search = over d (λ u h. h); seen = λ e h. absurd (omega arith) }
 
-    pub trace-from : {r : ℕ} {work' fin' st' sl' : List ℕ} {a : Search} → r ≡ originOf rec i → r < spots
-        → Searched rec work (set fin r 1) work' fin' st' sl' a → Traced rec work i fin work' fin' st' sl' a
-    trace-from {r} e l (over s k f) =
+    pub trace-from : {r : ℕ} {fin' st' sl' : List ℕ} {a : Search} → r ≡ originOf rec i → r < spots → Searched rec (set fin r 1) fin' st' sl' a
+        → Traced rec i fin fin' st' sl' a
+    trace-from {r} e l (over s k) =
         let lf : r < length fin = omega (arith, d .room .marks) in
         record {
-          search = over s (λ u n. k u (kept-set fin r 0 lf u n)) f;
+          search = over s (λ u n. k u (kept-set fin r 0 lf u n));
           seen = λ q h. rw (← e) (k r (λ z. omega (arith, getD-set-same fin r 1 0 lf)));
         }
     trace-from e l (ring c) = record { search = ring c; seen = λ q h. absurd (let z : _≡_ {A = ℕ} 0 1 = cc in omega arith) }

@@ -45,7 +45,7 @@ module _ (rec : List ℕ) (d o : ℕ) (e : o ≡ ownerOf (d % 64)) where
 
 -- ---- along it and against it
 
-pub code-kind : (k : ℕ) → k < 14 → linkCode (getD kinds k northSide) ≡ k
+code-kind : (k : ℕ) → k < 14 → linkCode (getD kinds k northSide) ≡ k
 unfolding below
 code-kind k l = eqb→eq _ _ (below-at 14 (λ k. eqb (linkCode (getD kinds k northSide)) k) tt k l)
 

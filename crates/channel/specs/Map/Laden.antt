@@ -25,7 +25,7 @@ pub load-test : (n : ℕ) → not (eqb n 0) ≡ ltb 0 n
 load-test zero = refl
 load-test (suc n) = rw (eqb·suc-zero n) (sym (lt-ltb 0 (suc n) (omega arith)))
 
-forth-test : (b : ℕ) → (ltb 0 b && ltb b 32) ≡ ltb 0 (forthPart b)
+pub forth-test : (b : ℕ) → (ltb 0 b && ltb b 32) ≡ ltb 0 (forthPart b)
 forth-test b =
     both-ways (ltb 0 b && ltb b 32) (ltb 0 (forthPart b))
     (λ t. lt→ltb 0 (forthPart b) (omega (arith, ltb→lt 0 b (and-left (ltb 0 b) (ltb b 32) t), ltb→lt b 32 (and-right (ltb 0 b) (ltb b 32) t))))
@@ -33,7 +33,7 @@ forth-test b =
     let l : 0 < forthPart b = ltb→lt 0 (forthPart b) t in
     and-both (ltb 0 b) (ltb b 32) (lt→ltb 0 b (omega arith)) (lt→ltb b 32 (omega arith)))
 
-back-test : (b : ℕ) → ltb 32 b ≡ ltb 0 (backPart b)
+pub back-test : (b : ℕ) → ltb 32 b ≡ ltb 0 (backPart b)
 back-test b =
     both-ways (ltb 32 b) (ltb 0 (backPart b)) (λ t. lt→ltb 0 (backPart b) (omega (arith, ltb→lt 32 b t)))
     (λ t. let l : 0 < backPart b = ltb→lt 0 (backPart b) t in lt→ltb 32 b (omega arith))

@@ -5,7 +5,7 @@ use mathlib.Core.Bool.{Bool, true, false}
 use mathlib.Core.List.{List}
 use Prim.Native.Nat.{ℕ, zero, suc, _+_, _-_, _*_, _/_, _%_, _^_, _≤_, _<_}
 use native.Mathlib.Decide.{decLt}
-use native.Mathlib.Nat.{div-div-eq-div-mul, zero-div}
+use native.Mathlib.Nat.{div-div-eq-div-mul}
 use native.Mathlib.Numerals.{add-one}
 use native.Mathlib.Omega.{arith}
 use borrow.Author.Tests.{ltb-true, ltb-false}
@@ -122,31 +122,16 @@ module _ (rec : List ℕ) (u : ℕ) where
       ap (λ (x : ℕ). loadedFrom rec u k / 2 ^ x) (sym q) ∙ ap (λ (x : ℕ). loadedFrom rec u k / x) (pow-add 2 j 1)
       ∙ sym (div-div-eq-div-mul (loadedFrom rec u k) (2 ^ j) (2 ^ 1)) ∙ ap (λ (x : ℕ). x / 2) (from-shift k j) ∙ half (k + j) ∙ ap (loadedFrom rec u) p
 
-  -- where nothing is left, no slot from k on is loaded
-  pub from-none : (k : ℕ) → loadedFrom rec u k ≡ 0 → (j : ℕ) → k ≤ j → j < 5 → view rec (8 * u + j) ≡ 0
-  from-none k e j l h =
-      let q : k + (j - k) ≡ j = omega arith in
-      let z : loadedFrom rec u j ≡ 0 =
-      ap (loadedFrom rec u) (sym q) ∙ sym (from-shift k (j - k)) ∙ ap (λ (x : ℕ). x / 2 ^ (j - k)) e ∙ zero-div (2 ^ (j - k)) in
-      from-idle j h (λ o. omega (arith, z))
-
   -- the next loaded slot, by the lowest bit of what is left from slot k on
   module _ (k : ℕ) {left i : ℕ} (e : left ≡ loadedFrom rec u k) (w : Lowest left i) where
     pub next-left : left / 2 ^ i ≡ loadedFrom rec u (k + i)
     next-left = ap (λ (x : ℕ). x / 2 ^ i) e ∙ from-shift k i
 
-    -- and after it
-    pub next-after : left / 2 ^ (i + 1) ≡ loadedFrom rec u (k + i + 1)
-    next-after = let q : k + (i + 1) ≡ k + i + 1 = omega arith in ap (λ (x : ℕ). x / 2 ^ (i + 1)) e ∙ from-shift k (i + 1) ∙ ap (loadedFrom rec u) q
-
     odd : loadedFrom rec u (k + i) % 2 ≡ 1
     odd = ap (λ (x : ℕ). x % 2) (sym next-left) ∙ w .here
 
-    pub next-slot : k + i < 5
+    next-slot : k + i < 5
     next-slot = from-some (k + i) (λ z. omega (arith, odd))
-
-    pub next-laden : 0 < view rec (8 * u + (k + i))
-    next-laden = from-laden (k + i) next-slot odd
 
     pub next-idle : (j : ℕ) → k ≤ j → j < k + i → view rec (8 * u + j) ≡ 0
     next-idle j l h =

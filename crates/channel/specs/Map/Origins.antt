@@ -1,5 +1,5 @@
--- Where the wires of a load byte begin: the byte has the load of a step, and its wires leave the spot of the step's dart. A byte has wires if it is neither 0
--- nor 32. A loaded dart stands at one of the slots 0 to 4. Assumes nothing.
+-- Where the wires of a load byte begin: the byte has the load of a step, and its wires leave the spot of the step's dart. A loaded dart stands at one of the
+-- slots 0 to 4. Assumes nothing.
 use mathlib.Core.Path.{_≡_, refl, sym, ap, subst, _∙_}
 use mathlib.Core.Logic.{_≢_, _⊎_, inl, inr}
 use mathlib.Core.Bool.{Bool, true, false, not, _&&_, _||_}
@@ -11,17 +11,16 @@ use lib.Dec.{T, eqb, leb, ltb, ltb→lt, le→leb}
 use lib.ListN.{getD}
 use Rattle.sums.specs.Counting.{when}
 use Rattle.sums.specs.Tests.{if-so, so, below, below-at}
-use Rattle.model.specs.Links.{northSide, link, linkCode, Step}
+use Rattle.model.specs.Links.{linkCode, Step}
 use Rattle.model.specs.Loads.{arrivals}
-use Rattle.model.specs.Record.{loadPlane, kinds, load}
+use Rattle.model.specs.Record.{loadPlane, load}
 use Rattle.channel.specs.Map.{codes, ownerOf, codeOf, seatOf, dartOf, wayPart}
-use Rattle.channel.specs.Map.Bytes.{way-none, code-kind}
-use Rattle.channel.specs.Map.{spots, inGrid, ownerCell, stepOf, carries, isPassage, isLinkDart, isPassDart, passedOf, view, address}
-use Rattle.channel.specs.Map.Back.{Less, less, most, less?}
+use Rattle.channel.specs.Map.Bytes.{way-none}
+use Rattle.channel.specs.Map.{spots, inGrid, ownerCell, stepOf, carries, isPassage, isLinkDart, isPassDart, passedOf, view}
 use Rattle.channel.specs.Map.Bools.{if-true, if-false}
 use Rattle.channel.specs.Map.Darts.{OnGrid, kind-code}
 use Rattle.channel.specs.Map.Grid.{cell-on}
-use Rattle.channel.specs.Map.Stores.{grid?, address-spot}
+use Rattle.channel.specs.Map.Stores.{grid?}
 
 -- ---- the spot of a load byte
 
@@ -47,28 +46,14 @@ module _ (rec : List ℕ) (i : ℕ) where
 -- ---- along a link
 
 -- the wires of a byte go the way that its load goes
-byte-way : (b : ℕ) (f : Bool) → 0 < wayPart f b → (b ≢ 0) × (b ≢ 32) × (ltb b 32 ≡ f)
+byte-way : (b : ℕ) (f : Bool) → 0 < wayPart f b → (b ≢ 0) × (ltb b 32 ≡ f)
 unfolding wayPart
-byte-way b true l = (λ e. omega arith, λ e. omega arith, lt-ltb b 32 (omega arith))
-byte-way b false l = (λ e. omega arith, λ e. omega arith, le-ltb b 32 (omega arith))
-
--- and back
-way-some : (b : ℕ) → b ≢ 0 → b ≢ 32 → 0 < wayPart (ltb b 32) b
-unfolding wayPart
-way-some b n m = by (ltb b 32) (less? b 32)
-  where
-    by : (f : Bool) → Less b 32 f → 0 < wayPart f b
-    by true (less l) = omega arith
-    by false (most l) = omega arith
+byte-way b true l = (λ e. omega arith, lt-ltb b 32 (omega arith))
+byte-way b false l = (λ e. omega arith, le-ltb b 32 (omega arith))
 
 -- which load byte a step's link has
 pub stepByte : Step → ℕ
 stepByte s = 1600 * linkCode (s .link .kind) + (40 * s .link .row + s .link .column)
-
--- it stands where the step's dart has it
-pub step-address : (d : ℕ) → T (inGrid (ownerCell d)) → 3968 + stepByte (stepOf d) ≡ address d
-unfolding stepByte
-step-address d g = omega (arith, address-spot d g)
 
 module _ (s : Step) (g : OnGrid s) where
   pub step-byte< : stepByte s < 22400
@@ -83,9 +68,6 @@ module _ (s : Step) (g : OnGrid s) where
       ap (wayPart (s .forth))
       (sym (cell-on rec (loadPlane (s .link .kind)) (s .link .row) (s .link .column) (g .row<) (g .column<)) ∙ ap (λ (a : ℕ). getD rec a 0) p)
 
-  pub step-byte≢32 : (rec : List ℕ) → 0 < load rec s → getD rec (3968 + stepByte s) 0 ≢ 32
-  step-byte≢32 rec l = byte-way _ (s .forth) (subst (λ (a : ℕ). 0 < a) (step-load rec) l) .1
-
   pub step-origin : (rec : List ℕ) → 0 < load rec s → originOf rec (stepByte s) ≡ dartOf s / 8
   unfolding stepByte dartOf
   step-origin rec l =
@@ -95,24 +77,13 @@ module _ (s : Step) (g : OnGrid s) where
       let h : n < 14 = kind-code (s .link .kind) .0 in
       let k : i / 1600 ≡ n = omega (arith, g .row<, g .column<) in
       let m : i % 1600 ≡ x = omega (arith, g .row<, g .column<) in
-      let (z, y, w) = byte-way (getD rec (3968 + i) 0) (s .forth) (subst (λ (a : ℕ). 0 < a) (step-load rec) l) in
+      let (z, w) = byte-way (getD rec (3968 + i) 0) (s .forth) (subst (λ (a : ℕ). 0 < a) (step-load rec) l) in
       let j : seatOf n (s .forth) ≡ seatOf (i / 1600) (ltb (getD rec (3968 + i) 0) 32) = rw (k, w) in
       sym (origin-at rec i z (seatOf n (s .forth)) (ownerOf (seatOf n (s .forth))) j refl)
       ∙ rw m (whole x (seatOf n (s .forth)) (ownerOf (seatOf n (s .forth))) (s .link .row) (s .link .column) refl)
     where
       whole : (x j o r c : ℕ) → x ≡ 40 * r + c → 8 * (41 + x - o) + j / 8 ≡ (64 * (41 + 40 * r + c - o) + j) / 8
       whole x j o r c e = omega arith
-
--- a byte that is neither 0 nor 32 has the load of a step
-pub byte-step : (rec : List ℕ) (i : ℕ) → i < 22400 → getD rec (3968 + i) 0 ≢ 0 → getD rec (3968 + i) 0 ≢ 32
-    → (s : Step) × OnGrid s × (stepByte s ≡ i) × (0 < load rec s)
-unfolding stepByte
-byte-step rec i l n m =
-    let b : ℕ = getD rec (3968 + i) 0 in
-    let s : Step = record { link = link (getD kinds (i / 1600) northSide) (i % 1600 / 40) (i % 40); forth = ltb b 32 } in
-    let g : OnGrid s = record { row< = omega arith; column< = omega arith } in
-    let e : stepByte s ≡ i = omega (arith, code-kind (i / 1600) (omega arith)) in
-    (s, g, e, subst (λ (x : ℕ). 0 < x) (sym (step-load s g rec ∙ ap (λ (j : ℕ). wayPart (ltb b 32) (getD rec (3968 + j) 0)) e)) (way-some b n m))
 
 -- bytes of 0 hold no wire
 pub no-load : (rec : List ℕ) → ((i : ℕ) → i < 32768 → getD rec i 0 ≡ 0) → (s : Step) → load rec s ≡ 0

@@ -51,7 +51,7 @@ module _ {k w : ℕ} where
   unfolding below turns turnOf
   turn-word = part 16 4 (λ w j. getD turnWords w 0 / 2 ^ (j * 16) % 65536) (λ k j. turnOf (4 * k + j)) tt
 
-  pub place-word : k < 16 → k ≡ w → (j : ℕ) → j < 4 → getD placeWords w 0 / 2 ^ (j * 16) % 65536 ≡ placeOf (4 * k + j)
+  place-word : k < 16 → k ≡ w → (j : ℕ) → j < 4 → getD placeWords w 0 / 2 ^ (j * 16) % 65536 ≡ placeOf (4 * k + j)
   unfolding below placeOf carries isPassage codes codeOf links kindOf owners ownerOf signs signOf
   place-word = part 16 4 (λ w j. getD placeWords w 0 / 2 ^ (j * 16) % 65536) (λ k j. placeOf (4 * k + j)) tt
 

@@ -1,6 +1,5 @@
 -- `loops::explore` meets its contract: r is seen already, or goes on the stack. Assumes nothing.
 use borrow.Author.Needs.{needs}
-use native.Mathlib.Omega.{arith}
 use Rattle.audit.specs.Loops.Turns.{search-seen}
 use Rattle.audit.proofs.loops.explore.Statement.{statement}
 use Rattle.audit.proofs.loops.explore.Tie as tie
@@ -12,12 +11,10 @@ slice-read-if1 : tie.Need-slice-read-if1
 slice-read-if1 c = search needs
 
 returns : tie.Need-returns
-returns c = let p = c .before .before .before .before .before .before .before .pre in search-seen (p .0) _ _ (p .1) (c .if1 .taken)
+returns c = let p = c .before .before .before .before .before .before .pre in search-seen (p .0) _ (p .1) (c .if1 .taken)
 
 descend-requires : tie.Need-descend-requires
-descend-requires c κs =
-    let p = c .before .before .before .before .before .before .before .before .before .before .before .pre in
-    (record { state = p .0; spot = p .1; blank = c .before .before .before .before .if1 .left; edge = λ i q. absurd (omega arith) }, p .2)
+descend-requires c κs = search needs
 
 same-length : tie.Need-same-length
 same-length c = search needs
@@ -27,9 +24,6 @@ same-length-2 c = search needs
 
 same-length-3 : tie.Need-same-length-3
 same-length-3 c = search needs
-
-same-length-4 : tie.Need-same-length-4
-same-length-4 c = search needs
 
 returns-2 : tie.Need-returns-2
 returns-2 c = search needs
@@ -45,5 +39,4 @@ explore-spec =
     same-length
     same-length-2
     same-length-3
-    same-length-4
     returns-2)

@@ -5,20 +5,20 @@ use mathlib.Core.Path.{_≡_, refl, _∙_}
 use native.Mathlib.Omega.{arith}
 use lib.ListN.{length}
 use Rattle.audit.specs.Loops.{free, ring}
-use Rattle.audit.specs.Loops.Dfs.{Dfs, Followed, Begun}
-use Rattle.audit.specs.Loops.Fresh.{fresh-followed, fresh-before, fresh-settled}
+use Rattle.audit.specs.Loops.Dfs.{Dfs, Begun}
+use Rattle.audit.specs.Loops.Fresh.{fresh-before, fresh-settled}
 use Rattle.audit.specs.Loops.Stack.{dfs-start}
-use Rattle.audit.specs.Loops.Turns.{followed-none, was-over, was-ring}
+use Rattle.audit.specs.Loops.Turns.{was-over, was-ring}
 use Rattle.audit.proofs.loops.find.Statement.{statement}
 use Rattle.audit.proofs.loops.find.Tie as tie
 
 abbrev Inv-loop : tie.InvT-loop
-Inv-loop rec work₀ fin₀ st₀ sl₀ m₀ k₀ work fin st sl m k =
-    (length work ≡ length work₀) × (length fin ≡ length fin₀) × (length st ≡ length st₀) × (length sl ≡ length sl₀) × (k ≤ 1400) × Dfs rec fin st sl 0 m
-    × Followed work₀ rec fin work × ((i : ℕ) → 16 * (1400 - k) ≤ i → i < 22400 → Begun work₀ rec fin i)
+Inv-loop rec old fin₀ st₀ sl₀ m₀ k₀ fin st sl m k =
+    (length fin ≡ length fin₀) × (length st ≡ length st₀) × (length sl ≡ length sl₀) × (k ≤ 1400) × Dfs rec fin st sl 0 m
+    × ((i : ℕ) → 16 * (1400 - k) ≤ i → i < 22400 → Begun old rec fin i)
 
 abbrev μ-loop : tie.MeasureT-loop
-μ-loop rec work₀ fin₀ st₀ sl₀ m₀ k₀ work fin st sl m k = 1400 - k
+μ-loop rec old fin₀ st₀ sl₀ m₀ k₀ fin st sl m k = 1400 - k
 
 clear-requires : tie.Need-clear-requires Inv-loop μ-loop
 clear-requires c κs = c .before .before .before .before .before .before .pre .0 .marks
@@ -30,20 +30,16 @@ loop-holds c =
       refl,
       refl,
       refl,
-      refl,
       omega arith,
       dfs-start (record { whole = p .whole; marks = omega (arith, k .kept .0, p .marks); stack = p .stack; slots = p .slots }) (k .ensures),
-      followed-none _ _ _,
       λ i l h. absurd (omega arith),
     )
 
 sub-trace-run : tie.Need-sub-trace-run Inv-loop μ-loop
-sub-trace-run c = omega (arith, c .before .before .before .before .loop-test .taken)
+sub-trace-run c = omega (arith, c .before .before .before .loop-test .taken)
 
 trace-run-requires : tie.Need-trace-run-requires Inv-loop μ-loop
-trace-run-requires c κs =
-    let o = c .before .before .before .before .before in
-    (o .loop .inv .5, omega (arith, o .loop .inv .0, o .before .before .before .before .before .before .before .before .before .before .pre .1), omega arith)
+trace-run-requires c κs = let o = c .before .before .before .before in (o .loop .inv .4, o .before .before .before .before .before .before .before .before .before .before .pre .1, omega arith)
 
 enum-known-a : tie.Need-enum-known-a Inv-loop μ-loop
 enum-known-a c = search needs
@@ -52,60 +48,52 @@ enum-known-a-2 : tie.Need-enum-known-a-2 Inv-loop μ-loop
 enum-known-a-2 c = search needs
 
 same-length : tie.Need-same-length Inv-loop μ-loop
-same-length c = let t = c .before .before .before .before .before .before .before .before .before .before .before in let o = t .before .before .before .before .before .before in t .trace-run .kept .1 .0 ∙ o .loop .inv .0
+same-length c = let t = c .before .before .before .before .before .before .before .before .before in let o = t .before .before .before .before .before in t .trace-run .kept .1 .1 .0 ∙ o .loop .inv .0 ∙ o .before .before .before .clear .kept .0
 
 same-length-2 : tie.Need-same-length-2 Inv-loop μ-loop
-same-length-2 c = let t = c .before .before .before .before .before .before .before .before .before .before .before in let o = t .before .before .before .before .before .before in t .trace-run .kept .1 .1 .0 ∙ o .loop .inv .1 ∙ o .before .before .before .clear .kept .0
+same-length-2 c = let t = c .before .before .before .before .before .before .before .before .before in t .trace-run .kept .1 .1 .1 .0 ∙ t .before .before .before .before .before .loop .inv .1
 
 same-length-3 : tie.Need-same-length-3 Inv-loop μ-loop
-same-length-3 c = let t = c .before .before .before .before .before .before .before .before .before .before .before in let o = t .before .before .before .before .before .before in t .trace-run .kept .1 .1 .1 .0 ∙ o .loop .inv .2
-
-same-length-4 : tie.Need-same-length-4 Inv-loop μ-loop
-same-length-4 c = let t = c .before .before .before .before .before .before .before .before .before .before .before in let o = t .before .before .before .before .before .before in t .trace-run .kept .1 .1 .1 .1 .0 ∙ o .loop .inv .3
+same-length-3 c = let t = c .before .before .before .before .before .before .before .before .before in t .trace-run .kept .1 .1 .1 .1 .0 ∙ t .before .before .before .before .before .loop .inv .2
 
 returns : tie.Need-returns Inv-loop μ-loop
-returns c = ring (was-ring (c .before .before .before .before .before .before .before .before .before .before .before .trace-run .ensures .search) (c .before .a2 .given .1))
+returns c = ring (was-ring (c .before .before .before .before .before .before .before .before .before .trace-run .ensures .search) (c .before .a2 .given .1))
 
 add-k : tie.Need-add-k Inv-loop μ-loop
 add-k c = search needs
 
 loop-less : tie.Need-loop-less Inv-loop μ-loop
-loop-less c = omega (arith, c .before .before .before .before .before .before .before .before .before .before .before .before .before .before .before .before .loop-test .taken)
+loop-less c = omega (arith, c .before .before .before .before .before .before .before .before .before .before .before .before .before .loop-test .taken)
 
 loop-again : tie.Need-loop-again Inv-loop μ-loop
 loop-again c =
-    let x = c .before .before .before .before .before .before .before .before .before .before .before in
-    let t = x .before .before .before .before .before .loop-test .taken in
-    let l = x .before .before .before .before .before .before .loop .inv in
+    let x = c .before .before .before .before .before .before .before .before .before in
+    let t = x .before .before .before .before .loop-test .taken in
+    let l = x .before .before .before .before .before .loop .inv in
     let r = x .trace-run .ensures in
-    let k = x .trace-run .kept .1 in
+    let k = x .trace-run .kept .1 .1 in
     let e = c .before .a .given .1 in (
       k .0 ∙ l .0,
       k .1 .0 ∙ l .1,
       k .1 .1 .0 ∙ l .2,
-      k .1 .1 .1 .0 ∙ l .3,
       omega (arith, t),
       was-over (r .search) e .0,
-      fresh-followed (l .6) r e,
-      λ i a h. fresh-before (l .6) r e (λ j b q. l .7 j (omega (arith, t)) q) i (omega (arith, t)) h,
+      λ i a. fresh-before r e _ (λ j b. l .5 j (omega (arith, t))) i (omega (arith, t)),
     )
 
+same-length-4 : tie.Need-same-length-4 Inv-loop μ-loop
+same-length-4 c = c .before .loop .inv .0 ∙ c .before .before .before .before .clear .kept .0
+
 same-length-5 : tie.Need-same-length-5 Inv-loop μ-loop
-same-length-5 c = c .before .loop .inv .0
+same-length-5 c = c .before .loop .inv .1
 
 same-length-6 : tie.Need-same-length-6 Inv-loop μ-loop
-same-length-6 c = c .before .loop .inv .1 ∙ c .before .before .before .before .clear .kept .0
-
-same-length-7 : tie.Need-same-length-7 Inv-loop μ-loop
-same-length-7 c = c .before .loop .inv .2
-
-same-length-8 : tie.Need-same-length-8 Inv-loop μ-loop
-same-length-8 c = c .before .loop .inv .3
+same-length-6 c = c .before .loop .inv .2
 
 returns-2 : tie.Need-returns-2 Inv-loop μ-loop
 returns-2 c =
     let l = c .before .loop .inv in
-    free (fresh-settled (l .5) (λ i h. l .7 i (omega (arith, c .loop-test .left)) h))
+    free (fresh-settled (l .4) (λ i h. l .5 i (omega (arith, c .loop-test .left)) h))
 
 pub find-spec : {M : Type 1} → statement M
 find-spec =
@@ -122,13 +110,11 @@ find-spec =
     same-length
     same-length-2
     same-length-3
-    same-length-4
     returns
     add-k
     loop-less
     loop-again
+    same-length-4
     same-length-5
     same-length-6
-    same-length-7
-    same-length-8
     returns-2)

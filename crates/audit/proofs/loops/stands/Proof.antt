@@ -28,10 +28,10 @@ enum-told-2 : tie.Need-enum-told-2
 enum-told-2 c = search needs
 
 returns : tie.Need-returns
-returns c = no-loop (c .before .before .before .before .before .before .find .ensures) (λ i l. getD-replicate 32768 i 0 0 l) (c .enum-told .given .1)
+returns c = no-loop (c .before .before .before .before .before .find .ensures) (λ i l. getD-replicate 32768 i 0 0 l) (c .enum-told .given .1)
 
 returns-2 : tie.Need-returns-2
-returns-2 c = a-loop (c .before .before .before .before .before .before .find .ensures) (c .enum-told2 .given .1)
+returns-2 c = a-loop (c .before .before .before .before .before .find .ensures) (c .enum-told2 .given .1)
 
 pub stands-spec : {M : Type 1} → statement M
 stands-spec =

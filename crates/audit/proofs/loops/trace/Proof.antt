@@ -10,7 +10,7 @@ origin-requires : tie.Need-origin-requires
 origin-requires c κs = search needs
 
 returns : tie.Need-returns
-returns c = let s = c .before .before .before .before .before .before .before in trace-none (s .pre .0) _ (s .args .i) (omega (arith, spots-is, c .if1 .taken, c .before .origin .ensures))
+returns c = let s = c .before .before .before .before .before .before in trace-none (s .pre .0) (s .args .i) (omega (arith, spots-is, c .if1 .taken, c .before .origin .ensures))
 
 explore-requires : tie.Need-explore-requires
 explore-requires c κs = search (needs, spots-is)
@@ -24,15 +24,12 @@ same-length-2 c = search needs
 same-length-3 : tie.Need-same-length-3
 same-length-3 c = search needs
 
-same-length-4 : tie.Need-same-length-4
-same-length-4 c = search needs
-
 returns-2 : tie.Need-returns-2
 returns-2 c =
-    let e = c .before .before .before .before .before .before .before .before in
-    let i = e .before .before .before .before .before in
-    let s = i .before .before .before .before .before .before .before in
-    trace-from (s .pre .0) _ (s .args .i) (i .before .origin .ensures) (omega (arith, spots-is, i .if1 .left)) (e .explore .ensures)
+    let e = c .before .before .before .before .before .before in
+    let i = e .before .before .before .before in
+    let s = i .before .before .before .before .before .before in
+    trace-from (s .pre .0) (s .args .i) (i .before .origin .ensures) (omega (arith, spots-is, i .if1 .left)) (e .explore .ensures)
 
 pub trace-spec : {M : Type 1} → statement M
 trace-spec =
@@ -44,5 +41,4 @@ trace-spec =
     same-length
     same-length-2
     same-length-3
-    same-length-4
     returns-2)

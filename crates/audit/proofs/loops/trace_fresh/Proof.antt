@@ -9,16 +9,14 @@ use Rattle.audit.proofs.loops.trace_fresh.Tie as tie
 is-fresh-requires : tie.Need-is-fresh-requires
 is-fresh-requires c κs = search needs
 
-same-length : tie.Need-same-length
-same-length c = search needs
-
 returns : tie.Need-returns
-returns c =
-    let s = c .before .before .before .before .before .before .before .before in
-    fresh-not (s .pre .0) (sym (c .before .is-fresh .ensures) ∙ not-true _ (c .if1 .taken))
+returns c = fresh-not (c .before .before .before .before .before .before .before .pre .0) (sym (c .before .is-fresh .ensures) ∙ not-true _ (c .if1 .taken))
 
 trace-requires : tie.Need-trace-requires
 trace-requires c κs = search needs
+
+same-length : tie.Need-same-length
+same-length c = search needs
 
 same-length-2 : tie.Need-same-length-2
 same-length-2 c = search needs
@@ -26,25 +24,17 @@ same-length-2 c = search needs
 same-length-3 : tie.Need-same-length-3
 same-length-3 c = search needs
 
-same-length-4 : tie.Need-same-length-4
-same-length-4 c = search needs
-
-same-length-5 : tie.Need-same-length-5
-same-length-5 c = search needs
-
 returns-2 : tie.Need-returns-2
-returns-2 c = fresh-one (c .before .before .before .before .before .before .before .before .trace .ensures)
+returns-2 c = fresh-one (c .before .before .before .before .before .before .trace .ensures)
 
 pub trace-fresh-spec : {M : Type 1} → statement M
 trace-fresh-spec =
     tie.close
     (tie.spec
     is-fresh-requires
-    same-length
     returns
     trace-requires
+    same-length
     same-length-2
     same-length-3
-    same-length-4
-    same-length-5
     returns-2)
