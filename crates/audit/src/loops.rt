@@ -6,6 +6,9 @@ ghost use lib.ListN.{length, set};
 ghost use Rattle.channel.specs.Map.{spots};
 ghost use Rattle.audit.specs.Loops.{Room, Answer, LoopStands};
 ghost use Rattle.audit.specs.Loops.Dfs.{Cleared, Rest, Picked, Placed, Bared, Dfs, Aimed, Entered, Turned, Resumed, Searched, Traced, FreshTraced};
+use channel::columns;
+use channel::rows;
+use outward::lead_outward;
 
 // No closed chain; or the spots of one in st, and its slots in sl, from the first number to before the second.
 pub enum Found {
@@ -274,12 +277,13 @@ pub fn find(rec: &[u8], old: &[u8], fin: &mut [u16], st: &mut [u16], sl: &mut [u
     Found::Free
 }
 
-// Whether a loop stands, in a record that is feasible. Beside old loads of 0 every link with a wire is fresh.
+// Whether a loop stands, in a record that is feasible. Beside loads that lead outward only the links are fresh along which wires go inward or round.
 pub fn stands(rec: &[u8]) -> bool
     requires { ⌜ 32768 ≤ length (now rec) ⌝ }
     ensures { λ b. ⌜ LoopStands (now (rec .entry)) b ⌝ }
 {
-    let old = [0u8; 32768];
+    let mut old = [0u8; 32768];
+    lead_outward(&mut old, rows(rec), columns(rec));
     let mut fin = [0u16; 13128];
     let mut st = [0u16; 13128];
     let mut sl = [0u8; 13128];

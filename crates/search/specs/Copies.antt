@@ -18,7 +18,7 @@ use Rattle.model.specs.Record.{recordSize, offset, loadPlane, cell, jobOf, load
 use Rattle.model.specs.Wires.{isWired, wireCount}
 use Rattle.model.specs.Calls.{wiredIn, wiresIn}
 use Rattle.model.proofs.RecordOf.{inCells, cells-row, cells-column, plane-below}
-use Rattle.model.proofs.Over.{get-over, job-over, load-over, legal-over}
+use Rattle.model.proofs.Over.{job-over, load-over, legal-over}
 use Rattle.augment.specs.Laid.{BytesFit, SameButLoads}
 use Rattle.augment.specs.Pins.{Held}
 
@@ -45,11 +45,6 @@ front-whole new e = take-all recordSize new (omega arith)
 module _ (rec : List ℕ) (long : recordSize ≤ length rec) where
   pub front-length : length (front rec) ≡ recordSize
   front-length = length-take-le recordSize rec long
-
-  -- a buffer reads as the record that it is a copy of
-  pub copied-byte : (to to′ : List ℕ) → to′ ≡ over (front rec) to → (i : ℕ) → i < recordSize → getD to′ i 0 ≡ getD rec i 0
-  copied-byte to to′ e i l =
-      ap (λ (x : List ℕ). getD x i 0) e ∙ get-over (front rec) (drop (length (front rec)) to) front-length i l ∙ getD-take recordSize rec i 0 l
 
   front-job : jobOf (front rec) ≡ jobOf rec
   front-job = sym (job-over (front rec) (drop recordSize rec) front-length) ∙ ap jobOf (take-append-drop recordSize rec)

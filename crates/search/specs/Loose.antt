@@ -27,9 +27,8 @@ pub record Ringed (rec st sl : List ℕ) (n : ℕ) : Type 0 where
   pub darts< : (i : ℕ) → i < n → 8 * getD st i 0 + getD sl i 0 < darts
 
 -- what is lent to the untangling, and that the loads are those of some job
-pub record Tangled (old rec work fin st sl : List ℕ) : Type 0 where
+pub record Tangled (old rec fin st sl : List ℕ) : Type 0 where
   pub before : 32768 ≤ length old
-  pub spare : 32768 ≤ length work
   pub room : Room rec fin st sl
   pub job : Job
   pub held : Held job rec

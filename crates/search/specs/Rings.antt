@@ -116,7 +116,7 @@ untangled-freed {old} {rec} {rec′} {fin} U =
       loose = U .loose;
       sound = λ J H S.
           let f = U .loose J H .feasible in
-          record { feasible = f; loops = fresh-loops J (H .fits) old rec′ f (λ u. getD fin u 0) (U .settled .falls) (U .settled .fresh) (S .loops) };
+          record { feasible = f; loops = fresh-loops J (H .fits) old rec′ f (λ u. getD fin u 0) (U .settled .falls) (U .settled .fresh) (λ x s ss t. S .loops x s ss) };
     }
 
 -- ---- what a caller reads off the finder's answer

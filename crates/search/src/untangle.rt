@@ -7,7 +7,6 @@ ghost use Rattle.channel.specs.Map.{rev};
 ghost use Rattle.augment.specs.Laid.{laidAll};
 ghost use Rattle.audit.specs.Loops.{ringDarts};
 ghost use Rattle.search.specs.Loose.{Ringed, Tangled, Untangled, Laden, Freed};
-use crate::copy::copy;
 use audit::loops::Found;
 use audit::loops::find;
 use channel::lay;
@@ -27,21 +26,13 @@ fn take_out(loads: &mut [u8], st: &[u16], sl: &[u8], j: usize, n: usize)
     }
 }
 
-// Every ring. The finder takes the old loads in work.
-fn take_rings_out(
-    old: &[u8],
-    loads: &mut [u8],
-    work: &mut [u8],
-    fin: &mut [u16],
-    st: &mut [u16],
-    sl: &mut [u8],
-)
-    requires { ⌜ Tangled (now old) (now loads) (now work) (now fin) (now st) (now sl) ⌝ }
+// Every ring.
+fn take_rings_out(old: &[u8], loads: &mut [u8], fin: &mut [u16], st: &mut [u16], sl: &mut [u8])
+    requires { ⌜ Tangled (now old) (now loads) (now fin) (now st) (now sl) ⌝ }
     ensures { λ _. ⌜ Untangled (now (old .entry)) (now (loads .entry)) (now (loads .exit)) (now (fin .exit)) ⌝ }
 {
     loop {
-        copy(old, work);
-        match find(loads, work, fin, st, sl) {
+        match find(loads, old, fin, st, sl) {
             Found::Free => {
                 return;
             }
@@ -57,9 +48,8 @@ pub fn untangle(old: &[u8], loads: &mut [u8])
     requires { ⌜ Laden (now old) (now loads) ⌝ }
     ensures { λ _. ⌜ Freed (now (old .entry)) (now (loads .entry)) (now (loads .exit)) ⌝ }
 {
-    let mut work = [0u8; 32768];
     let mut fin = [0u16; 13128];
     let mut st = [0u16; 13128];
     let mut sl = [0u8; 13128];
-    take_rings_out(old, loads, &mut work, &mut fin, &mut st, &mut sl);
+    take_rings_out(old, loads, &mut fin, &mut st, &mut sl);
 }

@@ -1,4 +1,4 @@
--- The finder's answer, beside old loads of 0, as document 01 has it: an order along which every loaded dart falls leaves no closed chain of loaded links, and a
+-- The finder's answer, beside old loads that lead outward, as document 01 has it: an order along which every loaded dart falls leaves no closed chain of loaded links, and a
 -- closed path of loaded darts is one. Assumes nothing.
 use mathlib.Core.Path.{_≡_, subst}
 use mathlib.Core.Bool.{true, false}
@@ -16,23 +16,25 @@ use Rattle.model.specs.Loads.{Feasible, Trail}
 use Rattle.model.specs.Record.{load}
 use Rattle.channel.specs.Map.{view}
 use Rattle.channel.specs.Map.Fresh.{fresh-loops}
-use Rattle.channel.specs.Map.Network.Loops.{path-loop}
+use Rattle.channel.specs.Map.Network.Loops.{loaded-may, path-loop}
 use Rattle.channel.specs.Map.Network.{net}
-use Rattle.channel.specs.Map.Origins.{no-load}
+use Rattle.outward.specs.Outward.{Parts, Outward}
+use Rattle.outward.specs.Outward.Falling.{outward-loops}
 use Rattle.audit.specs.Loops.{ringDarts, Closed, Answer, free, ring, LoopStands}
 use Rattle.audit.specs.declared.loops.Found.{Found}
 use Rattle.audit.specs.declared.loops.Found.the-variants.{Free, Ring}
 
 module _ {old rec fin st sl : List ℕ} {f : Found} (d : Answer old rec fin st sl f) where
-  pub no-loop : ((i : ℕ) → i < 32768 → getD old i 0 ≡ 0) → f ≡ Free → LoopStands rec false
-  no-loop z e = by (subst (λ (x : Found). Answer old rec fin st sl x) e d)
+  pub no-loop : (P : Parts) → Outward P old → f ≡ Free → LoopStands rec false
+  no-loop P o e = by (subst (λ (x : Found). Answer old rec fin st sl x) e d)
     where
       by : Answer old rec fin st sl Free → LoopStands rec false
       by (free s) =
           record {
             yes = λ p. absurd (so p);
             no = λ p J fits feasible.
-                fresh-loops J fits old rec feasible (λ u. getD fin u 0) (s .falls) (s .fresh) (λ x t ts r. omega (arith, no-load old z t, r .1));
+                fresh-loops J fits old rec feasible (λ u. getD fin u 0) (s .falls) (s .fresh)
+                (outward-loops P J old o (load rec) (loaded-may J fits rec feasible));
           }
 
   -- a ring has a first dart

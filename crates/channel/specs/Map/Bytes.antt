@@ -65,7 +65,7 @@ pub way-back : (f : Bool) (b : ℕ) → f ≡ false → backPart b ≡ wayPart f
 unfolding wayPart
 way-back f b e = sym (if-false f _ _ e)
 
-pub way-none : (f : Bool) → wayPart f 0 ≡ 0
+way-none : (f : Bool) → wayPart f 0 ≡ 0
 unfolding wayPart
 way-none true = refl
 way-none false = refl

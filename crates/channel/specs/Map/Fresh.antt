@@ -156,7 +156,8 @@ module _ (J : Job) (fits : T (arrayFits (J .rows) (J .columns))) (old rec : List
             let b : 2 ≤ rank (exit x) = omega (arith, fresh i li t l, ap rank q, ap (λ (u : Place). rank (exit u)) e) in
             inr (trail-falls J fits rec feasible 2 rank falls s ss x y (e, h, r) p b .0)
 
-    pub fresh-loops : ((x : Place) (s : Step) (ss : List Step) → Trail J (load old) x (s ∷ ss) x → ⊥)
+    -- if none of the new loads is one of the old ones
+    pub fresh-loops : ((x : Place) (s : Step) (ss : List Step) → Trail J (load rec) x (s ∷ ss) x → Trail J (load old) x (s ∷ ss) x → ⊥)
         → (x : Place) (s : Step) (ss : List Step) → Trail J (load rec) x (s ∷ ss) x → ⊥
     fresh-loops none x s ss t = by (old-or-behind (s ∷ ss) x x t p)
       where
@@ -164,5 +165,5 @@ module _ (J : Job) (fits : T (arrayFits (J .rows) (J .columns))) (old rec : List
         p = trail-place J fits rec feasible s ss x x t
 
         by : Trail J (load old) x (s ∷ ss) x ⊎ (2 ≤ rank (exit x)) → ⊥
-        by (inl o) = none x s ss o
+        by (inl o) = none x s ss t o
         by (inr b) = omega (arith, trail-falls J fits rec feasible 2 rank falls s ss x x t p b)

@@ -1,7 +1,7 @@
 -- Where the wires of a load byte begin: the byte has the load of a step, and its wires leave the spot of the step's dart. A loaded dart stands at one of the
 -- slots 0 to 4. Assumes nothing.
 use mathlib.Core.Path.{_≡_, refl, sym, ap, subst, _∙_}
-use mathlib.Core.Logic.{_≢_, _⊎_, inl, inr}
+use mathlib.Core.Logic.{_≢_}
 use mathlib.Core.Bool.{Bool, true, false, not, _&&_, _||_}
 use mathlib.Core.List.{List}
 use Prim.Native.Nat.{ℕ, _+_, _-_, _*_, _/_, _%_, _<_}
@@ -15,12 +15,10 @@ use Rattle.model.specs.Links.{linkCode, Step}
 use Rattle.model.specs.Loads.{arrivals}
 use Rattle.model.specs.Record.{loadPlane, load}
 use Rattle.channel.specs.Map.{codes, ownerOf, codeOf, seatOf, dartOf, wayPart}
-use Rattle.channel.specs.Map.Bytes.{way-none}
 use Rattle.channel.specs.Map.{spots, inGrid, ownerCell, stepOf, carries, isPassage, isLinkDart, isPassDart, passedOf, view}
 use Rattle.channel.specs.Map.Bools.{if-true, if-false}
 use Rattle.channel.specs.Map.Darts.{OnGrid, kind-code}
 use Rattle.channel.specs.Map.Grid.{cell-on}
-use Rattle.channel.specs.Map.Stores.{grid?}
 
 -- ---- the spot of a load byte
 
@@ -84,14 +82,6 @@ module _ (s : Step) (g : OnGrid s) where
     where
       whole : (x j o r c : ℕ) → x ≡ 40 * r + c → 8 * (41 + x - o) + j / 8 ≡ (64 * (41 + 40 * r + c - o) + j) / 8
       whole x j o r c e = omega arith
-
--- bytes of 0 hold no wire
-pub no-load : (rec : List ℕ) → ((i : ℕ) → i < 32768 → getD rec i 0 ≡ 0) → (s : Step) → load rec s ≡ 0
-no-load rec z s = by (grid? rec s)
-  where
-    by : OnGrid s ⊎ (load rec s ≡ 0) → load rec s ≡ 0
-    by (inl g) = step-load s g rec ∙ ap (wayPart (s .forth)) (z (3968 + stepByte s) (omega (arith, step-byte< s g))) ∙ way-none (s .forth)
-    by (inr e) = e
 
 -- ---- slots
 

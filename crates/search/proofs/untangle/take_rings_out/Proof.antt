@@ -1,92 +1,75 @@
 -- `untangle::take_rings_out` meets its contract: each ring that is taken out leaves less load in all. Assumes nothing.
 use borrow.Author.Needs.{needs}
-use Prim.Native.Nat.{_+_}
 use mathlib.Core.Path.{_≡_, refl, _∙_}
 use native.Mathlib.Omega.{arith}
 use lib.ListN.{length}
 use Rattle.model.specs.Job.{Job}
 use Rattle.search.specs.Unlooped.{totalLoad}
 use Rattle.augment.specs.Pins.{Held}
-use Rattle.audit.specs.Loops.Fresh.{settled-same}
-use Rattle.search.specs.Copies.{copied-byte}
 use Rattle.search.specs.Loose.{Loosened}
 use Rattle.search.specs.Rings.{ring-out, loose-none, loose-held, loose-more, found-free, found-ring}
 use Rattle.search.proofs.untangle.take_rings_out.Statement.{statement}
 use Rattle.search.proofs.untangle.take_rings_out.Tie as tie
 
 abbrev Inv-loop : tie.InvT-loop
-Inv-loop old loads₀ work₀ fin₀ st₀ sl₀ loads work fin st sl =
-    (length loads ≡ length loads₀) × (length work ≡ length work₀) × (length fin ≡ length fin₀) × (length st ≡ length st₀) × (length sl ≡ length sl₀)
+Inv-loop old loads₀ fin₀ st₀ sl₀ loads fin st sl =
+    (length loads ≡ length loads₀) × (length fin ≡ length fin₀) × (length st ≡ length st₀) × (length sl ≡ length sl₀)
     × ((J : Job) → Held J loads₀ → Loosened J loads₀ loads)
 
 abbrev μ-loop : tie.MeasureT-loop
-μ-loop old loads₀ work₀ fin₀ st₀ sl₀ loads work fin st sl = totalLoad loads
+μ-loop old loads₀ fin₀ st₀ sl₀ loads fin st sl = totalLoad loads
 
 loop-holds : tie.Need-loop-holds Inv-loop μ-loop
-loop-holds c = (refl, refl, refl, refl, refl, λ J H. loose-none H)
-
-copy-requires : tie.Need-copy-requires Inv-loop μ-loop
-copy-requires c κs = let p = c .before .before .before .before .before .before .before .before .pre in (p .before, omega (arith, c .before .loop .inv .1, p .spare))
+loop-holds c = (refl, refl, refl, refl, λ J H. loose-none H)
 
 find-requires : tie.Need-find-requires Inv-loop μ-loop
 find-requires c κs =
-    let o = c .before .before .before .before .before .before .before .before .before in
+    let o = c .before .before .before .before in
     let l = o .loop .inv in
-    let p = o .before .before .before .before .before .before .before .pre in
+    let p = o .before .before .before .before .before .before .pre in
     let r = p .room in (
       record {
         whole = omega (arith, l .0, r .whole);
-        marks = omega (arith, l .2, r .marks);
-        stack = omega (arith, l .3, r .stack);
-        slots = omega (arith, l .4, r .slots);
+        marks = omega (arith, l .1, r .marks);
+        stack = omega (arith, l .2, r .stack);
+        slots = omega (arith, l .3, r .slots);
       },
-      omega (arith, c .before .before .before .before .before .before .before .copy .kept .1 .0, l .1, p .spare),
+      p .before,
     )
 
 enum-told : tie.Need-enum-told Inv-loop μ-loop
 enum-told c = search needs
 
 same-length : tie.Need-same-length Inv-loop μ-loop
-same-length c = c .before .before .before .before .before .before .before .before .before .before .before .before .before .before .before .before .before .before .before .before .loop .inv .0
+same-length c = c .before .before .before .before .before .before .before .before .before .before .before .before .before .loop .inv .0
 
 same-length-2 : tie.Need-same-length-2 Inv-loop μ-loop
-same-length-2 c = let f = c .before .before .before .before .before .before .before .before .before .before in f .find .kept .1 .0 ∙ f .before .before .before .before .before .before .before .before .copy .kept .1 .0 ∙ f .before .before .before .before .before .before .before .before .before .before .loop .inv .1
+same-length-2 c = c .before .before .before .before .before .before .before .before .find .kept .1 .1 .0 ∙ c .before .before .before .before .before .before .before .before .before .before .before .before .before .loop .inv .1
 
 same-length-3 : tie.Need-same-length-3 Inv-loop μ-loop
-same-length-3 c = let f = c .before .before .before .before .before .before .before .before .before .before in f .find .kept .1 .1 .0 ∙ f .before .before .before .before .before .before .before .before .before .before .loop .inv .2
+same-length-3 c = c .before .before .before .before .before .before .before .before .find .kept .1 .1 .1 .0 ∙ c .before .before .before .before .before .before .before .before .before .before .before .before .before .loop .inv .2
 
 same-length-4 : tie.Need-same-length-4 Inv-loop μ-loop
-same-length-4 c = let f = c .before .before .before .before .before .before .before .before .before .before in f .find .kept .1 .1 .1 .0 ∙ f .before .before .before .before .before .before .before .before .before .before .loop .inv .3
-
-same-length-5 : tie.Need-same-length-5 Inv-loop μ-loop
-same-length-5 c = let f = c .before .before .before .before .before .before .before .before .before .before in f .find .kept .1 .1 .1 .1 .0 ∙ f .before .before .before .before .before .before .before .before .before .before .loop .inv .4
+same-length-4 c = c .before .before .before .before .before .before .before .before .find .kept .1 .1 .1 .1 .0 ∙ c .before .before .before .before .before .before .before .before .before .before .before .before .before .loop .inv .3
 
 returns : tie.Need-returns Inv-loop μ-loop
-returns c =
-    let f = c .before .before .before .before .before .before .before .before .before .before in
-    let o = f .before .before .before .before .before .before .before .before .before .before in
-    let s = o .before .before .before .before .before .before .before in
-    record {
-      loose = o .loop .inv .5;
-      settled = settled-same (λ i l. copied-byte (s .args .old .now) (s .pre .before) _ _ (f .before .before .before .before .before .before .before .before .copy .ensures) (3968 + i) (omega arith))
-          (found-free (f .find .ensures) (c .enum-told .given .1));
-    }
+returns c = record { loose = c .before .before .before .before .before .before .before .before .before .before .before .before .before .loop .inv .4; settled = found-free (c .before .before .before .before .before .before .before .before .find .ensures) (c .enum-told .given .1) }
 
 enum-known-j : tie.Need-enum-known-j Inv-loop μ-loop
 enum-known-j c = search needs
 
 take-out-requires : tie.Need-take-out-requires Inv-loop μ-loop
 take-out-requires c κs =
-    let f = c .before .before .before .before .before .before .before .before .before .before .before .before .before .before in
-    let o = f .before .before .before .before .before .before .before .before .before .before in
+    let f = c .before .before .before .before .before .before .before .before .before .before .before .before in
+    let o = f .before .before .before .before .before in
     let C = found-ring (f .find .ensures) (c .before .before .before .before .j .given .1) in
     let l = o .loop .inv in
     let k = f .find .kept .1 .1 .1 in
-    let r = o .before .before .before .before .before .before .before .pre .room in (
+    let r = o .before .before .before .before .before .before .pre .room in (
       record {
         whole = omega (arith, l .0, r .whole);
-        stack = omega (arith, C .within, k .0, l .3, r .stack);
-        slots = omega (arith, C .within, k .1 .0, l .4, r .slots);
+        stack = omega (arith, C .within, k .0, l .2, r .stack);
+        slots = omega (arith, C .within, k .1 .0, l .3, r .slots);
         darts< = C .darts<;
       },
       omega (arith, C .any),
@@ -94,25 +77,23 @@ take-out-requires c κs =
 
 loop-less : tie.Need-loop-less Inv-loop μ-loop
 loop-less c =
-    let f = c .before .before .before .before .before .before .before .before .before .before .before .before .before .before .before .before .before in
-    let o = f .before .before .before .before .before .before .before .before .before .before in
-    let p = o .before .before .before .before .before .before .before .pre in
+    let f = c .before .before .before .before .before .before .before .before .before .before .before .before .before .before .before in
+    let o = f .before .before .before .before .before in
+    let p = o .before .before .before .before .before .before .pre in
     let C = found-ring (f .find .ensures) (c .before .before .before .before .before .before .before .j .given .1) in
-    ring-out (loose-held (p .held) (o .loop .inv .5 (p .job) (p .held))) C (c .before .before .take-out .ensures) .falls
+    ring-out (loose-held (p .held) (o .loop .inv .4 (p .job) (p .held))) C (c .before .before .take-out .ensures) .falls
 
 loop-again : tie.Need-loop-again Inv-loop μ-loop
 loop-again c =
-    let f = c .before .before .before .before .before .before .before .before .before .before .before .before .before .before .before .before .before in
-    let o = f .before .before .before .before .before .before .before .before .before .before in
-    let l = o .loop .inv in
-    let k = f .find .kept .1 in
+    let f = c .before .before .before .before .before .before .before .before .before .before .before .before .before .before .before in
+    let l = f .before .before .before .before .before .loop .inv in
+    let k = f .find .kept .1 .1 in
     let C = found-ring (f .find .ensures) (c .before .before .before .before .before .before .before .j .given .1) in (
       c .before .before .take-out .kept .0 ∙ l .0,
-      k .0 ∙ f .before .before .before .before .before .before .before .before .copy .kept .1 .0 ∙ l .1,
+      k .0 ∙ l .1,
       k .1 .0 ∙ l .2,
       k .1 .1 .0 ∙ l .3,
-      k .1 .1 .1 .0 ∙ l .4,
-      λ J H. let L = l .5 J H in loose-more L (ring-out (loose-held H L) C (c .before .before .take-out .ensures)),
+      λ J H. let L = l .4 J H in loose-more L (ring-out (loose-held H L) C (c .before .before .take-out .ensures)),
     )
 
 pub take-rings-out-spec : {M : Type 1} → statement M
@@ -122,14 +103,12 @@ take-rings-out-spec =
     Inv-loop
     μ-loop
     loop-holds
-    copy-requires
     find-requires
     enum-told
     same-length
     same-length-2
     same-length-3
     same-length-4
-    same-length-5
     returns
     enum-known-j
     take-out-requires

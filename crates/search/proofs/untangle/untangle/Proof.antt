@@ -14,15 +14,11 @@ slice-aggregate-take-rings-out-2 c = search needs
 slice-aggregate-take-rings-out-3 : tie.Need-slice-aggregate-take-rings-out-3
 slice-aggregate-take-rings-out-3 c = search needs
 
-slice-aggregate-take-rings-out-4 : tie.Need-slice-aggregate-take-rings-out-4
-slice-aggregate-take-rings-out-4 c = search needs
-
 take-rings-out-requires : tie.Need-take-rings-out-requires
 take-rings-out-requires c κs =
-    let p = c .before .before .before .before .before .before .before .pre in
+    let p = c .before .before .before .before .before .before .pre in
     record {
       before = p .before;
-      spare = search needs;
       room = record { whole = p .held .long; marks = search (needs, spots-is); stack = search (needs, spots-is); slots = search (needs, spots-is) };
       job = p .job;
       held = p .held;
@@ -32,7 +28,7 @@ same-length : tie.Need-same-length
 same-length c = search needs
 
 returns : tie.Need-returns
-returns c = untangled-freed (c .before .before .before .before .before .before .take-rings-out .ensures)
+returns c = untangled-freed (c .before .before .before .before .before .take-rings-out .ensures)
 
 pub untangle-spec : {M : Type 1} → statement M
 untangle-spec =
@@ -41,7 +37,6 @@ untangle-spec =
     slice-aggregate-take-rings-out
     slice-aggregate-take-rings-out-2
     slice-aggregate-take-rings-out-3
-    slice-aggregate-take-rings-out-4
     take-rings-out-requires
     same-length
     returns)

@@ -1,0 +1,2 @@
+-- loads along which wires go outward
+pub mod Outward

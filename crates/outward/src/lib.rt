@@ -1,0 +1,165 @@
+// Loads that lead outward, in which no loop stands: beside them only a link along which wires go inward, or round, is fresh. The array is parted into four
+// sectors, one for each rim; within a tile the way to the rim of its sector leads outward.
+ghost use mathlib.Core.Path.{_≡_};
+ghost use Prim.Native.Nat.{ℕ, _+_, _-_, _*_, _/_, _≤_, _<_};
+ghost use lib.Dec.{ltb};
+ghost use lib.ListN.{length, getD};
+ghost use Rattle.sums.specs.Counting.{when};
+ghost use Rattle.model.specs.Links.{compassCode};
+ghost use Rattle.outward.specs.Outward.{Parts, sector, oneWire, Outward, Put, lineHas, inset, parts};
+
+// The byte of one wire, along its link's positive way or against it.
+fn one_wire(forth: bool) -> u8
+    ensures { λ b. ⌜ b ≡ oneWire forth ⌝ }
+{
+    if forth { 1 } else { 33 }
+}
+
+// The load bytes from a to before b become one wire each.
+fn put(old: &mut [u8], a: usize, b: usize, forth: bool)
+    requires { ⌜ (32768 ≤ length (now old)) × (b ≤ 22400) ⌝ }
+    ensures { λ _. ⌜ Put (now (old .entry)) a b (λ i. forth) (now (old .exit)) ⌝ }
+{
+    let wire = one_wire(forth);
+    for i in a..b {
+        old[3968 + i] = wire;
+    }
+}
+
+// Those of the row r of the k-th plane, along their links' positive way in the columns where the line has x or y.
+fn put_row(old: &mut [u8], line: &[u8; 40], x: u8, y: u8, k: usize, r: usize)
+    requires { ⌜ (32768 ≤ length (now old)) × (k < 14) × (r < 40) ⌝ }
+    ensures { λ _. ⌜ Put (now (old .entry)) (1600 * k + 40 * r) (1600 * k + 40 * r + 40)
+        (lineHas (now (line .entry)) x y (1600 * k + 40 * r)) (now (old .exit)) ⌝ }
+{
+    let at = 3968 + 1600 * k + 40 * r;
+    for c in 0..40 {
+        old[at + c] = one_wire((line[c] == x) | (line[c] == y));
+    }
+}
+
+// How many columns of the row r belong to the western sector, of n rows of pins.
+fn inset_of(n: usize, r: usize) -> usize
+    requires { ⌜ (n < 256) × (r < 40) ⌝ }
+    ensures { λ x. ⌜ (x ≡ inset n r) × (x < 256) ⌝ }
+{
+    if r < n / 2 {
+        return r;
+    }
+    if n < r + 2 {
+        return 0;
+    }
+    n - 2 - r
+}
+
+// Where the eastern sector begins in a row whose western sector has so many of m columns.
+fn east_begin(m: usize, left: usize) -> usize
+    requires { ⌜ left < 1000 ⌝ }
+    ensures { λ x. ⌜ x ≡ m - 1 - left ⌝ }
+{
+    if m < left + 1 {
+        return 0;
+    }
+    m - 1 - left
+}
+
+// The sector of the tile (r, c), by its point of the compass: 0 to 3 for north, east, south, west.
+fn sector_of(r: usize, c: usize, row: usize, left: usize, right: usize) -> u8
+    ensures { λ b. ⌜ ((P : Parts) → row ≡ P .row → left ≡ P .left r → right ≡ P .right r → b ≡ compassCode (sector P r c)) ⌝ }
+{
+    if c < left {
+        return 3;
+    }
+    if right <= c {
+        return 1;
+    }
+    if r < row { 0 } else { 2 }
+}
+
+// Those of a row of tiles.
+fn row_sectors(r: usize, row: usize, left: usize, right: usize) -> [u8; 40]
+    ensures { λ a. ⌜ ((P : Parts) → row ≡ P .row → left ≡ P .left r → right ≡ P .right r
+        → (c : ℕ) → c < 40 → getD a c 0 ≡ compassCode (sector P r c)) ⌝ }
+{
+    let mut line = [0u8; 40];
+    for c in 0..40 {
+        line[c] = sector_of(r, c, row, left, right);
+    }
+    line
+}
+
+// 1 for a column east of the middle one, else 0.
+fn is_east(column: usize, c: usize) -> u8
+    ensures { λ b. ⌜ b ≡ when (ltb column c) 1 ⌝ }
+{
+    if column < c { 1 } else { 0 }
+}
+
+// The same of a row.
+fn east_of(column: usize) -> [u8; 40]
+    ensures { λ a. ⌜ ((c : ℕ) → c < 40 → getD a c 0 ≡ when (ltb column c) 1) ⌝ }
+{
+    let mut line = [0u8; 40];
+    for c in 0..40 {
+        line[c] = is_east(column, c);
+    }
+    line
+}
+
+// The corners of the tiles of the row r, beside the line of their sectors: each turns to the rim in two.
+fn put_corners(old: &mut [u8], line: &[u8; 40], r: usize)
+    requires { ⌜ (32768 ≤ length (now old)) × (r < 40) ⌝ }
+    ensures { λ _. ⌜ ((P : Parts) → ((c : ℕ) → c < 40 → getD (now (line .entry)) c 0 ≡ compassCode (sector P r c))
+        → Outward P (now (old .entry)) → Outward P (now (old .exit))) ⌝ }
+{
+    put_row(old, line, 1, 2, 2, r);
+    put_row(old, line, 2, 3, 3, r);
+    put_row(old, line, 3, 0, 4, r);
+    put_row(old, line, 0, 1, 5, r);
+}
+
+// Their spokes: each leads to the rim in one.
+fn put_spokes(old: &mut [u8], line: &[u8; 40], r: usize)
+    requires { ⌜ (32768 ≤ length (now old)) × (r < 40) ⌝ }
+    ensures { λ _. ⌜ ((P : Parts) → ((c : ℕ) → c < 40 → getD (now (line .entry)) c 0 ≡ compassCode (sector P r c))
+        → Outward P (now (old .entry)) → Outward P (now (old .exit))) ⌝ }
+{
+    put_row(old, line, 0, 0, 6, r);
+    put_row(old, line, 1, 1, 7, r);
+    put_row(old, line, 2, 2, 8, r);
+    put_row(old, line, 3, 3, 9, r);
+}
+
+// All links of the row r, beside a line that has 1 east of the middle column and 0 elsewhere.
+fn put_links(old: &mut [u8], east: &[u8; 40], rows: usize, columns: usize, r: usize)
+    requires { ⌜ (32768 ≤ length (now old)) × (r < 40) × (rows < 256) × (columns < 256)
+        × ((c : ℕ) → c < 40 → getD (now east) c 0 ≡ when (ltb (columns / 2) c) 1) ⌝ }
+    ensures { λ _. ⌜ (Outward (parts rows columns) (now (old .entry)) → Outward (parts rows columns) (now (old .exit))) ⌝ }
+{
+    let left = inset_of(rows, r);
+    let right = east_begin(columns, left);
+    put(old, 40 * r, 40 * r + 40, r <= rows / 2);
+    put_row(old, east, 1, 1, 1, r);
+    let line = row_sectors(r, rows / 2, left, right);
+    put_corners(old, &line, r);
+    put_spokes(old, &line, r);
+}
+
+// n, but no more than 40.
+fn up_to_40(n: usize) -> usize
+    ensures { λ x. ⌜ x ≤ 40 ⌝ }
+{
+    if n < 40 { n } else { 40 }
+}
+
+// One wire outward along the links of the rows of an array, beside loads of 0.
+pub fn lead_outward(old: &mut [u8], rows: usize, columns: usize)
+    requires { ⌜ (32768 ≤ length (now old)) × (rows < 256) × (columns < 256) × ((i : ℕ) → i < 32768 → getD (now old) i 0 ≡ 0) ⌝ }
+    ensures { λ _. ⌜ Outward (parts rows columns) (now (old .exit)) ⌝ }
+{
+    let east = east_of(columns / 2);
+    put(old, 16000, 22400, true);
+    for r in 0..up_to_40(rows) {
+        put_links(old, &east, rows, columns, r);
+    }
+}
