@@ -13,7 +13,7 @@ use lib.Dec.{T, eqb, leb, ltb}
 use lib.ListN.{length, getD, set, replicate, length-replicate, getD-replicate}
 use lib.Seq.{getD-set-same, getD-set-other}
 use Rattle.sums.specs.Counting.{when}
-use Rattle.sums.specs.Tests.{Same, same, other, same?, and-left, and-right, so, so-not}
+use Rattle.sums.specs.Tests.{Same, same, other, same?, and-left, and-right, so, so-not, below-or}
 use Rattle.model.specs.Links.{Compass, north, east, south, west, clockwise, compassCode}
 
 -- ---- the sectors
@@ -155,26 +155,42 @@ module _ (n r : ℕ) where
       by true e = absurd (so-not e)
       by false e = refl
 
+-- the number of the sector in the middle of a row
+pub record Middle (P : Parts) (r m : ℕ) : Type 0 where
+  pub upper : r < P .row → m ≡ 0
+  pub lower : P .row ≤ r → m ≡ 2
+
 -- the sector's number, by where a tile lies
 module _ (P : Parts) (r c : ℕ) where
-  pub in-west : c < P .left r → 3 ≡ compassCode (sector P r c)
+  in-west : c < P .left r → 3 ≡ compassCode (sector P r c)
   unfolding sector sectorBy
   in-west l = ap compassCode (sym (ap (λ (b : Bool). sectorBy b (ltb c (P .right r)) (ltb r (P .row))) (lt-ltb c (P .left r) l)))
 
-  pub in-east : P .left r ≤ c → P .right r ≤ c → 1 ≡ compassCode (sector P r c)
+  in-east : P .left r ≤ c → P .right r ≤ c → 1 ≡ compassCode (sector P r c)
   unfolding sector sectorBy
   in-east l m =
       ap compassCode (sym (λ i. sectorBy (le-ltb c (P .left r) l i) (le-ltb c (P .right r) m i) (ltb r (P .row))))
 
-  pub in-north : P .left r ≤ c → c < P .right r → r < P .row → 0 ≡ compassCode (sector P r c)
+  in-north : P .left r ≤ c → c < P .right r → r < P .row → 0 ≡ compassCode (sector P r c)
   unfolding sector sectorBy
   in-north l m n =
       ap compassCode (sym (λ i. sectorBy (le-ltb c (P .left r) l i) (lt-ltb c (P .right r) m i) (lt-ltb r (P .row) n i)))
 
-  pub in-south : P .left r ≤ c → c < P .right r → P .row ≤ r → 2 ≡ compassCode (sector P r c)
+  in-south : P .left r ≤ c → c < P .right r → P .row ≤ r → 2 ≡ compassCode (sector P r c)
   unfolding sector sectorBy
   in-south l m n =
       ap compassCode (sym (λ i. sectorBy (le-ltb c (P .left r) l i) (lt-ltb c (P .right r) m i) (le-ltb r (P .row) n i)))
+
+-- the same, as picked by two tests
+pub picked : (P : Parts) (r c m : ℕ) {x y : ℕ} → Middle P r m → (ltb c (P .left r) ≡ true → y ≡ 3) → (ltb c (P .left r) ≡ false → y ≡ x)
+    → (ltb c (P .right r) ≡ true → x ≡ m) → (ltb c (P .right r) ≡ false → x ≡ 1) → y ≡ compassCode (sector P r c)
+picked P r c m {x} {y} e first then-first second then-second = by (below-or c (P .left r)) (below-or c (P .right r)) (below-or r (P .row))
+  where
+    by : (c < P .left r) ⊎ (P .left r ≤ c) → (c < P .right r) ⊎ (P .right r ≤ c) → (r < P .row) ⊎ (P .row ≤ r) → y ≡ compassCode (sector P r c)
+    by (inl l) _ _ = first (lt-ltb c (P .left r) l) ∙ in-west P r c l
+    by (inr l) (inr h) _ = then-first (le-ltb c (P .left r) l) ∙ then-second (le-ltb c (P .right r) h) ∙ in-east P r c l h
+    by (inr l) (inl h) (inl n) = then-first (le-ltb c (P .left r) l) ∙ second (lt-ltb c (P .right r) h) ∙ e .upper n ∙ in-north P r c l h n
+    by (inr l) (inl h) (inr n) = then-first (le-ltb c (P .left r) l) ∙ second (lt-ltb c (P .right r) h) ∙ e .lower n ∙ in-south P r c l h n
 
 -- ---- a row of a plane, by a line of bytes
 
@@ -249,10 +265,11 @@ tiles-outward P line j r x y t l p e =
 -- ---- the rows of an array
 
 -- where a row is parted
-pub parts-at : (n m r x y : ℕ) → x ≡ inset n r → y ≡ m - 1 - x
-    → (n / 2 ≡ parts n m .row) × (x ≡ parts n m .left r) × (y ≡ parts n m .right r)
+pub parts-at : (n m r : ℕ) {x y z : ℕ} → x ≡ inset n r → y ≡ m - 1 - x → (ltb r (n / 2) ≡ true → z ≡ 0) → (ltb r (n / 2) ≡ false → z ≡ 2)
+    → (x ≡ parts n m .left r) × (y ≡ parts n m .right r) × Middle (parts n m) r z
 unfolding parts
-parts-at n m r x y e f = (refl, e, f ∙ ap (λ (z : ℕ). m - 1 - z) e)
+parts-at n m r e f u l =
+    (e, f ∙ ap (λ (z : ℕ). m - 1 - z) e, record { upper = λ h. u (lt-ltb r (n / 2) h); lower = λ h. l (le-ltb r (n / 2) h) })
 
 module _ {old new : List ℕ} (n m r : ℕ) (l : r < 40) where
   -- its northern sides

@@ -1,12 +1,13 @@
 // Loads that lead outward, in which no loop stands: beside them only a link along which wires go inward, or round, is fresh. The array is parted into four
 // sectors, one for each rim; within a tile the way to the rim of its sector leads outward.
 ghost use mathlib.Core.Path.{_≡_};
+ghost use mathlib.Core.Bool.{true, false};
 ghost use Prim.Native.Nat.{ℕ, _+_, _-_, _*_, _/_, _≤_, _<_};
 ghost use lib.Dec.{ltb};
 ghost use lib.ListN.{length, getD};
 ghost use Rattle.sums.specs.Counting.{when};
 ghost use Rattle.model.specs.Links.{compassCode};
-ghost use Rattle.outward.specs.Outward.{Parts, sector, oneWire, Outward, Put, lineHas, inset, parts};
+ghost use Rattle.outward.specs.Outward.{Parts, sector, Middle, oneWire, Outward, Put, lineHas, inset, parts};
 
 // The byte of one wire, along its link's positive way or against it.
 fn one_wire(forth: bool) -> u8
@@ -54,8 +55,8 @@ fn inset_of(n: usize, r: usize) -> usize
 
 // Where the eastern sector begins in a row whose western sector has so many of m columns.
 fn east_begin(m: usize, left: usize) -> usize
-    requires { ⌜ left < 1000 ⌝ }
-    ensures { λ x. ⌜ x ≡ m - 1 - left ⌝ }
+    requires { ⌜ left < 256 ⌝ }
+    ensures { λ x. ⌜ (x ≡ m - 1 - left) × (x ≤ m) ⌝ }
 {
     if m < left + 1 {
         return 0;
@@ -63,27 +64,40 @@ fn east_begin(m: usize, left: usize) -> usize
     m - 1 - left
 }
 
-// The sector of the tile (r, c), by its point of the compass: 0 to 3 for north, east, south, west.
-fn sector_of(r: usize, c: usize, row: usize, left: usize, right: usize) -> u8
-    ensures { λ b. ⌜ ((P : Parts) → row ≡ P .row → left ≡ P .left r → right ≡ P .right r → b ≡ compassCode (sector P r c)) ⌝ }
+// x where the test holds, else y.
+fn pick(test: bool, x: u8, y: u8) -> u8
+    ensures { λ b. ⌜ (test ≡ true → b ≡ x) × (test ≡ false → b ≡ y) ⌝ }
 {
-    if c < left {
-        return 3;
-    }
-    if right <= c {
-        return 1;
-    }
-    if r < row { 0 } else { 2 }
+    if test { x } else { y }
 }
 
-// Those of a row of tiles.
-fn row_sectors(r: usize, row: usize, left: usize, right: usize) -> [u8; 40]
-    ensures { λ a. ⌜ ((P : Parts) → row ≡ P .row → left ≡ P .left r → right ≡ P .right r
+// The sector of the tile in the column c, by its point of the compass: 0 to 3 for north, east, south, west. That of the middle columns is given.
+fn sector_of(c: u8, middle: u8, left: u8, right: u8) -> u8
+    ensures { λ b. ⌜ ((P : Parts) (r : ℕ) → left ≡ P .left r → right ≡ P .right r → Middle P r middle → b ≡ compassCode (sector P r c)) ⌝ }
+{
+    pick(c < left, 3, pick(c < right, middle, 1))
+}
+
+// Those of a row of tiles, beside the numbers of its columns. Nothing is wider than a byte, so that the loop can be made one of vectors.
+fn row_sectors(numbers: &[u8; 40], middle: u8, left: u8, right: u8) -> [u8; 40]
+    requires { ⌜ ((c : ℕ) → c < 40 → getD (now numbers) c 0 ≡ c) ⌝ }
+    ensures { λ a. ⌜ ((P : Parts) (r : ℕ) → left ≡ P .left r → right ≡ P .right r → Middle P r middle
         → (c : ℕ) → c < 40 → getD a c 0 ≡ compassCode (sector P r c)) ⌝ }
 {
     let mut line = [0u8; 40];
     for c in 0..40 {
-        line[c] = sector_of(r, c, row, left, right);
+        line[c] = sector_of(numbers[c], middle, left, right);
+    }
+    line
+}
+
+// The numbers of the columns.
+fn count_up() -> [u8; 40]
+    ensures { λ a. ⌜ ((c : ℕ) → c < 40 → getD a c 0 ≡ c) ⌝ }
+{
+    let mut line = [0u8; 40];
+    for c in 0..40 {
+        line[c] = c as u8;
     }
     line
 }
@@ -130,9 +144,16 @@ fn put_spokes(old: &mut [u8], line: &[u8; 40], r: usize)
     put_row(old, line, 3, 3, 9, r);
 }
 
-// All links of the row r, beside a line that has 1 east of the middle column and 0 elsewhere.
-fn put_links(old: &mut [u8], east: &[u8; 40], rows: usize, columns: usize, r: usize)
-    requires { ⌜ (32768 ≤ length (now old)) × (r < 40) × (rows < 256) × (columns < 256)
+// All links of the row r, beside the numbers of its columns, and a line that has 1 east of the middle column and 0 elsewhere.
+fn put_links(
+    old: &mut [u8],
+    numbers: &[u8; 40],
+    east: &[u8; 40],
+    rows: usize,
+    columns: usize,
+    r: usize,
+)
+    requires { ⌜ (32768 ≤ length (now old)) × (r < 40) × (rows < 256) × (columns < 256) × ((c : ℕ) → c < 40 → getD (now numbers) c 0 ≡ c)
         × ((c : ℕ) → c < 40 → getD (now east) c 0 ≡ when (ltb (columns / 2) c) 1) ⌝ }
     ensures { λ _. ⌜ (Outward (parts rows columns) (now (old .entry)) → Outward (parts rows columns) (now (old .exit))) ⌝ }
 {
@@ -140,7 +161,7 @@ fn put_links(old: &mut [u8], east: &[u8; 40], rows: usize, columns: usize, r: us
     let right = east_begin(columns, left);
     put(old, 40 * r, 40 * r + 40, r <= rows / 2);
     put_row(old, east, 1, 1, 1, r);
-    let line = row_sectors(r, rows / 2, left, right);
+    let line = row_sectors(numbers, pick(r < rows / 2, 0, 2), left as u8, right as u8);
     put_corners(old, &line, r);
     put_spokes(old, &line, r);
 }
@@ -157,9 +178,10 @@ pub fn lead_outward(old: &mut [u8], rows: usize, columns: usize)
     requires { ⌜ (32768 ≤ length (now old)) × (rows < 256) × (columns < 256) × ((i : ℕ) → i < 32768 → getD (now old) i 0 ≡ 0) ⌝ }
     ensures { λ _. ⌜ Outward (parts rows columns) (now (old .exit)) ⌝ }
 {
+    let numbers = count_up();
     let east = east_of(columns / 2);
     put(old, 16000, 22400, true);
     for r in 0..up_to_40(rows) {
-        put_links(old, &east, rows, columns, r);
+        put_links(old, &numbers, &east, rows, columns, r);
     }
 }

@@ -26,6 +26,15 @@ put-requires c κs = search needs
 put-row-requires : tie.Need-put-row-requires
 put-row-requires c κs = search needs
 
+pick-requires : tie.Need-pick-requires
+pick-requires c κs = search needs
+
+cast-row-sectors : tie.Need-cast-row-sectors
+cast-row-sectors c = search needs
+
+cast-row-sectors-2 : tie.Need-cast-row-sectors-2
+cast-row-sectors-2 c = search needs
+
 row-sectors-requires : tie.Need-row-sectors-requires
 row-sectors-requires c κs = search needs
 
@@ -40,16 +49,17 @@ same-length c = search needs
 
 returns : tie.Need-returns
 returns c o =
-    let s = c .before .before .before .before .before .before .before .before .before .before .before .before .before .before .before .before .before .before .before .before .before .before in
+    let s = c .before .before .before .before .before .before .before .before .before .before .before .before .before .before .before .before .before .before .before .before .before .before .before in
     let n = s .args .rows in
     let m = s .args .columns in
     let r = s .args .r in
-    let (_, l, _, _, e) = s .pre in
-    let (h, x, y) = parts-at n m r _ _ (c .before .before .before .before .before .before .before .before .before .before .before .before .before .before .before .before .before .before .before .before .inset-of .ensures .0) (c .before .before .before .before .before .before .before .before .before .before .before .before .before .before .before .before .before .before .before .east-begin .ensures) in
-    let line = c .before .before .before .before .before .before .before .before .before .before .row-sectors .ensures (parts n m) h x y in
+    let (_, l, _, _, _, e) = s .pre in
+    let (u, d) = c .before .before .before .before .before .before .before .before .before .before .before .pick .ensures in
+    let (x, y, z) = parts-at n m r (c .before .before .before .before .before .before .before .before .before .before .before .before .before .before .before .before .before .before .before .before .before .inset-of .ensures .0) (c .before .before .before .before .before .before .before .before .before .before .before .before .before .before .before .before .before .before .before .before .east-begin .ensures .0) u d in
+    let line = c .before .before .before .before .before .before .before .before .before .before .row-sectors .ensures (parts n m) r x y z in
     c .before .before .put-spokes .ensures (parts n m) line
     (c .before .before .before .before .before .before .before .put-corners .ensures (parts n m) line
-    (east-outward n m r l (s .args .east .now) (c .before .before .before .before .before .before .before .before .before .before .before .before .before .put-row .ensures) e (north-outward n m r l (c .before .before .before .before .before .before .before .before .before .before .before .before .before .before .before .before .before .put .ensures) refl o)))
+    (east-outward n m r l (s .args .east .now) (c .before .before .before .before .before .before .before .before .before .before .before .before .before .before .put-row .ensures) e (north-outward n m r l (c .before .before .before .before .before .before .before .before .before .before .before .before .before .before .before .before .before .before .put .ensures) refl o)))
 
 pub put-links-spec : {M : Type 1} → statement M
 put-links-spec =
@@ -62,6 +72,9 @@ put-links-spec =
     add-put
     put-requires
     put-row-requires
+    pick-requires
+    cast-row-sectors
+    cast-row-sectors-2
     row-sectors-requires
     put-corners-requires
     put-spokes-requires
