@@ -23,14 +23,12 @@ use Rattle.wire.specs.Held.{sound-holds}
 use Rattle.channel.specs.Map.{spots}
 use Rattle.channel.specs.Map.Starts.{wanted-pin}
 use Rattle.augment.specs.OneMore.{OneMore, wires-more, pin-gains, pin-keeps}
-use Rattle.augment.specs.Pins.{Held, Unwired, AnySpot, Answered, laid, nothing}
+use Rattle.augment.specs.Pins.{Held, Unwired}
 use Rattle.augment.specs.Passing.{array-size, chosen-within}
 use Rattle.search.specs.Loose.{Loosened}
 use Rattle.search.specs.Fill.{Cleared, Saturated}
-use Rattle.search.specs.Filling.{cleared-none, saturated-greatest}
+use Rattle.search.specs.Filling.{saturated-greatest}
 use Rattle.search.specs.Copies.{front, front-load, front-held, new-length, put-job, put-wired, put-wires, put-legal}
-use Rattle.search.specs.Outcome.{Extended, one, none}
-use Rattle.augment.specs.declared.next.Next.{Next}
 
 zeros-at : (n u : ℕ) → _≡_ {A = ℕ} (getD (replicate n 0) u 0) 0
 zeros-at zero u = refl
@@ -40,12 +38,6 @@ zeros-at (suc n) (suc u) = zeros-at n u
 -- marks that begin at 0 are cleared
 pub zeros-cleared : (n : ℕ) → Cleared (replicate n 0)
 zeros-cleared n = record { all = λ u l. zeros-at n u }
-
--- what the search for the next wire leaves, if nothing was marked when it began
-pub answered-extended : {J : Job} {rec t rec′ t′ : List ℕ} {y : Next} → Cleared t → Answered J AnySpot rec t rec′ t′ y → Extended J rec rec′ y
-answered-extended c (laid l h M D) = one l h M
-answered-extended {t′ = t′} c (nothing q p) =
-    none q t′ (record { dead = p .dead; unwired = p .shut; reached = p .reached (λ x m. absurd (cleared-none c x m)) })
 
 -- taking loops out takes no wire
 pub loose-one : {J : Job} {rec rec′ rec″ : List ℕ} {u : ℕ} → OneMore J rec rec′ u → Loosened J rec′ rec″ → OneMore J rec rec″ u

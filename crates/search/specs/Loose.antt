@@ -8,7 +8,7 @@ use Rattle.model.specs.Loads.{Feasible, Sound}
 use Rattle.model.specs.Record.{load}
 use Rattle.channel.specs.Map.{spots, darts, view, starts}
 use Rattle.augment.specs.Laid.{BytesFit, SameButLoads}
-use Rattle.audit.specs.Loops.{Room, Settled}
+use Rattle.audit.specs.Loops.{Room}
 use Rattle.augment.specs.Pins.{Held}
 
 -- rec′ has the wires of rec's pins, and no more load anywhere
@@ -30,17 +30,6 @@ pub record Ringed (rec st sl : List ℕ) (n : ℕ) : Type 0 where
 pub record Tangled (old rec fin st sl : List ℕ) : Type 0 where
   pub before : 32768 ≤ length old
   pub room : Room rec fin st sl
-  pub job : Job
-  pub held : Held job rec
-
--- for every job of which the loads are feasible they still are, with the same starts; and loaded darts behind fresh links fall along fin
-pub record Untangled (old rec rec′ fin : List ℕ) : Type 0 where
-  pub loose : (J : Job) → Held J rec → Loosened J rec rec′
-  pub settled : Settled old rec′ fin
-
--- the old loads are there, and the loads are those of some job
-pub record Laden (old rec : List ℕ) : Type 0 where
-  pub before : 32768 ≤ length old
   pub job : Job
   pub held : Held job rec
 

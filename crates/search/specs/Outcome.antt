@@ -1,27 +1,15 @@
 -- What laying one wire more, and laying all, leave of a record: the contracts of the functions that operations call. Assumes nothing.
 use mathlib.Core.Path.{_≡_}
 use mathlib.Core.List.{List}
-use Prim.Native.Nat.{ℕ, _-_, _<_}
+use Prim.Native.Nat.{ℕ, _-_}
 use lib.Dec.{T}
 use lib.ListN.{length}
-use Rattle.model.specs.Job.{Job}
 use Rattle.model.specs.Route.{chosenCount, Greatest}
 use Rattle.model.specs.Record.{recordSize, jobOf, Legal, over}
 use Rattle.model.specs.Calls as calls
 use Rattle.model.specs.Calls.{wiredIn, wiresIn, Shown}
-use Rattle.channel.specs.Map.{spots}
-use Rattle.augment.specs.OneMore.{OneMore}
-use Rattle.augment.specs.Pins.{Unwired}
-use Rattle.search.specs.Fill.{Saturated}
-use Rattle.augment.specs.declared.next.Next.{Next}
-use Rattle.augment.specs.declared.next.Next.the-variants.{Laid, Nothing}
 use Rattle.search.specs.declared.step.Progress.{Progress}
 use Rattle.search.specs.declared.step.Progress.the-variants.{Added, Full}
-
--- one wire more in the loads, from the spot u; or none fits
-pub data Extended (J : Job) (rec rec′ : List ℕ) : Next → Type 0 where
-  one : {u : ℕ} → u < spots → Unwired J rec u → OneMore J rec rec′ u → Extended J rec rec′ (Laid u)
-  none : rec′ ≡ rec → (t : List ℕ) → Saturated J rec t → Extended J rec rec′ Nothing
 
 -- "one more pin wired, those wired stay wired"; or no byte is changed, and the record has the greatest number of wires
 pub data StepDid (rec rec′ : List ℕ) : Progress → Type 0 where

@@ -19,7 +19,7 @@ use Rattle.augment.specs.Laid.{laidAll, laid-last}
 use Rattle.search.specs.Unlooped.{Lighter, takes-out}
 use Rattle.audit.specs.Loops.{ringDarts, Closed, Settled, Answer, free, ring}
 use Rattle.augment.specs.Pins.{Held}
-use Rattle.search.specs.Loose.{Loosened, Untangled, Freed}
+use Rattle.search.specs.Loose.{Loosened, Freed}
 use Rattle.audit.specs.declared.loops.Found.{Found}
 use Rattle.audit.specs.declared.loops.Found.the-variants.{Free, Ring}
 
@@ -110,13 +110,13 @@ loose-wires {J} {rec} {rec′} H L =
     )
 
 -- loads that fall along an order behind fresh links have no loop that is new
-pub untangled-freed : {old rec rec′ fin : List ℕ} → Untangled old rec rec′ fin → Freed old rec rec′
-untangled-freed {old} {rec} {rec′} {fin} U =
+pub settled-freed : {old rec rec′ fin : List ℕ} → ((J : Job) → Held J rec → Loosened J rec rec′) → Settled old rec′ fin → Freed old rec rec′
+settled-freed {old} {rec} {rec′} {fin} L F =
     record {
-      loose = U .loose;
+      loose = L;
       sound = λ J H S.
-          let f = U .loose J H .feasible in
-          record { feasible = f; loops = fresh-loops J (H .fits) old rec′ f (λ u. getD fin u 0) (U .settled .falls) (U .settled .fresh) (λ x s ss t. S .loops x s ss) };
+          let f = L J H .feasible in
+          record { feasible = f; loops = fresh-loops J (H .fits) old rec′ f (λ u. getD fin u 0) (F .falls) (F .fresh) (λ x s ss t. S .loops x s ss) };
     }
 
 -- ---- what a caller reads off the finder's answer

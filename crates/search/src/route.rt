@@ -9,25 +9,13 @@ ghost use Rattle.model.specs.Calls.{wiresIn, nearBytes};
 ghost use Rattle.channel.specs.Map.{spots, want, starts};
 ghost use Rattle.augment.specs.Marks.{marked};
 ghost use Rattle.augment.specs.Steps.{Whole};
-ghost use Rattle.augment.specs.Pins.{Held};
-ghost use Rattle.search.specs.Fill.{Filled, unwiredCount};
+ghost use Rattle.search.specs.Fill.{unwiredCount};
 ghost use Rattle.search.specs.Outcome.{RoutedAll, Lacks};
 use crate::copy::copy;
 use crate::fill::fill;
 use crate::untangle::untangle;
 use channel::is_start;
 use channel::wire_starts;
-
-// All wires that fit, in the loads; at the end the marked spots are those that moves reach from the unwired pins.
-fn lay_all(job: &[u8], loads: &mut [u8], marks: &mut [u8])
-    requires { ⌜ Whole (now job) (now loads) × (spots ≤ length (now marks)) × Held (jobOf (now job)) (now loads) ⌝ }
-    ensures { λ _. ⌜ Filled (jobOf (now (job .entry))) (now (loads .entry)) (now (loads .exit)) (now (marks .exit)) ⌝ }
-{
-    let mut queue = [0u16; 13128];
-    let mut parent = [0u16; 13128];
-    let mut slot = [0u8; 13128];
-    fill(job, loads, marks, &mut queue, &mut parent, &mut slot);
-}
 
 // 1 where a wire is wanted at the spot and none starts there, else 0.
 fn lacks(job: &[u8], loads: &[u8], u: usize) -> usize
@@ -92,10 +80,13 @@ fn fill_copy(rec: &[u8], loads: &mut [u8], near: &mut [u8]) -> usize
     requires { ⌜ Legal (now rec) × (length (now loads) ≡ recordSize) × (recordSize ≤ length (now near)) ⌝ }
     ensures { λ k. ⌜ RoutedAll (now (rec .entry)) (over (take recordSize (now (loads .exit))) (now (rec .entry))) (now (near .entry)) (now (near .exit)) k ⌝ }
 {
-    let mut marks = [0u8; 13128];
     copy(rec, loads);
-    lay_all(rec, loads, &mut marks);
-    untangle(rec, loads);
+    let mut marks = [0u8; 13128];
+    let mut queue = [0u16; 13128];
+    let mut parent = [0u16; 13128];
+    let mut slot = [0u8; 13128];
+    fill(rec, loads, &mut marks, &mut queue, &mut parent, &mut slot);
+    untangle(rec, loads, &mut queue, &mut parent, &mut slot);
     let k = unwired(rec, loads);
     if k == 0 {
         return 0;

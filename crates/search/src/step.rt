@@ -1,8 +1,6 @@
 // Step: one wire more, if one fits. It works on a copy of the record, so that a record that takes no wire more is not touched.
-ghost use Rattle.model.specs.Record.{jobOf, Legal};
-ghost use Rattle.augment.specs.Steps.{Whole};
-ghost use Rattle.augment.specs.Pins.{Held};
-ghost use Rattle.search.specs.Outcome.{Extended, StepDid};
+ghost use Rattle.model.specs.Record.{Legal};
+ghost use Rattle.search.specs.Outcome.{StepDid};
 use crate::copy::copy;
 use crate::untangle::untangle;
 use augment::next::Next;
@@ -14,18 +12,6 @@ pub enum Progress {
     Full,
 }
 
-// One wire more in the loads, if one fits.
-fn extend(job: &[u8], loads: &mut [u8]) -> Next
-    requires { ⌜ Whole (now job) (now loads) × Held (jobOf (now job)) (now loads) ⌝ }
-    ensures { λ y. ⌜ Extended (jobOf (now (job .entry))) (now (loads .entry)) (now (loads .exit)) y ⌝ }
-{
-    let mut marks = [0u8; 13128];
-    let mut queue = [0u16; 13128];
-    let mut parent = [0u16; 13128];
-    let mut slot = [0u8; 13128];
-    next_wire(job, loads, &mut marks, &mut queue, &mut parent, &mut slot)
-}
-
 // One wire more in the record, if one fits.
 pub fn step(rec: &mut [u8]) -> Progress
     requires { ⌜ Legal (now rec) ⌝ }
@@ -33,9 +19,20 @@ pub fn step(rec: &mut [u8]) -> Progress
 {
     let mut loads = [0u8; 32768];
     copy(rec, &mut loads);
-    match extend(rec, &mut loads) {
+    let mut marks = [0u8; 13128];
+    let mut queue = [0u16; 13128];
+    let mut parent = [0u16; 13128];
+    let mut slot = [0u8; 13128];
+    match next_wire(
+        rec,
+        &mut loads,
+        &mut marks,
+        &mut queue,
+        &mut parent,
+        &mut slot,
+    ) {
         Next::Laid(_) => {
-            untangle(rec, &mut loads);
+            untangle(rec, &mut loads, &mut queue, &mut parent, &mut slot);
             copy(&loads, rec);
             Progress::Added
         }

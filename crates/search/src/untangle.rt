@@ -6,7 +6,7 @@ ghost use Prim.Native.Nat.{_-_, _≤_};
 ghost use Rattle.channel.specs.Map.{rev};
 ghost use Rattle.augment.specs.Laid.{laidAll};
 ghost use Rattle.audit.specs.Loops.{ringDarts};
-ghost use Rattle.search.specs.Loose.{Ringed, Tangled, Untangled, Laden, Freed};
+ghost use Rattle.search.specs.Loose.{Ringed, Tangled, Freed};
 use audit::loops::Found;
 use audit::loops::find;
 use channel::lay;
@@ -26,10 +26,10 @@ fn take_out(loads: &mut [u8], st: &[u16], sl: &[u8], j: usize, n: usize)
     }
 }
 
-// Every ring.
-fn take_rings_out(old: &[u8], loads: &mut [u8], fin: &mut [u16], st: &mut [u16], sl: &mut [u8])
+// No loop stands any more, if none stands in the old loads. It works on what is lent to it.
+pub fn untangle(old: &[u8], loads: &mut [u8], fin: &mut [u16], st: &mut [u16], sl: &mut [u8])
     requires { ⌜ Tangled (now old) (now loads) (now fin) (now st) (now sl) ⌝ }
-    ensures { λ _. ⌜ Untangled (now (old .entry)) (now (loads .entry)) (now (loads .exit)) (now (fin .exit)) ⌝ }
+    ensures { λ _. ⌜ Freed (now (old .entry)) (now (loads .entry)) (now (loads .exit)) ⌝ }
 {
     loop {
         match find(loads, old, fin, st, sl) {
@@ -41,15 +41,4 @@ fn take_rings_out(old: &[u8], loads: &mut [u8], fin: &mut [u16], st: &mut [u16],
             }
         }
     }
-}
-
-// No loop stands any more, if none stands in the old loads.
-pub fn untangle(old: &[u8], loads: &mut [u8])
-    requires { ⌜ Laden (now old) (now loads) ⌝ }
-    ensures { λ _. ⌜ Freed (now (old .entry)) (now (loads .entry)) (now (loads .exit)) ⌝ }
-{
-    let mut fin = [0u16; 13128];
-    let mut st = [0u16; 13128];
-    let mut sl = [0u8; 13128];
-    take_rings_out(old, loads, &mut fin, &mut st, &mut sl);
 }

@@ -1,6 +1,9 @@
--- `step::step` meets its contract. Assumes nothing.
+-- `step::step` meets its contract: what the search for a wire worked on is lent to the untangling. Assumes nothing.
 use borrow.Author.Needs.{needs}
-use Rattle.search.specs.Stepping.{copied-held, extended-held, step-full, step-added}
+use Rattle.channel.specs.Map.Numbers.{spots-is}
+use Rattle.search.specs.Filling.{cleared-dead}
+use Rattle.search.specs.Added.{zeros-cleared}
+use Rattle.search.specs.Stepping.{copied-held, laid-held, step-full, step-added}
 use Rattle.search.proofs.step.step.Statement.{statement}
 use Rattle.search.proofs.step.step.Tie as tie
 
@@ -10,11 +13,29 @@ slice-aggregate-copy c = search needs
 copy-requires : tie.Need-copy-requires
 copy-requires c κs = search needs
 
-slice-aggregate-extend : tie.Need-slice-aggregate-extend
-slice-aggregate-extend c = search needs
+slice-aggregate-next-wire : tie.Need-slice-aggregate-next-wire
+slice-aggregate-next-wire c = search needs
 
-extend-requires : tie.Need-extend-requires
-extend-requires c κs = (record { asked = search needs; loads = search needs }, copied-held (c .before .before .before .before .before .before .before .pre) (c .before .before .before .copy .ensures))
+slice-aggregate-next-wire-2 : tie.Need-slice-aggregate-next-wire-2
+slice-aggregate-next-wire-2 c = search needs
+
+slice-aggregate-next-wire-3 : tie.Need-slice-aggregate-next-wire-3
+slice-aggregate-next-wire-3 c = search needs
+
+slice-aggregate-next-wire-4 : tie.Need-slice-aggregate-next-wire-4
+slice-aggregate-next-wire-4 c = search needs
+
+slice-aggregate-next-wire-5 : tie.Need-slice-aggregate-next-wire-5
+slice-aggregate-next-wire-5 c = search needs
+
+next-wire-requires : tie.Need-next-wire-requires
+next-wire-requires c κs =
+    let c7 = c .before .before .before .before .before .before .before in (
+      record { asked = search needs; loads = search needs },
+      record { marks = search (needs, spots-is); queue = search (needs, spots-is); parents = search (needs, spots-is); slots = search (needs, spots-is) },
+      copied-held (c7 .before .before .before .before .pre) (c7 .copy .ensures),
+      cleared-dead (zeros-cleared 13128),
+    )
 
 enum-told : tie.Need-enum-told
 enum-told c = search needs
@@ -22,14 +43,25 @@ enum-told c = search needs
 slice-aggregate-untangle : tie.Need-slice-aggregate-untangle
 slice-aggregate-untangle c = search needs
 
+slice-aggregate-untangle-2 : tie.Need-slice-aggregate-untangle-2
+slice-aggregate-untangle-2 c = search needs
+
+slice-aggregate-untangle-3 : tie.Need-slice-aggregate-untangle-3
+slice-aggregate-untangle-3 c = search needs
+
+slice-aggregate-untangle-4 : tie.Need-slice-aggregate-untangle-4
+slice-aggregate-untangle-4 c = search needs
+
 untangle-requires : tie.Need-untangle-requires
 untangle-requires c κs =
     let c5 = c .before .before .before .before .before in
-    let c9 = c5 .before .before .before .before in
+    let c12 = c5 .before .before .before .before .before .before .before in
+    let c20 = c12 .before .before .before .before .before .before .before .before in
     record {
       before = search needs;
+      room = record { whole = search needs; marks = search (needs, spots-is); stack = search (needs, spots-is); slots = search (needs, spots-is) };
       job = _;
-      held = extended-held (c9 .before .before .before .before .pre) (c9 .copy .ensures) (c5 .extend .ensures) (c .before .before .enum-told .given .1);
+      held = laid-held (c20 .before .before .before .before .pre) (c20 .copy .ensures) (c12 .next-wire .ensures) (c5 .enum-told .given .1);
     }
 
 slice-aggregate-copy-2 : tie.Need-slice-aggregate-copy-2
@@ -46,17 +78,21 @@ same-length c = search needs
 
 returns : tie.Need-returns
 returns c =
-    let c6 = c .before .before .before .before .before .before in
-    let c12 = c6 .before .before .before .before .before .before in
-    let c16 = c12 .before .before .before .before in
-    step-added (c16 .before .before .before .before .pre) (c16 .copy .ensures) (c12 .extend .ensures) (c6 .before .before .before .enum-told .given .1) (c6 .untangle .ensures)
+    let c9 = c .before .before .before .before .before .before .before .before .before in
+    let c15 = c9 .before .before .before .before .before .before in
+    let c22 = c15 .before .before .before .before .before .before .before in
+    let c30 = c22 .before .before .before .before .before .before .before .before in
+    step-added (c30 .before .before .before .before .pre) (c30 .copy .ensures) (c22 .next-wire .ensures) (c15 .enum-told .given .1) (c9 .untangle .ensures)
     (c .before .before .copy2 .ensures)
 
 same-length-2 : tie.Need-same-length-2
 same-length-2 c = search needs
 
 returns-2 : tie.Need-returns-2
-returns-2 c = step-full (c .before .before .before .before .before .before .before .before .before .before .before .pre) (c .before .before .before .before .before .before .before .copy .ensures) (c .before .before .before .extend .ensures) (c .enum-told2 .given .1)
+returns-2 c =
+    let c7 = c .before .before .before .before .before .before .before in
+    let c15 = c7 .before .before .before .before .before .before .before .before in
+    step-full (c15 .before .before .before .before .pre) (c15 .copy .ensures) (c7 .next-wire .ensures) (zeros-cleared 13128) (c .enum-told2 .given .1)
 
 pub step-spec : {M : Type 1} → statement M
 step-spec =
@@ -64,10 +100,17 @@ step-spec =
     (tie.spec
     slice-aggregate-copy
     copy-requires
-    slice-aggregate-extend
-    extend-requires
+    slice-aggregate-next-wire
+    slice-aggregate-next-wire-2
+    slice-aggregate-next-wire-3
+    slice-aggregate-next-wire-4
+    slice-aggregate-next-wire-5
+    next-wire-requires
     enum-told
     slice-aggregate-untangle
+    slice-aggregate-untangle-2
+    slice-aggregate-untangle-3
+    slice-aggregate-untangle-4
     untangle-requires
     slice-aggregate-copy-2
     copy-requires-2

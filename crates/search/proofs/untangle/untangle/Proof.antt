@@ -1,42 +1,119 @@
--- `untangle::untangle` meets its contract: loads that fall along an order of the spots behind fresh links have no new loop. Assumes nothing.
+-- `untangle::untangle` meets its contract: each ring that is taken out leaves less load in all, and where none is found behind the fresh links, none is new.
+-- Assumes nothing.
 use borrow.Author.Needs.{needs}
-use Rattle.channel.specs.Map.Numbers.{spots-is}
-use Rattle.search.specs.Rings.{untangled-freed}
+use mathlib.Core.Path.{_≡_, refl, _∙_}
+use native.Mathlib.Omega.{arith}
+use lib.ListN.{length}
+use Rattle.model.specs.Job.{Job}
+use Rattle.search.specs.Unlooped.{totalLoad}
+use Rattle.augment.specs.Pins.{Held}
+use Rattle.search.specs.Loose.{Loosened}
+use Rattle.search.specs.Rings.{ring-out, loose-none, loose-held, loose-more, settled-freed, found-free, found-ring}
 use Rattle.search.proofs.untangle.untangle.Statement.{statement}
 use Rattle.search.proofs.untangle.untangle.Tie as tie
 
-slice-aggregate-take-rings-out : tie.Need-slice-aggregate-take-rings-out
-slice-aggregate-take-rings-out c = search needs
+abbrev Inv-loop : tie.InvT-loop
+Inv-loop old loads₀ fin₀ st₀ sl₀ loads fin st sl =
+    (length loads ≡ length loads₀) × (length fin ≡ length fin₀) × (length st ≡ length st₀) × (length sl ≡ length sl₀)
+    × ((J : Job) → Held J loads₀ → Loosened J loads₀ loads)
 
-slice-aggregate-take-rings-out-2 : tie.Need-slice-aggregate-take-rings-out-2
-slice-aggregate-take-rings-out-2 c = search needs
+abbrev μ-loop : tie.MeasureT-loop
+μ-loop old loads₀ fin₀ st₀ sl₀ loads fin st sl = totalLoad loads
 
-slice-aggregate-take-rings-out-3 : tie.Need-slice-aggregate-take-rings-out-3
-slice-aggregate-take-rings-out-3 c = search needs
+loop-holds : tie.Need-loop-holds Inv-loop μ-loop
+loop-holds c = (refl, refl, refl, refl, λ J H. loose-none H)
 
-take-rings-out-requires : tie.Need-take-rings-out-requires
-take-rings-out-requires c κs =
-    let p = c .before .before .before .before .before .before .pre in
-    record {
-      before = p .before;
-      room = record { whole = p .held .long; marks = search (needs, spots-is); stack = search (needs, spots-is); slots = search (needs, spots-is) };
-      job = p .job;
-      held = p .held;
-    }
+find-requires : tie.Need-find-requires Inv-loop μ-loop
+find-requires c κs =
+    let o = c .before .before .before .before in
+    let l = o .loop .inv in
+    let p = o .before .before .before .before .before .before .pre in
+    let r = p .room in (
+      record {
+        whole = omega (arith, l .0, r .whole);
+        marks = omega (arith, l .1, r .marks);
+        stack = omega (arith, l .2, r .stack);
+        slots = omega (arith, l .3, r .slots);
+      },
+      p .before,
+    )
 
-same-length : tie.Need-same-length
-same-length c = search needs
+enum-told : tie.Need-enum-told Inv-loop μ-loop
+enum-told c = search needs
 
-returns : tie.Need-returns
-returns c = untangled-freed (c .before .before .before .before .before .take-rings-out .ensures)
+same-length : tie.Need-same-length Inv-loop μ-loop
+same-length c = c .before .before .before .before .before .before .before .before .before .before .before .before .before .loop .inv .0
+
+same-length-2 : tie.Need-same-length-2 Inv-loop μ-loop
+same-length-2 c = c .before .before .before .before .before .before .before .before .find .kept .1 .1 .0 ∙ c .before .before .before .before .before .before .before .before .before .before .before .before .before .loop .inv .1
+
+same-length-3 : tie.Need-same-length-3 Inv-loop μ-loop
+same-length-3 c = c .before .before .before .before .before .before .before .before .find .kept .1 .1 .1 .0 ∙ c .before .before .before .before .before .before .before .before .before .before .before .before .before .loop .inv .2
+
+same-length-4 : tie.Need-same-length-4 Inv-loop μ-loop
+same-length-4 c = c .before .before .before .before .before .before .before .before .find .kept .1 .1 .1 .1 .0 ∙ c .before .before .before .before .before .before .before .before .before .before .before .before .before .loop .inv .3
+
+returns : tie.Need-returns Inv-loop μ-loop
+returns c =
+    let f = c .before .before .before .before .before .before .before .before in
+    settled-freed (f .before .before .before .before .before .loop .inv .4) (found-free (f .find .ensures) (c .enum-told .given .1))
+
+enum-known-j : tie.Need-enum-known-j Inv-loop μ-loop
+enum-known-j c = search needs
+
+take-out-requires : tie.Need-take-out-requires Inv-loop μ-loop
+take-out-requires c κs =
+    let f = c .before .before .before .before .before .before .before .before .before .before .before .before in
+    let o = f .before .before .before .before .before in
+    let C = found-ring (f .find .ensures) (c .before .before .before .before .j .given .1) in
+    let l = o .loop .inv in
+    let k = f .find .kept .1 .1 .1 in
+    let r = o .before .before .before .before .before .before .pre .room in (
+      record {
+        whole = omega (arith, l .0, r .whole);
+        stack = omega (arith, C .within, k .0, l .2, r .stack);
+        slots = omega (arith, C .within, k .1 .0, l .3, r .slots);
+        darts< = C .darts<;
+      },
+      omega (arith, C .any),
+    )
+
+loop-less : tie.Need-loop-less Inv-loop μ-loop
+loop-less c =
+    let f = c .before .before .before .before .before .before .before .before .before .before .before .before .before .before .before in
+    let o = f .before .before .before .before .before in
+    let p = o .before .before .before .before .before .before .pre in
+    let C = found-ring (f .find .ensures) (c .before .before .before .before .before .before .before .j .given .1) in
+    ring-out (loose-held (p .held) (o .loop .inv .4 (p .job) (p .held))) C (c .before .before .take-out .ensures) .falls
+
+loop-again : tie.Need-loop-again Inv-loop μ-loop
+loop-again c =
+    let f = c .before .before .before .before .before .before .before .before .before .before .before .before .before .before .before in
+    let l = f .before .before .before .before .before .loop .inv in
+    let k = f .find .kept .1 .1 in
+    let C = found-ring (f .find .ensures) (c .before .before .before .before .before .before .before .j .given .1) in (
+      c .before .before .take-out .kept .0 ∙ l .0,
+      k .0 ∙ l .1,
+      k .1 .0 ∙ l .2,
+      k .1 .1 .0 ∙ l .3,
+      λ J H. let L = l .4 J H in loose-more L (ring-out (loose-held H L) C (c .before .before .take-out .ensures)),
+    )
 
 pub untangle-spec : {M : Type 1} → statement M
 untangle-spec =
     tie.close
     (tie.spec
-    slice-aggregate-take-rings-out
-    slice-aggregate-take-rings-out-2
-    slice-aggregate-take-rings-out-3
-    take-rings-out-requires
+    Inv-loop
+    μ-loop
+    loop-holds
+    find-requires
+    enum-told
     same-length
-    returns)
+    same-length-2
+    same-length-3
+    same-length-4
+    returns
+    enum-known-j
+    take-out-requires
+    loop-less
+    loop-again)
