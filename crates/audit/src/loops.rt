@@ -37,7 +37,8 @@ enum Search {
     Ring(usize, usize),
 }
 
-fn clear(fin: &mut [u16])
+// No spot is seen.
+pub fn clear(fin: &mut [u16])
     requires { ⌜ spots ≤ length (now fin) ⌝ }
     ensures { λ _. ⌜ Cleared (now (fin .exit)) ⌝ }
 {
@@ -259,10 +260,9 @@ fn trace_run(
 // Says that no chain of loaded darts behind the fresh links is closed, with fin as the order along which they fall; or gives one. With no closed chain in
 // the old loads there is then none at all. The last bytes come first: they are those of the legs, so that whole wires are followed.
 pub fn find(rec: &[u8], old: &[u8], fin: &mut [u16], st: &mut [u16], sl: &mut [u8]) -> Found
-    requires { ⌜ Room (now rec) (now fin) (now st) (now sl) × (32768 ≤ length (now old)) ⌝ }
+    requires { ⌜ Room (now rec) (now fin) (now st) (now sl) × (32768 ≤ length (now old)) × Cleared (now fin) ⌝ }
     ensures { λ f. ⌜ Answer (now (old .entry)) (now (rec .entry)) (now (fin .exit)) (now (st .exit)) (now (sl .exit)) f ⌝ }
 {
-    clear(fin);
     let mut m = 0;
     for k in 0..1400 {
         match trace_run(rec, old, fin, st, sl, 1399 - k, m) {

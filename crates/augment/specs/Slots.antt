@@ -60,11 +60,10 @@ module _ (J : Job) (rec t : List ℕ) (u k : ℕ) where
 
 -- k slots are passed, and the bits of r above them are left
 pub record Rest (r k left : ℕ) : Type 0 where
-  pub upto : k ≤ 8
   pub bits : left ≡ r / 2 ^ k
 
 pub rest-all : (r : ℕ) → Rest r 0 r
-rest-all r = record { upto = omega arith; bits = omega arith }
+rest-all r = record { bits = omega arith }
 
 module _ {f : ℕ → ℕ} {r k left : ℕ} (b : Bits 8 f r) (s : Rest r k left) where
   pub left-small : left < 256
@@ -101,7 +100,7 @@ module _ {f : ℕ → ℕ} {r k left : ℕ} (b : Bits 8 f r) (s : Rest r k left)
     passed-off j l m = off j l (omega (arith, next-slot)) (w .under (j - k) (omega arith))
 
     pub rest-more : Rest r (k + i + 1) (left / 2 ^ (i + 1))
-    rest-more = record { upto = omega (arith, next-slot); bits = beyond (i + 1) ∙ ap (λ (x : ℕ). r / 2 ^ x) (omega arith) }
+    rest-more = record { bits = beyond (i + 1) ∙ ap (λ (x : ℕ). r / 2 ^ x) (omega arith) }
 
 -- slots by which the search does not go on are tried
 pub grown-past : {J : Job} {rec : List ℕ} {u k k' h : ℕ} {t q f w : List ℕ} {n : ℕ} {t' q' f' w' : List ℕ} {n' : ℕ} → Grown J rec u k h t q f w n t' q' f' w' n'

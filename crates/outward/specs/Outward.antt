@@ -192,6 +192,11 @@ picked P r c m {x} {y} e first then-first second then-second = by (below-or c (P
     by (inr l) (inl h) (inl n) = then-first (le-ltb c (P .left r) l) ∙ second (lt-ltb c (P .right r) h) ∙ e .upper n ∙ in-north P r c l h n
     by (inr l) (inl h) (inr n) = then-first (le-ltb c (P .left r) l) ∙ second (lt-ltb c (P .right r) h) ∙ e .lower n ∙ in-south P r c l h n
 
+-- 1 or 0, as picked by a test
+pub picked-bit : (t : Bool) {x : ℕ} → (t ≡ true → x ≡ 1) × (t ≡ false → x ≡ 0) → x ≡ when t 1
+picked-bit true (f, g) = f refl
+picked-bit false (f, g) = g refl
+
 -- ---- a row of a plane, by a line of bytes
 
 -- whether the line has x or y for the i-th byte, its first entry standing for the a-th

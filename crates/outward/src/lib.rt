@@ -102,20 +102,13 @@ fn count_up() -> [u8; 40]
     line
 }
 
-// 1 for a column east of the middle one, else 0.
-fn is_east(column: usize, c: usize) -> u8
-    ensures { λ b. ⌜ b ≡ when (ltb column c) 1 ⌝ }
-{
-    if column < c { 1 } else { 0 }
-}
-
-// The same of a row.
+// 1 for the columns east of the middle one, else 0.
 fn east_of(column: usize) -> [u8; 40]
     ensures { λ a. ⌜ ((c : ℕ) → c < 40 → getD a c 0 ≡ when (ltb column c) 1) ⌝ }
 {
     let mut line = [0u8; 40];
     for c in 0..40 {
-        line[c] = is_east(column, c);
+        line[c] = pick(column < c, 1, 0);
     }
     line
 }

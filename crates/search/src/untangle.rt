@@ -8,6 +8,7 @@ ghost use Rattle.augment.specs.Laid.{laidAll};
 ghost use Rattle.audit.specs.Loops.{ringDarts};
 ghost use Rattle.search.specs.Loose.{Ringed, Tangled, Freed};
 use audit::loops::Found;
+use audit::loops::clear;
 use audit::loops::find;
 use channel::lay;
 use channel::reverse;
@@ -32,6 +33,7 @@ pub fn untangle(old: &[u8], loads: &mut [u8], fin: &mut [u16], st: &mut [u16], s
     ensures { λ _. ⌜ Freed (now (old .entry)) (now (loads .entry)) (now (loads .exit)) ⌝ }
 {
     loop {
+        clear(fin);
         match find(loads, old, fin, st, sl) {
             Found::Free => {
                 return;

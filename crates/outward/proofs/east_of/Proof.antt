@@ -7,6 +7,7 @@ use lib.Dec.{ltb}
 use lib.ListN.{length, getD, length-set}
 use Rattle.sums.specs.Counting.{when}
 use Rattle.sums.specs.Stores.{set-reads}
+use Rattle.outward.specs.Outward.{picked-bit}
 use Rattle.outward.proofs.east_of.Statement.{statement}
 use Rattle.outward.proofs.east_of.Tie as tie
 
@@ -19,8 +20,8 @@ abbrev μ-loop : tie.MeasureT-loop
 loop-holds : tie.Need-loop-holds Inv-loop μ-loop
 loop-holds c = (omega arith, refl, λ i l. absurd (omega arith))
 
-is-east-requires : tie.Need-is-east-requires Inv-loop μ-loop
-is-east-requires c κs = search needs
+pick-requires : tie.Need-pick-requires Inv-loop μ-loop
+pick-requires c κs = search needs
 
 array-write-line : tie.Need-array-write-line Inv-loop μ-loop
 array-write-line c = omega arith
@@ -35,7 +36,7 @@ loop-again : tie.Need-loop-again Inv-loop μ-loop
 loop-again c =
     let l = c .before .before .loop in
     let k : l .c < length (l .line) = omega arith in
-    (omega arith, simp length-set (l .inv .1), λ i h. set-reads (l .line) (l .c) _ 0 (λ j. when (ltb (c .before .before .before .args .column) j) 1) k (c .is-east .ensures) i (λ n. l .inv .2 i (omega arith)))
+    (omega arith, simp length-set (l .inv .1), λ i h. set-reads (l .line) (l .c) _ 0 (λ j. when (ltb (c .before .before .before .args .column) j) 1) k (picked-bit _ (c .pick .ensures)) i (λ n. l .inv .2 i (omega arith)))
 
 returns : tie.Need-returns Inv-loop μ-loop
 returns c i h = c .before .loop .inv .2 i (omega arith)
@@ -43,4 +44,4 @@ returns c i h = c .before .loop .inv .2 i (omega arith)
 pub east-of-spec : {M : Type 1} → statement M
 east-of-spec =
     tie.close
-    (tie.spec Inv-loop μ-loop loop-holds is-east-requires array-write-line add-c loop-less loop-again returns)
+    (tie.spec Inv-loop μ-loop loop-holds pick-requires array-write-line add-c loop-less loop-again returns)

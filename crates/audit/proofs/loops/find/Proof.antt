@@ -20,26 +20,16 @@ Inv-loop rec old fin₀ st₀ sl₀ m₀ k₀ fin st sl m k =
 abbrev μ-loop : tie.MeasureT-loop
 μ-loop rec old fin₀ st₀ sl₀ m₀ k₀ fin st sl m k = 1400 - k
 
-clear-requires : tie.Need-clear-requires Inv-loop μ-loop
-clear-requires c κs = c .before .before .before .before .before .before .pre .0 .marks
-
 loop-holds : tie.Need-loop-holds Inv-loop μ-loop
 loop-holds c =
-    let p = c .before .before .before .before .before .before .before .before .before .pre .0 in
-    let k = c .before .before .clear in (
-      refl,
-      refl,
-      refl,
-      omega arith,
-      dfs-start (record { whole = p .whole; marks = omega (arith, k .kept .0, p .marks); stack = p .stack; slots = p .slots }) (k .ensures),
-      λ i l h. absurd (omega arith),
-    )
+    let p = c .before .before .before .before .before .pre in
+    (refl, refl, refl, omega arith, dfs-start (p .0) (p .2), λ i l h. absurd (omega arith))
 
 sub-trace-run : tie.Need-sub-trace-run Inv-loop μ-loop
 sub-trace-run c = omega (arith, c .before .before .before .loop-test .taken)
 
 trace-run-requires : tie.Need-trace-run-requires Inv-loop μ-loop
-trace-run-requires c κs = let o = c .before .before .before .before in (o .loop .inv .4, o .before .before .before .before .before .before .before .before .before .before .pre .1, omega arith)
+trace-run-requires c κs = let o = c .before .before .before .before in (o .loop .inv .4, o .before .before .before .before .before .before .pre .1, omega arith)
 
 enum-known-a : tie.Need-enum-known-a Inv-loop μ-loop
 enum-known-a c = search needs
@@ -48,7 +38,7 @@ enum-known-a-2 : tie.Need-enum-known-a-2 Inv-loop μ-loop
 enum-known-a-2 c = search needs
 
 same-length : tie.Need-same-length Inv-loop μ-loop
-same-length c = let t = c .before .before .before .before .before .before .before .before .before in let o = t .before .before .before .before .before in t .trace-run .kept .1 .1 .0 ∙ o .loop .inv .0 ∙ o .before .before .before .clear .kept .0
+same-length c = let t = c .before .before .before .before .before .before .before .before .before in t .trace-run .kept .1 .1 .0 ∙ t .before .before .before .before .before .loop .inv .0
 
 same-length-2 : tie.Need-same-length-2 Inv-loop μ-loop
 same-length-2 c = let t = c .before .before .before .before .before .before .before .before .before in t .trace-run .kept .1 .1 .1 .0 ∙ t .before .before .before .before .before .loop .inv .1
@@ -82,7 +72,7 @@ loop-again c =
     )
 
 same-length-4 : tie.Need-same-length-4 Inv-loop μ-loop
-same-length-4 c = c .before .loop .inv .0 ∙ c .before .before .before .before .clear .kept .0
+same-length-4 c = c .before .loop .inv .0
 
 same-length-5 : tie.Need-same-length-5 Inv-loop μ-loop
 same-length-5 c = c .before .loop .inv .1
@@ -101,7 +91,6 @@ find-spec =
     (tie.spec
     Inv-loop
     μ-loop
-    clear-requires
     loop-holds
     sub-trace-run
     trace-run-requires

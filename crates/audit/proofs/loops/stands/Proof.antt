@@ -1,5 +1,6 @@
 -- `loops::stands` meets its contract: the order of the marks excludes a loop beside loads that lead outward, and a ring is one. Assumes nothing.
 use borrow.Author.Needs.{needs}
+use native.Mathlib.Omega.{arith}
 use lib.ListN.{getD-replicate}
 use Rattle.channel.specs.Map.Numbers.{spots-is}
 use Rattle.audit.specs.Loops.Stands.{no-loop, a-loop}
@@ -31,7 +32,7 @@ slice-aggregate-find-4 : tie.Need-slice-aggregate-find-4
 slice-aggregate-find-4 c = search needs
 
 find-requires : tie.Need-find-requires
-find-requires c κs = search (needs, spots-is)
+find-requires c κs = (search (needs, spots-is), search needs, record { all = λ u l. getD-replicate 13128 u 0 0 (omega (arith, spots-is)) })
 
 enum-told : tie.Need-enum-told
 enum-told c = search needs

@@ -23,40 +23,45 @@ abbrev μ-loop : tie.MeasureT-loop
 loop-holds : tie.Need-loop-holds Inv-loop μ-loop
 loop-holds c = (refl, refl, refl, refl, λ J H. loose-none H)
 
+clear-requires : tie.Need-clear-requires Inv-loop μ-loop
+clear-requires c κs = omega (arith, c .before .loop .inv .1, c .before .before .before .before .before .before .before .pre .room .marks)
+
 find-requires : tie.Need-find-requires Inv-loop μ-loop
 find-requires c κs =
-    let o = c .before .before .before .before in
+    let o = c .before .before .before .before .before .before .before .before in
     let l = o .loop .inv in
     let p = o .before .before .before .before .before .before .pre in
-    let r = p .room in (
+    let r = p .room in
+    let k = c .before .before .before .before .before .before .clear in (
       record {
         whole = omega (arith, l .0, r .whole);
-        marks = omega (arith, l .1, r .marks);
+        marks = omega (arith, k .kept .0, l .1, r .marks);
         stack = omega (arith, l .2, r .stack);
         slots = omega (arith, l .3, r .slots);
       },
       p .before,
+      k .ensures,
     )
 
 enum-told : tie.Need-enum-told Inv-loop μ-loop
 enum-told c = search needs
 
 same-length : tie.Need-same-length Inv-loop μ-loop
-same-length c = c .before .before .before .before .before .before .before .before .before .before .before .before .before .loop .inv .0
+same-length c = c .before .before .before .before .before .before .before .before .before .before .before .before .before .before .before .before .before .loop .inv .0
 
 same-length-2 : tie.Need-same-length-2 Inv-loop μ-loop
-same-length-2 c = c .before .before .before .before .before .before .before .before .find .kept .1 .1 .0 ∙ c .before .before .before .before .before .before .before .before .before .before .before .before .before .loop .inv .1
+same-length-2 c = c .before .before .before .before .before .before .before .before .find .kept .1 .1 .0 ∙ c .before .before .before .before .before .before .before .before .before .before .before .before .before .before .before .clear .kept .0 ∙ c .before .before .before .before .before .before .before .before .before .before .before .before .before .before .before .before .before .loop .inv .1
 
 same-length-3 : tie.Need-same-length-3 Inv-loop μ-loop
-same-length-3 c = c .before .before .before .before .before .before .before .before .find .kept .1 .1 .1 .0 ∙ c .before .before .before .before .before .before .before .before .before .before .before .before .before .loop .inv .2
+same-length-3 c = c .before .before .before .before .before .before .before .before .find .kept .1 .1 .1 .0 ∙ c .before .before .before .before .before .before .before .before .before .before .before .before .before .before .before .before .before .loop .inv .2
 
 same-length-4 : tie.Need-same-length-4 Inv-loop μ-loop
-same-length-4 c = c .before .before .before .before .before .before .before .before .find .kept .1 .1 .1 .1 .0 ∙ c .before .before .before .before .before .before .before .before .before .before .before .before .before .loop .inv .3
+same-length-4 c = c .before .before .before .before .before .before .before .before .find .kept .1 .1 .1 .1 .0 ∙ c .before .before .before .before .before .before .before .before .before .before .before .before .before .before .before .before .before .loop .inv .3
 
 returns : tie.Need-returns Inv-loop μ-loop
 returns c =
     let f = c .before .before .before .before .before .before .before .before in
-    settled-freed (f .before .before .before .before .before .loop .inv .4) (found-free (f .find .ensures) (c .enum-told .given .1))
+    settled-freed (f .before .before .before .before .before .before .before .before .before .loop .inv .4) (found-free (f .find .ensures) (c .enum-told .given .1))
 
 enum-known-j : tie.Need-enum-known-j Inv-loop μ-loop
 enum-known-j c = search needs
@@ -64,7 +69,7 @@ enum-known-j c = search needs
 take-out-requires : tie.Need-take-out-requires Inv-loop μ-loop
 take-out-requires c κs =
     let f = c .before .before .before .before .before .before .before .before .before .before .before .before in
-    let o = f .before .before .before .before .before in
+    let o = f .before .before .before .before .before .before .before .before .before in
     let C = found-ring (f .find .ensures) (c .before .before .before .before .j .given .1) in
     let l = o .loop .inv in
     let k = f .find .kept .1 .1 .1 in
@@ -81,7 +86,7 @@ take-out-requires c κs =
 loop-less : tie.Need-loop-less Inv-loop μ-loop
 loop-less c =
     let f = c .before .before .before .before .before .before .before .before .before .before .before .before .before .before .before in
-    let o = f .before .before .before .before .before in
+    let o = f .before .before .before .before .before .before .before .before .before in
     let p = o .before .before .before .before .before .before .pre in
     let C = found-ring (f .find .ensures) (c .before .before .before .before .before .before .before .j .given .1) in
     ring-out (loose-held (p .held) (o .loop .inv .4 (p .job) (p .held))) C (c .before .before .take-out .ensures) .falls
@@ -89,11 +94,11 @@ loop-less c =
 loop-again : tie.Need-loop-again Inv-loop μ-loop
 loop-again c =
     let f = c .before .before .before .before .before .before .before .before .before .before .before .before .before .before .before in
-    let l = f .before .before .before .before .before .loop .inv in
+    let l = f .before .before .before .before .before .before .before .before .before .loop .inv in
     let k = f .find .kept .1 .1 in
     let C = found-ring (f .find .ensures) (c .before .before .before .before .before .before .before .j .given .1) in (
       c .before .before .take-out .kept .0 ∙ l .0,
-      k .0 ∙ l .1,
+      k .0 ∙ f .before .before .before .before .before .before .before .clear .kept .0 ∙ l .1,
       k .1 .0 ∙ l .2,
       k .1 .1 .0 ∙ l .3,
       λ J H. let L = l .4 J H in loose-more L (ring-out (loose-held H L) C (c .before .before .take-out .ensures)),
@@ -106,6 +111,7 @@ untangle-spec =
     Inv-loop
     μ-loop
     loop-holds
+    clear-requires
     find-requires
     enum-told
     same-length
