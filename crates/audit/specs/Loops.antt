@@ -50,7 +50,7 @@ pub record Closed (rec st sl : List ℕ) (j n : ℕ) : Type 0 where
 -- Along fin every loaded dart from a spot of 2 or more falls, to a spot of 2 or more, and the wires of fresh links leave such spots.
 pub record Settled (old rec fin : List ℕ) : Type 0 where
   pub falls : FallsFrom 2 rec (λ u. getD fin u 0)
-  pub fresh : (i : ℕ) → i < 22400 → T (isFresh old rec i) → originOf rec i < spots → 2 ≤ getD fin (originOf rec i) 0
+  pub fresh : (i : ℕ) → i < 24000 → T (isFresh old rec i) → originOf rec i < spots → 2 ≤ getD fin (originOf rec i) 0
 
 pub data Answer (old rec fin st sl : List ℕ) : Found → Type 0 where
   free : Settled old rec fin → Answer old rec fin st sl Free

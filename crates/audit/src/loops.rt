@@ -198,7 +198,7 @@ fn explore(rec: &[u8], fin: &mut [u16], st: &mut [u16], sl: &mut [u8], r: usize,
 
 // All that the wires of the i-th load byte lead to, with m done.
 fn trace(rec: &[u8], fin: &mut [u16], st: &mut [u16], sl: &mut [u8], i: usize, m: usize) -> Search
-    requires { ⌜ Dfs (now rec) (now fin) (now st) (now sl) 0 m × (i < 22400) ⌝ }
+    requires { ⌜ Dfs (now rec) (now fin) (now st) (now sl) 0 m × (i < 24000) ⌝ }
     ensures { λ s. ⌜ Traced (now (rec .entry)) i (now (fin .entry)) (now (fin .exit)) (now (st .exit)) (now (sl .exit)) s ⌝ }
 {
     let r = channel::origin(rec, i);
@@ -218,7 +218,7 @@ fn trace_fresh(
     i: usize,
     m: usize,
 ) -> Search
-    requires { ⌜ Dfs (now rec) (now fin) (now st) (now sl) 0 m × (32768 ≤ length (now old)) × (i < 22400) ⌝ }
+    requires { ⌜ Dfs (now rec) (now fin) (now st) (now sl) 0 m × (32768 ≤ length (now old)) × (i < 24000) ⌝ }
     ensures { λ s. ⌜ FreshTraced (now (old .entry)) (now (rec .entry)) i (i + 1) (now (fin .entry)) (now (fin .exit)) (now (st .exit)) (now (sl .exit)) s ⌝ }
 {
     if !channel::is_fresh(old, rec, i) {
@@ -237,7 +237,7 @@ fn trace_run(
     k: usize,
     m0: usize,
 ) -> Search
-    requires { ⌜ Dfs (now rec) (now fin) (now st) (now sl) 0 m0 × (32768 ≤ length (now old)) × (k < 1400) ⌝ }
+    requires { ⌜ Dfs (now rec) (now fin) (now st) (now sl) 0 m0 × (32768 ≤ length (now old)) × (k < 1500) ⌝ }
     ensures { λ s. ⌜ FreshTraced (now (old .entry)) (now (rec .entry)) (16 * k) (16 * k + 16) (now (fin .entry)) (now (fin .exit)) (now (st .exit)) (now (sl .exit)) s ⌝ }
 {
     if channel::stale_run(old, rec, k) {
@@ -258,14 +258,14 @@ fn trace_run(
 }
 
 // Says that no chain of loaded darts behind the fresh links is closed, with fin as the order along which they fall; or gives one. With no closed chain in
-// the old loads there is then none at all. The last bytes come first: they are those of the legs, so that whole wires are followed.
+// the old loads there is then none at all. The last bytes come first: they are those of the direct exits and the legs, so that whole wires are followed.
 pub fn find(rec: &[u8], old: &[u8], fin: &mut [u16], st: &mut [u16], sl: &mut [u8]) -> Found
     requires { ⌜ Room (now rec) (now fin) (now st) (now sl) × (32768 ≤ length (now old)) × Cleared (now fin) ⌝ }
     ensures { λ f. ⌜ Answer (now (old .entry)) (now (rec .entry)) (now (fin .exit)) (now (st .exit)) (now (sl .exit)) f ⌝ }
 {
     let mut m = 0;
-    for k in 0..1400 {
-        match trace_run(rec, old, fin, st, sl, 1399 - k, m) {
+    for k in 0..1500 {
+        match trace_run(rec, old, fin, st, sl, 1499 - k, m) {
             Search::Over(a) => {
                 m = a;
             }

@@ -1,4 +1,4 @@
--- The tests of a cell (r, c): the mark of its pin and the state of its tile, the bytes of its 14 links, and the loads at its places. A link's byte is held
+-- The tests of a cell (r, c): the mark of its pin and the state of its tile, the bytes of its 15 links, and the loads at its places. A link's byte is held
 -- against the room that each of its two ways has. Every definition of this file is shut: a crate above sees its name and the laws. Assumes nothing.
 pub mod Tests
 pub mod Values
@@ -14,7 +14,7 @@ use Prim.Native.Nat.{ℕ, _+_}
 use lib.Dec.{eqb, leb, ltb}
 use Rattle.sums.specs.Counting.{when}
 use Rattle.model.specs.Job.{Job, isPin, isTile, isOpen, isChosen, isMissing, centreLimit}
-use Rattle.model.specs.Links.{Compass, north, east, south, west, pin, missing, centre, side, Place, at, LinkKind, northSide, westSide, corner, spoke, leg, Step, go, come, may, limit}
+use Rattle.model.specs.Links.{Compass, north, east, south, west, pin, missing, centre, side, Place, at, LinkKind, northSide, westSide, corner, spoke, leg, direct, Step, go, come, may, limit}
 use Rattle.model.specs.Loads.{arrivals, departures}
 use Rattle.model.specs.Record.{loadPlane, cell, jobOf, load}
 
@@ -68,7 +68,7 @@ module _ (rec : List ℕ) where
 
   -- no link of the cell has more wires than it may have
   pub linksFit : ℕ → ℕ → Bool
-  linksFit r c = sidesFit r c && (cornersFit r c && (spokesFit r c && legsFit r c))
+  linksFit r c = sidesFit r c && (cornersFit r c && (spokesFit r c && (legsFit r c && linkFits direct r c)))
 
   -- the bytes of four planes from p on, in an open tile with room for n wires everywhere
   pub fourFit : ℕ → ℕ → ℕ → ℕ → Bool

@@ -20,7 +20,7 @@ module _ (rec : List ℕ) where
   isClear start n = eqb (sum n (λ i. getD rec (start + i) 0)) 0
 
   pub unusedClear : Bool
-  unusedClear = isClear 5 763 && isClear 26368 6400
+  unusedClear = isClear 5 763 && isClear 27968 4800
 
   -- as a program reads them, byte by byte
   pub clear-none : (start : ℕ) → true ≡ isClear start 0
@@ -37,7 +37,7 @@ module _ (rec : List ℕ) where
           (λ t. so (eq-eqb (a + b) 0 (omega (arith, eqb→eq a 0 (and-left (eqb a 0) (eqb b 0) t), eqb→eq b 0 (and-right (eqb a 0) (eqb b 0) t)))))
           (λ t. and-both (eqb a 0) (eqb b 0) (so (eq-eqb a 0 (omega (arith, eqb→eq (a + b) 0 t)))) (so (eq-eqb b 0 (omega (arith, eqb→eq (a + b) 0 t)))))
 
-  pub unused-is : (isClear 5 763 && isClear 26368 6400) ≡ unusedClear
+  pub unused-is : (isClear 5 763 && isClear 27968 4800) ≡ unusedClear
   unfolding unusedClear
   unused-is = refl
 
@@ -61,12 +61,12 @@ module _ (rec : List ℕ) where
   module _ (t : T unusedClear) where
     pub header-clear : (i : ℕ) → 5 ≤ i → i < 768 → getD rec i 0 ≡ 0
     unfolding unusedClear
-    header-clear = clear-at 5 763 (and-left (isClear 5 763) (isClear 26368 6400) t)
+    header-clear = clear-at 5 763 (and-left (isClear 5 763) (isClear 27968 4800) t)
 
     pub reserve-clear : (i : ℕ) → offset reservePlane 0 0 ≤ i → i < recordSize → getD rec i 0 ≡ 0
     unfolding unusedClear
-    reserve-clear = clear-at 26368 6400 (and-right (isClear 5 763) (isClear 26368 6400) t)
+    reserve-clear = clear-at 27968 4800 (and-right (isClear 5 763) (isClear 27968 4800) t)
 
   pub unused-pass : Unused rec → T unusedClear
   unfolding unusedClear
-  unused-pass u = and-both (isClear 5 763) (isClear 26368 6400) (clear-so 5 763 (u .header)) (clear-so 26368 6400 (u .reserve))
+  unused-pass u = and-both (isClear 5 763) (isClear 27968 4800) (clear-so 5 763 (u .header)) (clear-so 27968 4800 (u .reserve))

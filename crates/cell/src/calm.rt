@@ -8,7 +8,7 @@ ghost use Rattle.cell.specs.Cell.Calm.{isZero, isRest, isCalm};
 
 // Whether the byte that stands at (r, c) of a plane is 0, one row or one column beyond the grid too.
 fn zero(rec: &[u8], p: usize, r: usize, c: usize) -> bool
-    requires { ⌜ (32768 ≤ length (now rec)) × (p < 16) × (r ≤ 40) × (c ≤ 40) ⌝ }
+    requires { ⌜ (32768 ≤ length (now rec)) × (p < 17) × (r ≤ 40) × (c ≤ 40) ⌝ }
     ensures { λ t. ⌜ t ≡ isZero (now (rec .entry)) p r c ⌝ }
 {
     rec[768 + 1600 * p + 40 * r + c] == 0
@@ -29,7 +29,8 @@ fn calm(rec: &[u8], r: usize, c: usize) -> bool
     ensures { λ t. ⌜ t ≡ isCalm (now (rec .entry)) r c ⌝ }
 {
     let sides = zero(rec, 2, r, c) & zero(rec, 3, r, c);
-    let within = rest(rec, 4, r, c) & (rest(rec, 8, r, c) & rest(rec, 12, r, c));
+    let within = rest(rec, 4, r, c)
+        & (rest(rec, 8, r, c) & (rest(rec, 12, r, c) & zero(rec, 16, r, c)));
     let below = zero(rec, 2, r + 1, c) & (zero(rec, 12, r + 1, c) & zero(rec, 15, r + 1, c + 1));
     let beside = zero(rec, 3, r, c + 1) & zero(rec, 14, r, c + 1);
     sides & (within & (below & beside))

@@ -19,6 +19,7 @@ use channel::mark_of;
 use channel::pin_at;
 use channel::state_of;
 use links::corners;
+use links::direct;
 use links::held;
 use links::legs;
 use links::sides;
@@ -45,7 +46,8 @@ pub fn links_fit(rec: &[u8], r: usize, c: usize) -> bool
     requires { ⌜ (32768 ≤ length (now rec)) × (r < 40) × (c < 40) ⌝ }
     ensures { λ t. ⌜ t ≡ linksFit (now (rec .entry)) r c ⌝ }
 {
-    sides(rec, r, c) & (corners(rec, r, c) & (spokes(rec, r, c) & legs(rec, r, c)))
+    sides(rec, r, c)
+        & (corners(rec, r, c) & (spokes(rec, r, c) & (legs(rec, r, c) & direct(rec, r, c))))
 }
 
 // Whether the loads at its places are: as many wires come as leave, and no more than may pass.

@@ -1,16 +1,17 @@
-// The bytes of a cell's 14 links, each held against the room that there is along its link and against it.
+// The bytes of a cell's 15 links, each held against the room that there is along its link and against it.
 ghost use mathlib.Core.Path.{_≡_};
 ghost use Prim.Native.Nat.{_+_, _≤_, _<_};
 ghost use lib.ListN.{length, getD};
 ghost use Rattle.sums.specs.Counting.{when};
-ghost use Rattle.model.specs.Links.{isPlace, northSide, aheadOf};
+ghost use Rattle.model.specs.Links.{isPlace, northSide, direct, aheadOf};
 ghost use Rattle.model.specs.Record.{kinds, jobOf, cell};
-ghost use Rattle.cell.specs.Cell.{fits, leaving, sidesFit, fourFit, cornersFit, spokesFit, legsFit};
+ghost use Rattle.cell.specs.Cell.{fits, leaving, linkFits, sidesFit, fourFit, cornersFit, spokesFit, legsFit};
 use crate::calm::rest;
 use channel::header::byte;
 use channel::header::open_in;
 use channel::limits::leg_open;
 use channel::limits::may_east;
+use channel::limits::may_leave;
 use channel::limits::may_north;
 use channel::limits::may_south;
 use channel::limits::may_west;
@@ -122,4 +123,12 @@ pub fn legs(rec: &[u8], r: usize, c: usize) -> bool
     let s = leg_fits(rec, 12, r, c, away, back);
     let w = leg_fits(rec, 13, r, c, away, back);
     n & (e & (s & w))
+}
+
+// Whether that of its direct exit is.
+pub fn direct(rec: &[u8], r: usize, c: usize) -> bool
+    requires { ⌜ (32768 ≤ length (now rec)) × (r < 40) × (c < 40) ⌝ }
+    ensures { λ t. ⌜ t ≡ linkFits (now (rec .entry)) direct r c ⌝ }
+{
+    has_room(byte(rec, 16, r, c), may_leave(rec, r, c), 1, false, 0)
 }

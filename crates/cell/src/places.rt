@@ -14,6 +14,7 @@ use channel::header::byte;
 use channel::header::open_in;
 use channel::limits::centre_most;
 use channel::loads::out_of_centre;
+use channel::loads::out_of_missing;
 use channel::loads::out_of_pin;
 use channel::loads::through_centre;
 use channel::loads::through_missing;
@@ -142,7 +143,7 @@ pub fn pins(rec: &[u8], r: usize, c: usize) -> bool
     }
     if mark == 2 {
         let come = through_missing(rec, x);
-        return (come == out_of_pin(rec, x)) & (come <= extra(rec));
+        return (come == out_of_missing(rec, x)) & (come <= extra(rec));
     }
     true
 }

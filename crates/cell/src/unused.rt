@@ -21,5 +21,5 @@ pub fn unused_clear(rec: &[u8]) -> bool
     requires { ⌜ 32768 ≤ length (now rec) ⌝ }
     ensures { λ t. ⌜ t ≡ unusedClear (now (rec .entry)) ⌝ }
 {
-    is_clear(rec, 5, 763) & is_clear(rec, 26368, 6400)
+    is_clear(rec, 5, 763) & is_clear(rec, 27968, 4800)
 }

@@ -49,7 +49,7 @@ use Prim.Native.Nat.{ℕ, zero, suc, _+_, _-_, _*_, _/_, _%_}
 use lib.Dec.{T, eqb, leb, ltb}
 use lib.ListN.{getD, set}
 use Rattle.sums.specs.Counting.{when}
-use Rattle.model.specs.Job.{Job, isTile, isChosen}
+use Rattle.model.specs.Job.{Job, isTile, isChosen, isMissing}
 use Rattle.model.specs.Links.{PlaceKind, pin, missing, centre, nowhere, side, Place, at, theOutside, isPlace, northSide, link, linkCode, Step, turn, aheadOf, may, limit, pass}
 use Rattle.model.specs.Near.{entry, size}
 use Rattle.model.specs.Loads.{arrivals, departures}
@@ -59,8 +59,8 @@ use Rattle.model.specs.Record.{kinds, forthPart, backPart, load}
 
 -- A cell is a pin position together with the tile whose NW corner it is: cell 41 + 40 r + c, with 41 empty cells in front. A spot is 8 cell + kind: 0 a
 -- missing pin's entry, 1 its exit or the chosen pin, 2 to 5 n, e, s, w, 6 and 7 the centre's entry and exit. A dart is 8 spot + slot. The slots 0 to 4
--- stand in document 01's clockwise order; slot 4 of an entry leads to its exit and back; at n, e, s, w slots 5 and 7 lead to the exits of the centre and
--- of the pin.
+-- stand in document 01's clockwise order, slot 4 of a pin leads straight out, to its cell's entry; slot 4 of an entry leads to its exit, slot 5 of the exit
+-- back, and slot 5 of a pin's entry back along a direct exit; at n, e, s, w slots 5 and 7 lead to the exits of the centre and of the pin.
 
 -- the numbers of spots and of darts
 pub spots : ℕ
@@ -93,35 +93,35 @@ countsTwice (side d) = false
 -- how far the way back lies ahead, 2,688 more
 pub turns : List ℕ
 turns =
-    172 ∷ 2707 ∷ 2650 ∷ 97 ∷ 2696 ∷ 2688 ∷ 2688 ∷ 2688 ∷ 167 ∷ 2702 ∷ 2645 ∷ 92 ∷ 2680 ∷ 2688 ∷ 2688 ∷ 2688 ∷ 144 ∷ 2698 ∷ 2718 ∷ 2710 ∷ 2669 ∷ 2723
-    ∷ 2688 ∷ 2674 ∷ 2768 ∷ 2698 ∷ 2711 ∷ 2678 ∷ 2726 ∷ 2716 ∷ 2688 ∷ 2731 ∷ 5232 ∷ 2698 ∷ 2704 ∷ 2678 ∷ 5279 ∷ 2709 ∷ 2688 ∷ 5284 ∷ 2608 ∷ 2666 ∷ 2697
-    ∷ 2678 ∷ 5204 ∷ 2702 ∷ 2688 ∷ 5209 ∷ 2658 ∷ 2665 ∷ 2672 ∷ 2679 ∷ 2696 ∷ 2688 ∷ 2688 ∷ 2688 ∷ 2653 ∷ 2660 ∷ 2667 ∷ 2674 ∷ 2680 ∷ 2688 ∷ 2688 ∷ 2688
-    ∷ []
+    172 ∷ 2707 ∷ 2650 ∷ 97 ∷ 2697 ∷ 2695 ∷ 2688 ∷ 2688 ∷ 167 ∷ 2702 ∷ 2645 ∷ 92 ∷ 2681 ∷ 2679 ∷ 2688 ∷ 2688 ∷ 144 ∷ 2698 ∷ 2718 ∷ 2710 ∷ 2669 ∷ 2723 ∷ 2688
+    ∷ 2674 ∷ 2768 ∷ 2698 ∷ 2711 ∷ 2678 ∷ 2726 ∷ 2716 ∷ 2688 ∷ 2731 ∷ 5232 ∷ 2698 ∷ 2704 ∷ 2678 ∷ 5279 ∷ 2709 ∷ 2688 ∷ 5284 ∷ 2608 ∷ 2666 ∷ 2697 ∷ 2678
+    ∷ 5204 ∷ 2702 ∷ 2688 ∷ 5209 ∷ 2658 ∷ 2665 ∷ 2672 ∷ 2679 ∷ 2697 ∷ 2688 ∷ 2688 ∷ 2688 ∷ 2653 ∷ 2660 ∷ 2667 ∷ 2674 ∷ 2688 ∷ 2679 ∷ 2688 ∷ 2688 ∷ []
 
--- the number of the link's kind among the 14 (`linkCode` of the definitions)
+-- the number of the link's kind among the 15 (`linkCode` of the definitions)
 pub links : List ℕ
 links =
-    10 ∷ 11 ∷ 12 ∷ 13 ∷ 0 ∷ 0 ∷ 0 ∷ 0 ∷ 10 ∷ 11 ∷ 12 ∷ 13 ∷ 0 ∷ 0 ∷ 0 ∷ 0 ∷ 0 ∷ 2 ∷ 6 ∷ 5 ∷ 11 ∷ 6 ∷ 0 ∷ 11 ∷ 1 ∷ 3 ∷ 7 ∷ 2 ∷ 12 ∷ 7 ∷ 0 ∷ 12 ∷ 0 ∷ 4
-    ∷ 8 ∷ 3 ∷ 13 ∷ 8 ∷ 0 ∷ 13 ∷ 1 ∷ 5 ∷ 9 ∷ 4 ∷ 10 ∷ 9 ∷ 0 ∷ 10 ∷ 6 ∷ 7 ∷ 8 ∷ 9 ∷ 0 ∷ 0 ∷ 0 ∷ 0 ∷ 6 ∷ 7 ∷ 8 ∷ 9 ∷ 0 ∷ 0 ∷ 0 ∷ 0 ∷ []
+    10 ∷ 11 ∷ 12 ∷ 13 ∷ 0 ∷ 14 ∷ 0 ∷ 0 ∷ 10 ∷ 11 ∷ 12 ∷ 13 ∷ 14 ∷ 0 ∷ 0 ∷ 0 ∷ 0 ∷ 2 ∷ 6 ∷ 5 ∷ 11 ∷ 6 ∷ 0 ∷ 11 ∷ 1 ∷ 3 ∷ 7 ∷ 2 ∷ 12 ∷ 7 ∷ 0 ∷ 12 ∷ 0 ∷ 4 ∷ 8
+    ∷ 3 ∷ 13 ∷ 8 ∷ 0 ∷ 13 ∷ 1 ∷ 5 ∷ 9 ∷ 4 ∷ 10 ∷ 9 ∷ 0 ∷ 10 ∷ 6 ∷ 7 ∷ 8 ∷ 9 ∷ 0 ∷ 0 ∷ 0 ∷ 0 ∷ 6 ∷ 7 ∷ 8 ∷ 9 ∷ 0 ∷ 0 ∷ 0 ∷ 0 ∷ []
 
 -- how far from the dart's cell the cell stands that owns the link
 pub owners : List ℕ
 owners =
-    0 ∷ 0 ∷ 0 ∷ 0 ∷ 0 ∷ 0 ∷ 0 ∷ 0 ∷ 0 ∷ 0 ∷ 0 ∷ 0 ∷ 0 ∷ 0 ∷ 0 ∷ 0 ∷ 0 ∷ 0 ∷ 0 ∷ 0 ∷ 0 ∷ 0 ∷ 0 ∷ 0 ∷ 1 ∷ 0 ∷ 0 ∷ 0 ∷ 1 ∷ 0 ∷ 0 ∷ 1 ∷ 40 ∷ 0 ∷ 0 ∷ 0 ∷ 41
-    ∷ 0 ∷ 0 ∷ 41 ∷ 0 ∷ 0 ∷ 0 ∷ 0 ∷ 40 ∷ 0 ∷ 0 ∷ 40 ∷ 0 ∷ 0 ∷ 0 ∷ 0 ∷ 0 ∷ 0 ∷ 0 ∷ 0 ∷ 0 ∷ 0 ∷ 0 ∷ 0 ∷ 0 ∷ 0 ∷ 0 ∷ 0 ∷ []
+    0 ∷ 0 ∷ 0 ∷ 0 ∷ 0 ∷ 0 ∷ 0 ∷ 0 ∷ 0 ∷ 0 ∷ 0 ∷ 0 ∷ 0 ∷ 0 ∷ 0 ∷ 0 ∷ 0 ∷ 0 ∷ 0 ∷ 0 ∷ 0 ∷ 0 ∷ 0 ∷ 0 ∷ 1 ∷ 0 ∷ 0 ∷ 0 ∷ 1 ∷ 0 ∷ 0 ∷ 1 ∷ 40 ∷ 0 ∷ 0 ∷ 0 ∷ 41 ∷ 0
+    ∷ 0 ∷ 41 ∷ 0 ∷ 0 ∷ 0 ∷ 0 ∷ 40 ∷ 0 ∷ 0 ∷ 40 ∷ 0 ∷ 0 ∷ 0 ∷ 0 ∷ 0 ∷ 0 ∷ 0 ∷ 0 ∷ 0 ∷ 0 ∷ 0 ∷ 0 ∷ 0 ∷ 0 ∷ 0 ∷ 0 ∷ []
 
 -- 0 along the link's positive way, 1 against it
 pub signs : List ℕ
 signs =
-    0 ∷ 0 ∷ 0 ∷ 0 ∷ 0 ∷ 0 ∷ 0 ∷ 0 ∷ 0 ∷ 0 ∷ 0 ∷ 0 ∷ 1 ∷ 0 ∷ 0 ∷ 0 ∷ 0 ∷ 0 ∷ 1 ∷ 1 ∷ 1 ∷ 1 ∷ 0 ∷ 1 ∷ 0 ∷ 0 ∷ 1 ∷ 1 ∷ 1 ∷ 1 ∷ 0 ∷ 1 ∷ 1 ∷ 0 ∷ 1 ∷ 1 ∷ 1
-    ∷ 1 ∷ 0 ∷ 1 ∷ 1 ∷ 0 ∷ 1 ∷ 1 ∷ 1 ∷ 1 ∷ 0 ∷ 1 ∷ 0 ∷ 0 ∷ 0 ∷ 0 ∷ 0 ∷ 0 ∷ 0 ∷ 0 ∷ 0 ∷ 0 ∷ 0 ∷ 0 ∷ 1 ∷ 0 ∷ 0 ∷ 0 ∷ []
+    0 ∷ 0 ∷ 0 ∷ 0 ∷ 0 ∷ 1 ∷ 0 ∷ 0 ∷ 0 ∷ 0 ∷ 0 ∷ 0 ∷ 0 ∷ 1 ∷ 0 ∷ 0 ∷ 0 ∷ 0 ∷ 1 ∷ 1 ∷ 1 ∷ 1 ∷ 0 ∷ 1 ∷ 0 ∷ 0 ∷ 1 ∷ 1 ∷ 1 ∷ 1 ∷ 0 ∷ 1 ∷ 1 ∷ 0 ∷ 1 ∷ 1 ∷ 1 ∷ 1
+    ∷ 0 ∷ 1 ∷ 1 ∷ 0 ∷ 1 ∷ 1 ∷ 1 ∷ 1 ∷ 0 ∷ 1 ∷ 0 ∷ 0 ∷ 0 ∷ 0 ∷ 0 ∷ 0 ∷ 0 ∷ 0 ∷ 0 ∷ 0 ∷ 0 ∷ 0 ∷ 0 ∷ 1 ∷ 0 ∷ 0 ∷ []
 
 -- What a dart is: 0 nothing, 1 side, 2 corner, 3 place to the centre's entry, 4 the centre's exit to a place, 5 the centre's entry to its exit, 6 place
--- to a missing pin's entry, 7 a pin to a place, 8 a missing pin's entry to its exit; 9 to 14 are the ways back of 3 to 8.
+-- to a missing pin's entry, 7 a pin to a place, 8 a missing pin's entry to its exit; 9 to 14 are the ways back of 3 to 8; 15 is a direct exit, and its way
+-- back.
 pub codes : List ℕ
 codes =
-    12 ∷ 12 ∷ 12 ∷ 12 ∷ 8 ∷ 0 ∷ 0 ∷ 0 ∷ 7 ∷ 7 ∷ 7 ∷ 7 ∷ 14 ∷ 0 ∷ 0 ∷ 0 ∷ 1 ∷ 2 ∷ 3 ∷ 2 ∷ 6 ∷ 10 ∷ 0 ∷ 13 ∷ 1 ∷ 2 ∷ 3 ∷ 2 ∷ 6 ∷ 10 ∷ 0 ∷ 13 ∷ 1 ∷ 2 ∷ 3
-    ∷ 2 ∷ 6 ∷ 10 ∷ 0 ∷ 13 ∷ 1 ∷ 2 ∷ 3 ∷ 2 ∷ 6 ∷ 10 ∷ 0 ∷ 13 ∷ 9 ∷ 9 ∷ 9 ∷ 9 ∷ 5 ∷ 0 ∷ 0 ∷ 0 ∷ 4 ∷ 4 ∷ 4 ∷ 4 ∷ 11 ∷ 0 ∷ 0 ∷ 0 ∷ []
+    12 ∷ 12 ∷ 12 ∷ 12 ∷ 8 ∷ 15 ∷ 0 ∷ 0 ∷ 7 ∷ 7 ∷ 7 ∷ 7 ∷ 15 ∷ 14 ∷ 0 ∷ 0 ∷ 1 ∷ 2 ∷ 3 ∷ 2 ∷ 6 ∷ 10 ∷ 0 ∷ 13 ∷ 1 ∷ 2 ∷ 3 ∷ 2 ∷ 6 ∷ 10 ∷ 0 ∷ 13 ∷ 1 ∷ 2 ∷ 3 ∷ 2
+    ∷ 6 ∷ 10 ∷ 0 ∷ 13 ∷ 1 ∷ 2 ∷ 3 ∷ 2 ∷ 6 ∷ 10 ∷ 0 ∷ 13 ∷ 9 ∷ 9 ∷ 9 ∷ 9 ∷ 5 ∷ 0 ∷ 0 ∷ 0 ∷ 4 ∷ 4 ∷ 4 ∷ 4 ∷ 0 ∷ 11 ∷ 0 ∷ 0 ∷ []
 
 pub turnOf : ℕ → ℕ
 turnOf i = getD turns i 0
@@ -147,12 +147,12 @@ backCell i = (i + turnOf i) / 64
 
 -- the code of the way back of a dart with code c
 pub backCode : ℕ → ℕ
-backCode c = getD (0 ∷ 1 ∷ 2 ∷ 9 ∷ 10 ∷ 11 ∷ 12 ∷ 13 ∷ 14 ∷ 3 ∷ 4 ∷ 5 ∷ 6 ∷ 7 ∷ 8 ∷ []) c 0
+backCode c = getD (0 ∷ 1 ∷ 2 ∷ 9 ∷ 10 ∷ 11 ∷ 12 ∷ 13 ∷ 14 ∷ 3 ∷ 4 ∷ 5 ∷ 6 ∷ 7 ∷ 8 ∷ 15 ∷ []) c 0
 
 -- the row of a step, by the number of its link's kind and its direction
 pub seatOf : ℕ → Bool → ℕ
-seatOf k true = getD (16 ∷ 24 ∷ 17 ∷ 25 ∷ 33 ∷ 41 ∷ 56 ∷ 57 ∷ 58 ∷ 59 ∷ 8 ∷ 9 ∷ 10 ∷ 11 ∷ []) k 0
-seatOf k false = getD (32 ∷ 40 ∷ 27 ∷ 35 ∷ 43 ∷ 19 ∷ 18 ∷ 26 ∷ 34 ∷ 42 ∷ 44 ∷ 20 ∷ 28 ∷ 36 ∷ []) k 0
+seatOf k true = getD (16 ∷ 24 ∷ 17 ∷ 25 ∷ 33 ∷ 41 ∷ 56 ∷ 57 ∷ 58 ∷ 59 ∷ 8 ∷ 9 ∷ 10 ∷ 11 ∷ 12 ∷ []) k 0
+seatOf k false = getD (32 ∷ 40 ∷ 27 ∷ 35 ∷ 43 ∷ 19 ∷ 18 ∷ 26 ∷ 34 ∷ 42 ∷ 44 ∷ 20 ∷ 28 ∷ 36 ∷ 5 ∷ []) k 0
 
 -- ---- darts
 
@@ -183,7 +183,7 @@ dartOf s =
 
 -- the codes of darts that carry the load of their step, of those that have a stored byte at all, and of those from an entry to its exit
 pub carries : ℕ → Bool
-carries c = getD (false ∷ true ∷ true ∷ true ∷ true ∷ false ∷ true ∷ true ∷ false ∷ []) c false
+carries c = getD (false ∷ true ∷ true ∷ true ∷ true ∷ false ∷ true ∷ true ∷ false ∷ false ∷ false ∷ false ∷ false ∷ false ∷ false ∷ true ∷ []) c false
 
 pub isStored : ℕ → Bool
 isStored c = not (eqb c 0 || (eqb c 5 || (eqb c 8 || (eqb c 11 || eqb c 14))))
@@ -194,7 +194,7 @@ isPassage c = eqb c 5 || eqb c 8
 -- the codes of darts whose way back carries the load of the step back, and of those from an exit to its entry
 pub returns : ℕ → Bool
 returns c =
-    getD (false ∷ true ∷ true ∷ false ∷ false ∷ false ∷ false ∷ false ∷ false ∷ true ∷ true ∷ false ∷ true ∷ true ∷ false ∷ []) c false
+    getD (false ∷ true ∷ true ∷ false ∷ false ∷ false ∷ false ∷ false ∷ false ∷ true ∷ true ∷ false ∷ true ∷ true ∷ false ∷ true ∷ []) c false
 
 pub isReturn : ℕ → Bool
 isReturn c = eqb c 11 || eqb c 14
@@ -252,9 +252,11 @@ isStart J u = eqb (u % 8) 1 && (inGrid (u / 8) && isChosen J (rowOf (u / 8)) (co
 pub want : Job → ℕ → ℕ
 want J u = when (isStart J u) 1
 
--- n, e, s, w of a cell that is no tile
+-- n, e, s, w of a cell that is no tile, and the entry of a cell that has no missing pin
 pub outside : Job → ℕ → Bool
-outside J u = ltb 1 (u % 8) && (ltb (u % 8) 6 && not (inGrid (u / 8) && isTile J (rowOf (u / 8)) (columnOf (u / 8))))
+outside J u =
+    (ltb 1 (u % 8) && (ltb (u % 8) 6 && not (inGrid (u / 8) && isTile J (rowOf (u / 8)) (columnOf (u / 8)))))
+    || (eqb (u % 8) 0 && not (inGrid (u / 8) && isMissing J (rowOf (u / 8)) (columnOf (u / 8))))
 
 -- a dart to the place x ends at the spot u: at the place's entry, or outside
 pub EndsAt : Job → Place → ℕ → Type 0

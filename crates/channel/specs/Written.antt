@@ -28,7 +28,7 @@ zeros n = replicate n 0
 
 -- the record with its planes of loads, from offset (loadPlane northSide) 0 0 to offset reservePlane 0 0, all 0
 pub unwired : List ℕ → List ℕ
-unwired rec = take 3968 rec ++ (zeros 22400 ++ drop 26368 rec)
+unwired rec = take 3968 rec ++ (zeros 24000 ++ drop 27968 rec)
 
 -- ---- zeros
 
@@ -222,7 +222,7 @@ module _ (rec : List ℕ) (long : recordSize ≤ length rec) where
   front = take 3968 rec
 
   abbrev back : List ℕ
-  back = zeros 22400 ++ drop 26368 rec
+  back = zeros 24000 ++ drop 27968 rec
 
   length-unwired : length (unwired rec) ≡ length rec
   unfolding unwired
@@ -230,16 +230,16 @@ module _ (rec : List ℕ) (long : recordSize ≤ length rec) where
       omega (
         arith,
         length-append front back,
-        length-append (zeros 22400) (drop 26368 rec),
+        length-append (zeros 24000) (drop 27968 rec),
         length-take-le 3968 rec (omega arith),
-        length-zeros 22400,
-        length-drop 26368 rec,
+        length-zeros 24000,
+        length-drop 27968 rec,
       )
 
   -- the zeros that take the place of the loads
-  pub unwired-put : (ys : List ℕ) → ys ≡ zeros (length (midOf 3968 22400 rec)) → putMid 3968 22400 rec ys ≡ unwired rec
+  pub unwired-put : (ys : List ℕ) → ys ≡ zeros (length (midOf 3968 24000 rec)) → putMid 3968 24000 rec ys ≡ unwired rec
   unfolding unwired
-  unwired-put ys e = rw (e, mid-len 3968 26368 rec (omega arith), post-is 3968 26368 rec (lit≤ tt))
+  unwired-put ys e = rw (e, mid-len 3968 27968 rec (omega arith), post-is 3968 27968 rec (lit≤ tt))
 
   unwired-before : (i : ℕ) → i < 3968 → getD (unwired rec) i 0 ≡ getD rec i 0
   unfolding unwired
@@ -249,14 +249,14 @@ module _ (rec : List ℕ) (long : recordSize ≤ length rec) where
   unfolding unwired
   unwired-past i = ap (λ (n : ℕ). getD (front ++ back) n 0) (omega (arith, length-take-le 3968 rec (omega arith))) ∙ getD-append-add front back i 0
 
-  unwired-loads : (i : ℕ) → i < 22400 → getD (unwired rec) (3968 + i) 0 ≡ 0
-  unwired-loads i l = unwired-past i ∙ (List·getD-append (zeros 22400) (drop 26368 rec) 0 i (omega (arith, length-zeros 22400)) ∙ get-zeros 22400 i l)
+  unwired-loads : (i : ℕ) → i < 24000 → getD (unwired rec) (3968 + i) 0 ≡ 0
+  unwired-loads i l = unwired-past i ∙ (List·getD-append (zeros 24000) (drop 27968 rec) 0 i (omega (arith, length-zeros 24000)) ∙ get-zeros 24000 i l)
 
-  unwired-after : (i : ℕ) → getD (unwired rec) (26368 + i) 0 ≡ getD rec (26368 + i) 0
+  unwired-after : (i : ℕ) → getD (unwired rec) (27968 + i) 0 ≡ getD rec (27968 + i) 0
   unwired-after i =
       ap (λ (n : ℕ). getD (unwired rec) n 0) (omega arith)
-      ∙ (unwired-past (22400 + i)
-      ∙ (ap (λ (n : ℕ). getD back n 0) (omega (arith, length-zeros 22400)) ∙ (getD-append-add (zeros 22400) (drop 26368 rec) i 0 ∙ getD-drop 26368 rec i 0)))
+      ∙ (unwired-past (24000 + i)
+      ∙ (ap (λ (n : ℕ). getD back n 0) (omega (arith, length-zeros 24000)) ∙ (getD-append-add (zeros 24000) (drop 27968 rec) i 0 ∙ getD-drop 27968 rec i 0)))
 
 pub unwired-over : (rec : List ℕ) → Legal rec → unwired rec ≡ over (unwiredRecord (jobOf rec)) rec
 unwired-over rec g =
@@ -270,18 +270,18 @@ unwired-over rec g =
     was : (i : ℕ) → getD rec i 0 ≡ getD (over (recordOf J (load rec)) rec) i 0
     was i = ap (λ (l : List ℕ). getD l i 0) (legal-record rec g)
 
-    high : (p r c : ℕ) → p < 18 → r < 40 → c < 40 → (b : Bool) → (T b → p < 14) → (T (not b) → 14 ≤ p)
+    high : (p r c : ℕ) → p < 18 → r < 40 → c < 40 → (b : Bool) → (T b → p < 15) → (T (not b) → 15 ≤ p)
         → getD (unwired rec) (offset (suc (suc p)) r c) 0 ≡ loadByteOf noLoads (getElem? kinds p) r c
     high p r c lp lr lc true f n =
-        let l : p < 14 = f tt in
+        let l : p < 15 = f tt in
         ap (λ (n : ℕ). getD (unwired rec) n 0) (omega arith)
         ∙ (unwired-loads rec (g .long) (1600 * p + 40 * r + c) (omega arith) ∙ sym (plane-none (getElem? kinds p) r c))
     high p r c lp lr lc false f n =
-        let l : 14 ≤ p = n tt in
+        let l : 15 ≤ p = n tt in
         let q : ℕ = suc (suc p) in
-        let k : offset q r c ≡ 26368 + (offset q r c - 26368) = omega arith in
+        let k : offset q r c ≡ 27968 + (offset q r c - 27968) = omega arith in
         ap (λ (n : ℕ). getD (unwired rec) n 0) k
-        ∙ (unwired-after rec (g .long) (offset q r c - 26368)
+        ∙ (unwired-after rec (g .long) (offset q r c - 27968)
         ∙ (ap (λ (n : ℕ). getD rec n 0) (sym k)
         ∙ (was (offset q r c)
         ∙ (over-cell J (load rec) rec (g .long) q r c (omega arith) lr lc
@@ -292,12 +292,12 @@ unwired-over rec g =
         ∙ (was (offset 0 r c) ∙ over-cell J (load rec) rec (g .long) 0 r c lp lr lc)
     cells (suc zero) r c lp lr lc =
         unwired-before rec (g .long) (offset 1 r c) (omega arith) ∙ (was (offset 1 r c) ∙ over-cell J (load rec) rec (g .long) 1 r c lp lr lc)
-    cells (suc (suc p)) r c lp lr lc = high p r c (omega arith) lr lc (ltb p 14) (ltb→lt p 14) (nltb→le p 14)
+    cells (suc (suc p)) r c lp lr lc = high p r c (omega arith) lr lc (ltb p 15) (ltb→lt p 15) (nltb→le p 15)
 
     rests : (i : ℕ) → recordSize ≤ i → getD (unwired rec) i 0 ≡ getD rec i 0
     rests i l =
-        let k : i ≡ 26368 + (i - 26368) = omega arith in
-        ap (λ (n : ℕ). getD (unwired rec) n 0) k ∙ (unwired-after rec (g .long) (i - 26368) ∙ ap (λ (n : ℕ). getD rec n 0) (sym k))
+        let k : i ≡ 27968 + (i - 27968) = omega arith in
+        ap (λ (n : ℕ). getD (unwired rec) n 0) k ∙ (unwired-after rec (g .long) (i - 27968) ∙ ap (λ (n : ℕ). getD rec n 0) (sym k))
 
 -- ---- one record over another
 

@@ -5,17 +5,20 @@ ghost use Prim.Native.Nat.{_/_, _%_, _≤_, _<_};
 ghost use lib.Dec.{T, eqb};
 ghost use lib.ListN.{length, getD};
 ghost use Rattle.model.specs.Job.{centreLimit};
-ghost use Rattle.model.specs.Links.{isPlace, northSide, westSide, go, come, aheadOf, may};
+ghost use Rattle.model.specs.Links.{isPlace, northSide, westSide, direct, go, come, aheadOf, may};
 ghost use Rattle.model.specs.Record.{kinds, jobOf};
 ghost use Rattle.channel.specs.Map.{cap, free, kindOf, codeOf, mayTake, reaches, ownerMark};
 use crate::header::clear_in;
+use crate::header::columns;
 use crate::header::diagonal;
 use crate::header::extra;
+use crate::header::is_chosen;
 use crate::header::mark_at;
 use crate::header::missing_at;
 use crate::header::open_at;
 use crate::header::open_in;
 use crate::header::orthogonal;
+use crate::header::rows;
 use crate::table::code_of;
 use crate::table::kind_of;
 use crate::table::owner_of;
@@ -62,6 +65,15 @@ pub fn may_west(job: &[u8], r: usize, c: usize) -> bool
         return open_in(job, r, c);
     }
     open_in(job, r, c) & open_in(job, r, c - 1)
+}
+
+// Whether one may go straight out of the pin (r, c): it is chosen and on the rim.
+pub fn may_leave(job: &[u8], r: usize, c: usize) -> bool
+    requires { ⌜ (32768 ≤ length (now job)) × (r < 40) × (c < 40) ⌝ }
+    ensures { λ b. ⌜ b ≡ may (jobOf (now (job .entry))) (go direct r c) ⌝ }
+{
+    let rim = (r == 0) | (r + 1 == rows(job)) | (c == 0) | (c + 1 == columns(job));
+    is_chosen(job, r, c) & rim
 }
 
 // Whether the step of a side's dart may be taken: its own tile is open, and the tile across is open or no tile. Over the rim no tile lies across: the last
@@ -122,7 +134,7 @@ pub fn leg_open(job: &[u8], k: usize, r: usize, c: usize) -> bool
 
 // Whether the leg of a pin's dart leads into an open tile.
 pub fn leg_way(job: &[u8], d: usize) -> bool
-    requires { ⌜ (32768 ≤ length (now job)) × (d < 105024) × (10 ≤ kindOf (d % 64)) ⌝ }
+    requires { ⌜ (32768 ≤ length (now job)) × (d < 105024) × (10 ≤ kindOf (d % 64)) × (kindOf (d % 64) < 14) ⌝ }
     ensures { λ b. ⌜ b ≡ reaches (jobOf (now (job .entry))) d ⌝ }
 {
     let i = d % 64;
@@ -212,6 +224,24 @@ pub fn missing_limit(job: &[u8], d: usize) -> usize
     0
 }
 
+// The limit of a dart along or against a direct exit.
+pub fn direct_limit(job: &[u8], d: usize) -> usize
+    requires { ⌜ (32768 ≤ length (now job)) × (d < 105024) × (codeOf (d % 64) ≡ 15) ⌝ }
+    ensures { λ r. ⌜ r ≡ cap (jobOf (now (job .entry))) d ⌝ }
+{
+    if d % 64 != 12 {
+        return 0;
+    }
+    let x = d / 64;
+    if x < 41 {
+        return 0;
+    }
+    if may_leave(job, (x - 41) / 40, (x - 41) % 40) {
+        return 1;
+    }
+    0
+}
+
 // The limit of a dart.
 pub fn limit(job: &[u8], d: usize) -> usize
     requires { ⌜ (32768 ≤ length (now job)) × (d < 105024) ⌝ }
@@ -223,6 +253,7 @@ pub fn limit(job: &[u8], d: usize) -> usize
         5 => centre_limit(job, d),
         7 => pin_limit(job, d),
         8 => missing_limit(job, d),
+        15 => direct_limit(job, d),
         _ => 0,
     }
 }

@@ -128,20 +128,28 @@ pub fn through_missing(rec: &[u8], x: usize) -> usize
     back_sum(rec, 19927, x)
 }
 
-// How many leave the cell's pin.
-pub fn out_of_pin(rec: &[u8], x: usize) -> usize
+// How many leave it.
+pub fn out_of_missing(rec: &[u8], x: usize) -> usize
     requires { ⌜ (32768 ≤ length (now rec)) × (41 ≤ x) × (x < 1641) ⌝ }
-    ensures { λ r. ⌜ (r ≡ departures (load (now (rec .entry))) (at pin (rowOf x) (columnOf x))) × (r < 1024) ⌝ }
+    ensures { λ r. ⌜ (r ≡ departures (load (now (rec .entry))) (at missing (rowOf x) (columnOf x))) × (r < 1024) ⌝ }
 {
     forth_sum(rec, 19927, x)
 }
 
+// How many leave the cell's pin, by its legs or directly.
+pub fn out_of_pin(rec: &[u8], x: usize) -> usize
+    requires { ⌜ (32768 ≤ length (now rec)) × (41 ≤ x) × (x < 1641) ⌝ }
+    ensures { λ r. ⌜ (r ≡ departures (load (now (rec .entry))) (at pin (rowOf x) (columnOf x))) × (r < 1280) ⌝ }
+{
+    forth_sum(rec, 19927, x) + forth(wide(rec[26327 + x]))
+}
+
 // Whether a dart of the code carries the load of its step.
 pub fn carries_load(c: usize) -> bool
-    requires { ⌜ c < 15 ⌝ }
+    requires { ⌜ c < 16 ⌝ }
     ensures { λ b. ⌜ b ≡ carries c ⌝ }
 {
-    let bit: usize = (0b1101_1110 >> c) % 2;
+    let bit: usize = (0b1000_0000_1101_1110 >> c) % 2;
     bit == 1
 }
 
@@ -182,7 +190,7 @@ pub fn carried(rec: &[u8], d: usize) -> usize
 // Whether wires go along a dart of the cell x, by the word of its row, where x has all its neighbours: their links are on the grid. Nothing branches on
 // the byte.
 fn loaded_at(rec: &[u8], w: usize, x: usize) -> bool
-    requires { ⌜ (32768 ≤ length (now rec)) × (w < 50000) × (w ≢ 1) × (41 ≤ x) × (x < 1600) ⌝ }
+    requires { ⌜ (32768 ≤ length (now rec)) × (w < 53000) × (w ≢ 1) × (41 ≤ x) × (x < 1600) ⌝ }
     ensures { λ b. ⌜ ((d : ℕ) → d / 64 ≡ x → placeOf (d % 64) ≡ w → b ≡ ltb 0 (view (now (rec .entry)) d)) ⌝ }
 {
     let b = wide(rec[w / 2 + x]);
@@ -210,7 +218,7 @@ fn slots_by(rec: &[u8], w: usize, last: usize, u: usize) -> usize
     a + 2 * b + 4 * c + 8 * d + 16 * e
 }
 
-// The same by the kind of u: the words are constants. Of an entry only the slot that leads to its exit carries something.
+// The same by the kind of u: the words are constants. Of the first five slots of an entry only the one that leads to its exit carries something.
 fn slots_inside(rec: &[u8], u: usize) -> usize
     requires { ⌜ (32768 ≤ length (now rec)) × (41 ≤ u / 8) × (u / 8 < 1600) ⌝ }
     ensures { λ r. ⌜ r ≡ loadedFrom (now (rec .entry)) u 0 ⌝ }
@@ -240,7 +248,7 @@ fn slots_anywhere(rec: &[u8], u: usize) -> usize
     r
 }
 
-// The loaded slots of u as bits, slot 0 the lowest. Slots 5 to 7 carry nothing.
+// The loaded ones of the first five slots of u as bits, slot 0 the lowest. In a feasible record slots 5 to 7 carry nothing.
 pub fn loaded_slots(rec: &[u8], u: usize) -> usize
     requires { ⌜ (32768 ≤ length (now rec)) × (u < 13128) ⌝ }
     ensures { λ r. ⌜ r ≡ loadedFrom (now (rec .entry)) u 0 ⌝ }
@@ -254,7 +262,7 @@ pub fn loaded_slots(rec: &[u8], u: usize) -> usize
 
 // The spot that the wires of the i-th load byte leave; 13,128 where it is 0.
 pub fn origin(rec: &[u8], i: usize) -> usize
-    requires { ⌜ (32768 ≤ length (now rec)) × (i < 22400) ⌝ }
+    requires { ⌜ (32768 ≤ length (now rec)) × (i < 24000) ⌝ }
     ensures { λ r. ⌜ r ≡ originOf (now (rec .entry)) i ⌝ }
 {
     let b = wide(rec[3968 + i]);
@@ -275,7 +283,7 @@ fn gains(a: u8, b: u8) -> bool
 
 // Whether wires go along the i-th link in a direction in which none went by the old loads.
 pub fn is_fresh(old: &[u8], rec: &[u8], i: usize) -> bool
-    requires { ⌜ (32768 ≤ length (now old)) × (32768 ≤ length (now rec)) × (i < 22400) ⌝ }
+    requires { ⌜ (32768 ≤ length (now old)) × (32768 ≤ length (now rec)) × (i < 24000) ⌝ }
     ensures { λ b. ⌜ b ≡ isFresh (now (old .entry)) (now (rec .entry)) i ⌝ }
 {
     gains(old[3968 + i], rec[3968 + i])
@@ -283,7 +291,7 @@ pub fn is_fresh(old: &[u8], rec: &[u8], i: usize) -> bool
 
 // Whether no link of the k-th 16 load bytes is fresh. The loop has no way out, so that it can be made one of vectors.
 pub fn stale_run(old: &[u8], rec: &[u8], k: usize) -> bool
-    requires { ⌜ (32768 ≤ length (now old)) × (32768 ≤ length (now rec)) × (k < 1400) ⌝ }
+    requires { ⌜ (32768 ≤ length (now old)) × (32768 ≤ length (now rec)) × (k < 1500) ⌝ }
     ensures { λ b. ⌜ StaleRun (now (old .entry)) (now (rec .entry)) k b ⌝ }
 {
     let at = 3968 + 16 * k;

@@ -16,6 +16,7 @@ use crate::header::tile_at;
 use crate::limits::centre_free;
 use crate::limits::centre_most;
 use crate::limits::corner_limit;
+use crate::limits::direct_limit;
 use crate::limits::leg_mark;
 use crate::limits::leg_way;
 use crate::limits::pin_free;
@@ -47,6 +48,9 @@ pub fn is_outside(job: &[u8], u: usize) -> bool
     ensures { λ b. ⌜ b ≡ outside (jobOf (now (job .entry))) u ⌝ }
 {
     let k = u % 8;
+    if k == 0 {
+        return !missing_at(job, u / 8);
+    }
     if (k < 2) | (6 <= k) {
         return false;
     }
@@ -84,6 +88,17 @@ fn corner_move(job: &[u8], loads: &[u8], d: usize) -> bool
         return true;
     }
     load_along(loads, d) < corner_limit(job, d)
+}
+
+// A direct exit: the same.
+fn direct_move(job: &[u8], loads: &[u8], d: usize) -> bool
+    requires { ⌜ (32768 ≤ length (now job)) × (32768 ≤ length (now loads)) × (d < 105024) × (codeOf (d % 64) ≡ 15) ⌝ }
+    ensures { λ b. ⌜ b ≡ moves (jobOf (now (job .entry))) (now (loads .entry)) d ⌝ }
+{
+    if 0 < load_against(loads, d) {
+        return true;
+    }
+    load_along(loads, d) < direct_limit(job, d)
 }
 
 // To or from a centre: no wire the other way.
@@ -180,16 +195,17 @@ pub fn can_move(job: &[u8], loads: &[u8], d: usize) -> bool
         8 => missing_move(job, loads, d),
         11 => centre_back(loads, d),
         14 => missing_back(loads, d),
+        15 => direct_move(job, loads, d),
         _ => 0 < load_against(loads, d),
     }
 }
 
 // Whether a dart of the code has a stored byte.
 pub fn is_stored(c: usize) -> bool
-    requires { ⌜ c < 15 ⌝ }
+    requires { ⌜ c < 16 ⌝ }
     ensures { λ b. ⌜ b ≡ isStored c ⌝ }
 {
-    let bit: usize = (0b11_0110_1101_1110 >> c) % 2;
+    let bit: usize = (0b1011_0110_1101_1110 >> c) % 2;
     bit == 1
 }
 

@@ -45,11 +45,15 @@ pub fn step_back(d: usize) -> usize
 {
     let b = reverse(d);
     let k = b / 8 % 8;
-    if (k == 0) | (k == 6) {
-        return b + 8;
-    }
+    let entry = (k == 0) | (k == 6);
     if b % 8 >= 5 {
+        if entry {
+            return b;
+        }
         return b - 3;
+    }
+    if entry {
+        return b + 8;
     }
     b
 }

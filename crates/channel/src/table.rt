@@ -7,31 +7,31 @@ ghost use Rattle.channel.specs.Map.{rev, turnOf, kindOf, ownerOf, signOf
 
 // The neighbours of a spot by its kind, in document 01's clockwise order, a byte for each slot: what the dart is, and 16 times the kind of its link.
 const NEIGHBOURS: [usize; 8] = [
-    0x0000_0008_dccc_bcac,
-    0x0000_000e_d7c7_b7a7,
+    0x0000_ef08_dccc_bcac,
+    0x0000_0eef_d7c7_b7a7,
     0xbd00_6ab6_5263_2201,
     0xcd00_7ac6_2273_3211,
     0xdd00_8ad6_3283_4201,
     0xad00_9aa6_4293_5211,
     0x0000_0005_9989_7969,
-    0x0000_000b_9484_7464,
+    0x0000_0b00_9484_7464,
 ];
 
-// The rows of the darts along the 14 kinds of links and against them, a byte for each.
+// The rows of the darts along the 15 kinds of links and against them, a byte for each.
 const SEATS: [usize; 4] = [
     0x3938_2921_1911_1810,
-    0x0000_0b0a_0908_3b3a,
+    0x000c_0b0a_0908_3b3a,
     0x1a12_132b_231b_2820,
-    0x0000_241c_142c_2a22,
+    0x0005_241c_142c_2a22,
 ];
 
 // Twice the place of the link's byte, counted from the dart's cell, and 1 more against the link's positive way; 1 from an entry to its exit, and 0 where
 // no wire goes: 16 bits for each of four rows.
 pub const PLACES: [usize; 16] = [
     0x0000_0000_0000_0000,
-    0x0000_0000_0000_0001,
+    0x0000_0000_cdaf_0001,
     0xc12e_b4ae_a82e_9bae,
-    0x0000_0000_0000_0000,
+    0x0000_0000_0000_cdae,
     0x5d2f_69af_37ae_1eae,
     0x0000_0000_0000_a82f,
     0x37af_762f_442e_2b30,
@@ -49,9 +49,9 @@ pub const PLACES: [usize; 16] = [
 // How far ahead the way back lies, 16 bits for each of four rows.
 const TURNS: [usize; 16] = [
     0x0061_0a5a_0a93_00ac,
-    0x0a80_0a80_0a80_0a88,
+    0x0a80_0a80_0a87_0a89,
     0x005c_0a55_0a8e_00a7,
-    0x0a80_0a80_0a80_0a78,
+    0x0a80_0a80_0a77_0a79,
     0x0a96_0a9e_0a8a_0090,
     0x0a72_0a80_0aa3_0a6d,
     0x0a76_0a97_0a8a_0ad0,
@@ -61,9 +61,9 @@ const TURNS: [usize; 16] = [
     0x0a76_0a89_0a6a_0a30,
     0x1459_0a80_0a8e_1454,
     0x0a77_0a70_0a69_0a62,
-    0x0a80_0a80_0a80_0a88,
+    0x0a80_0a80_0a80_0a89,
     0x0a72_0a6b_0a64_0a5d,
-    0x0a80_0a80_0a80_0a78,
+    0x0a80_0a80_0a77_0a80,
 ];
 
 // The neighbours of a spot of kind k.
@@ -123,7 +123,7 @@ fn seat_word(k: usize) -> usize
 
 // The row of the dart along the link of kind k, its positive way or the other.
 pub fn seat_of(k: usize, forth: bool) -> usize
-    requires { ⌜ k < 14 ⌝ }
+    requires { ⌜ k < 15 ⌝ }
     ensures { λ r. ⌜ (r ≡ seatOf k forth) × (r < 64) ⌝ }
 {
     if forth {
@@ -132,7 +132,7 @@ pub fn seat_of(k: usize, forth: bool) -> usize
     (seat_word(2 + k / 8) >> (k % 8 * 8)) % 256
 }
 
-// What a dart is, 0 to 14.
+// What a dart is, 0 to 15.
 pub fn code_of(i: usize) -> usize
     requires { ⌜ i < 64 ⌝ }
     ensures { λ r. ⌜ r ≡ codeOf i ⌝ }
@@ -140,7 +140,7 @@ pub fn code_of(i: usize) -> usize
     (row_word(i / 8) >> (i % 8 * 8)) % 16
 }
 
-// The kind of its link, 0 to 13.
+// The kind of its link, 0 to 14.
 pub fn kind_of(i: usize) -> usize
     requires { ⌜ i < 64 ⌝ }
     ensures { λ r. ⌜ r ≡ kindOf i ⌝ }
@@ -153,7 +153,7 @@ pub fn sign_of(i: usize) -> usize
     requires { ⌜ i < 64 ⌝ }
     ensures { λ r. ⌜ r ≡ signOf i ⌝ }
 {
-    (0x1000_bdbd_bcbc_1000 >> i) % 2
+    (0x2000_bdbd_bcbc_2020 >> i) % 2
 }
 
 // How far the cell stands that owns the link.

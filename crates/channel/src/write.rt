@@ -47,10 +47,10 @@ pub fn set_state(rec: &mut [u8], r: usize, c: usize, v: usize)
     rec[2368 + 40 * r + c] = v as u8;
 }
 
-// The 14 planes of loads become 0: no wires.
+// The 15 planes of loads become 0: no wires.
 pub fn unwire(rec: &mut [u8])
     requires { ⌜ recordSize ≤ length (now rec) ⌝ }
     ensures { λ _. ⌜ now (rec .exit) ≡ unwired (now (rec .entry)) ⌝ }
 {
-    clear(&mut rec[3968..26368]);
+    clear(&mut rec[3968..27968]);
 }

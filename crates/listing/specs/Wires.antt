@@ -31,9 +31,9 @@ outWord = 32 ∷ 40 ∷ 111 ∷ 117 ∷ 116 ∷ 32 ∷ []
 
 -- ---- parts
 
--- n, e, s, w, c, and "a missing pin is place r"; no wire is listed at the others
+-- n, e, s, w, c, "a missing pin is place r", and a pin that is left directly is p; no wire is listed at the others
 abbrev pub letterOf : PlaceKind → ℕ
-letterOf pin = 0
+letterOf pin = 112
 letterOf missing = 114
 letterOf centre = 99
 letterOf outside = 0
@@ -45,7 +45,7 @@ letterOf (side west) = 119
 
 -- the same by the kind of a place's spot
 abbrev pub letters : List ℕ
-letters = 114 ∷ 0 ∷ 110 ∷ 101 ∷ 115 ∷ 119 ∷ 99 ∷ 99 ∷ []
+letters = 114 ∷ 112 ∷ 110 ∷ 101 ∷ 115 ∷ 119 ∷ 99 ∷ 99 ∷ []
 
 pub letter-kind : (k : ℕ) → getD letters k 0 ≡ letterOf (kindAt k)
 letter-kind k = by-kind letterOf k

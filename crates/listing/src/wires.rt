@@ -24,8 +24,8 @@ ghost use Rattle.listing.specs.Lines.{spread};
 ghost use Rattle.listing.specs.Wires.{letters, placeLane, partBytes, wireLine, cellWire, wiresLine};
 ghost use Rattle.listing.specs.Puts.{Puts};
 
-// The letters of the places by kind: r, none for a chosen pin, n, e, s, w, c, c.
-const LETTERS: [u8; 8] = [114, 0, 110, 101, 115, 119, 99, 99];
+// The letters of the places by kind: r, p, n, e, s, w, c, c.
+const LETTERS: [u8; 8] = [114, 112, 110, 101, 115, 119, 99, 99];
 
 // The letter of a place of this kind.
 fn letter(place: usize) -> u8

@@ -38,13 +38,13 @@ kind-at (k ∷ l) n (suc p) t h =
 
 data Region (i : ℕ) : Type 0 where
   head : i < 768 → Region i
-  plane : (j : ℕ) → i ≡ 768 + j → j < 25600 → Region i
+  plane : (j : ℕ) → i ≡ 768 + j → j < 27200 → Region i
   reserve : offset reservePlane 0 0 ≤ i → Region i
 
 region : (i : ℕ) → Region i
-region i = by (ltb i 768) (ltb→lt i 768) (nltb→le i 768) (ltb i 26368) (ltb→lt i 26368) (nltb→le i 26368)
+region i = by (ltb i 768) (ltb→lt i 768) (nltb→le i 768) (ltb i 27968) (ltb→lt i 27968) (nltb→le i 27968)
   where
-    by : (a : Bool) → (T a → i < 768) → (T (not a) → 768 ≤ i) → (b : Bool) → (T b → i < 26368) → (T (not b) → 26368 ≤ i) → Region i
+    by : (a : Bool) → (T a → i < 768) → (T (not a) → 768 ≤ i) → (b : Bool) → (T b → i < 27968) → (T (not b) → 27968 ≤ i) → Region i
     by true p q b s t = head (p tt)
     by false p q true s t = plane (i - 768) (omega (arith, q tt)) (omega (arith, q tt, s tt))
     by false p q false s t = reserve (t tt)
@@ -67,7 +67,7 @@ module _ (rec : List ℕ) (g : Legal rec) where
   unfolding load
   byte-again k r c = parts-byte (cell rec (loadPlane k) r c) (g .values .loads k r c .0) (g .values .loads k r c .1)
 
-  plane-again : (p r c : ℕ) → p < 16 → (planeByte (jobOf rec) (load rec) p r c ≡ cell rec p r c) × (cell rec p r c < 256)
+  plane-again : (p r c : ℕ) → p < 17 → (planeByte (jobOf rec) (load rec) p r c ≡ cell rec p r c) × (cell rec p r c < 256)
   unfolding jobOf
   plane-again zero r c l = (refl, omega (arith, g .values .marks r c))
   plane-again (suc zero) r c l = (refl, omega (arith, g .values .states r c))
@@ -79,7 +79,7 @@ module _ (rec : List ℕ) (g : Legal rec) where
       )
 
   -- the byte of a plane, as the cell that it is
-  cell-get : (j : ℕ) → j < 25600 → cell rec (j / 1600) (j % 1600 / 40) (j % 40) ≡ getD rec (768 + j) 0
+  cell-get : (j : ℕ) → j < 27200 → cell rec (j / 1600) (j % 1600 / 40) (j % 40) ≡ getD rec (768 + j) 0
   unfolding cell
   cell-get j l =
       when-so (inCells (j % 1600 / 40) (j % 40)) _ (cells-have (j % 1600 / 40) (j % 40) (omega arith) (omega arith))

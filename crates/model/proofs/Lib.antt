@@ -25,11 +25,11 @@ pub mod ByTest
 pub mod Edges
 pub mod Least
 pub mod ShortByTest
-pub mod Short64
-pub mod Short33
-pub mod ShortMissing
+pub mod ShortShut
 pub mod Short34
+pub mod ShortRim
 pub mod Shorts
+pub mod Wireds
 pub mod BothWays
 pub mod FourPins
 pub mod LaneExamples

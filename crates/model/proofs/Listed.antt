@@ -3,12 +3,29 @@
 use mathlib.Core.Path.{refl}
 use mathlib.Core.Bool.{Bool, true, false, _&&_}
 use mathlib.Core.List.{List, _∷_, List·Memᴰ, List·Memᴰ·head, List·Memᴰ·tail}
-use Prim.Native.Nat.{ℕ, zero, suc, _<_}
+use Prim.Native.Nat.{ℕ, zero, suc, _≤_, _<_}
 use native.Mathlib.Omega.{arith}
 use lib.Dec.{T, eqb, ltb, ltb→lt}
+use lib.ListN.{length}
 use Rattle.sums.specs.Tests.{and-left, and-right, each-has, those-has}
-use Rattle.model.specs.Job.{Job, isPin, isTile, isOpen, isChosen, isMissing}
-use Rattle.model.specs.Links.{Compass, north, east, south, west, PlaceKind, pin, missing, centre, outside, nowhere, side, Place, at, theOutside, holds, isPlace, placesAt, places, LinkKind, northSide, westSide, corner, spoke, leg, Link, beside, pinAt, behindOf, aheadOf, Step, go, come, head, tail, isEntered, may, around}
+use Rattle.model.specs.Job.{Job, isPin, isTile, isOpen, isChosen, isMissing, onRim}
+use Rattle.model.specs.Links.{Compass, north, east, south, west, PlaceKind, pin, missing, centre, outside, nowhere, side, Place, at, theOutside, holds, isPlace, placesAt, places, LinkKind, northSide, westSide, corner, spoke, leg, direct, Link, beside, pinAt, straightOut, behindOf, aheadOf, Step, go, come, head, tail, isEntered, may, around, aroundOf}
+
+-- ---- how many steps are listed
+
+pub around-five : (x : Place) → length (around x) ≤ 5
+around-five x = by (x .kind)
+  where
+    by : (p : PlaceKind) → length (aroundOf p (x .row) (x .column)) ≤ 5
+    by pin = omega arith
+    by missing = omega arith
+    by centre = omega arith
+    by outside = omega arith
+    by nowhere = omega arith
+    by (side north) = omega arith
+    by (side east) = omega arith
+    by (side south) = omega arith
+    by (side west) = omega arith
 
 -- ---- membership by position
 
@@ -87,6 +104,13 @@ module _ (J : Job) where
       by true = a
       by false = b
 
+  out-by : (r c : ℕ) (P : Place → Type 0) → P theOutside → P (at nowhere 0 0) → P (straightOut J r c)
+  out-by r c P a b = by (isChosen J r c && onRim J r c)
+    where
+      by : (t : Bool) → P (elim t [ true ↦ theOutside | false ↦ at nowhere 0 0 ])
+      by true = a
+      by false = b
+
   abbrev Listed : Step → Place → Type 0
   Listed s x = T (isPlace J x) → List·Memᴰ s (around x)
 
@@ -107,6 +131,7 @@ module _ (J : Job) where
   forth-listed (leg east) r c = pin-by r c (Listed (go (leg east) r c)) (λ t. second) (λ t. second)
   forth-listed (leg south) r c = pin-by r c (Listed (go (leg south) r c)) (λ t. third) (λ t. third)
   forth-listed (leg west) r c = pin-by r c (Listed (go (leg west) r c)) (λ t. fourth) (λ t. fourth)
+  forth-listed direct r c = λ t. fifth
 
   back-listed : (k : LinkKind) (r c : ℕ) → Listed (come k r c) (aheadOf J k r c)
   unfolding aheadOf
@@ -129,6 +154,7 @@ module _ (J : Job) where
   back-listed (leg west) zero c = absurd
   back-listed (leg west) (suc r) zero = absurd
   back-listed (leg west) (suc r) (suc c) = λ t. fifth
+  back-listed direct r c = out-by r c (Listed (come direct r c)) absurd absurd
 
   abbrev way : Link → Bool → Step
   way l b = record { link = l; forth = b }

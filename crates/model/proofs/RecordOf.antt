@@ -17,7 +17,7 @@ use Rattle.sums.specs.Tests.{Same, same, other, same?, and-left, and-right, and
 use Rattle.sums.specs.Sums.{when-cong}
 use Rattle.sums.specs.Entries.{entry-past}
 use Rattle.model.specs.Job.{Job, inRange, arrayFits, capsFit, isPin, isTile, Proper}
-use Rattle.model.specs.Links.{north, east, south, west, LinkKind, northSide, westSide, corner, spoke, leg, Link, Step, go, come, turn}
+use Rattle.model.specs.Links.{north, east, south, west, LinkKind, northSide, westSide, corner, spoke, leg, direct, Link, Step, go, come, turn}
 use Rattle.model.specs.Loads.{Sound}
 use Rattle.model.specs.Record.{recordSize, reservePlane, loadPlane, offset, cell, jobOf, forthPart, backPart, load, Legal}
 use Rattle.model.specs.Record.{bytes, kinds, loadByte, loadByteOf, planeByte, headByte, recordOf}
@@ -55,7 +55,7 @@ cells-column r c t = ltb→lt c 40 (and-right (ltb r 40) (ltb c 40) t)
 pub cells-have : (r c : ℕ) → r < 40 → c < 40 → T (inCells r c)
 cells-have r c a b = and-both (ltb r 40) (ltb c 40) (lt→ltb r 40 a) (lt→ltb c 40 b)
 
-pub plane-below : (k : LinkKind) → loadPlane k < 16
+pub plane-below : (k : LinkKind) → loadPlane k < 17
 plane-below northSide = omega arith
 plane-below westSide = omega arith
 plane-below (corner north) = omega arith
@@ -70,6 +70,7 @@ plane-below (leg north) = omega arith
 plane-below (leg east) = omega arith
 plane-below (leg south) = omega arith
 plane-below (leg west) = omega arith
+plane-below direct = omega arith
 
 pub plane-of : (J : Job) (f : Step → ℕ) (k : LinkKind) (r c : ℕ) → planeByte J f (loadPlane k) r c ≡ loadByte f k r c
 plane-of J f northSide r c = refl
@@ -86,6 +87,7 @@ plane-of J f (leg north) r c = refl
 plane-of J f (leg east) r c = refl
 plane-of J f (leg south) r c = refl
 plane-of J f (leg west) r c = refl
+plane-of J f direct r c = refl
 
 pub range-most : (least most n : ℕ) → T (inRange least most n) → n ≤ most
 range-most least most n t = leb→le n most (and-right (leb least n) (leb n most) t)
@@ -126,7 +128,7 @@ module _ (J : Job) (f : Step → ℕ) where
   unfolding cell
   cell-is p r c l = when-cong (inCells r c) _ _ (λ t. cell-back p r c l (cells-row r c t) (cells-column r c t))
 
-  pub plane-high : (p r c : ℕ) → 16 ≤ p → planeByte J f p r c ≡ 0
+  pub plane-high : (p r c : ℕ) → 17 ≤ p → planeByte J f p r c ≡ 0
   plane-high zero r c l = absurd (omega arith)
   plane-high (suc zero) r c l = absurd (omega arith)
   plane-high (suc (suc p)) r c l = ap (λ (k : Option LinkKind). loadByteOf f k r c) (entry-past kinds p (omega arith))

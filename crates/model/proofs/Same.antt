@@ -6,7 +6,7 @@ use Prim.Native.Nat.{ℕ}
 use lib.Dec.{T, eqb, eqb→eq, eqb-refl}
 use lib.ListN.{getD}
 use Rattle.sums.specs.Tests.{and-left, and-right, and-both}
-use Rattle.model.specs.Links.{north, east, south, west, PlaceKind, pin, missing, centre, outside, nowhere, side, Place, LinkKind, northSide, westSide, corner, spoke, leg, Link, placeCode, samePlace, linkCode, sameLink}
+use Rattle.model.specs.Links.{north, east, south, west, PlaceKind, pin, missing, centre, outside, nowhere, side, Place, LinkKind, northSide, westSide, corner, spoke, leg, direct, Link, placeCode, samePlace, linkCode, sameLink}
 
 -- ---- three numbers
 
@@ -54,7 +54,7 @@ linkFor : ℕ → LinkKind
 linkFor i =
     getD
     (northSide ∷ westSide ∷ corner north ∷ corner east ∷ corner south ∷ corner west ∷ spoke north ∷ spoke east ∷ spoke south ∷ spoke west ∷ leg north
-    ∷ leg east ∷ leg south ∷ leg west ∷ []) i northSide
+    ∷ leg east ∷ leg south ∷ leg west ∷ direct ∷ []) i northSide
 
 link-for : (k : LinkKind) → linkFor (linkCode k) ≡ k
 unfolding linkFor
@@ -72,6 +72,7 @@ link-for (leg north) = refl
 link-for (leg east) = refl
 link-for (leg south) = refl
 link-for (leg west) = refl
+link-for direct = refl
 
 pub same-link-eq : (a b : Link) → T (sameLink a b) → a ≡ b
 same-link-eq a b t =

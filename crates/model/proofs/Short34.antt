@@ -1,4 +1,4 @@
--- 3 by 4, one tile open, two of its pins chosen. One route passes the centre and then the one rim side, each of limit 1. The near side that ends at the
+-- 3 by 4, one tile open, its two inner pins chosen. One route passes the centre and then the one rim side, each of limit 1. The near side that ends at the
 -- centre is the smallest; the one with all of the tile has the same sum. Assumes nothing.
 use mathlib.Core.Path.{_≡_, refl}
 use mathlib.Core.List.{List, [], _∷_}

@@ -79,46 +79,62 @@ unfoldable pub among : List ℕ → ℕ → Bool
 among [] i = false
 among (x ∷ l) i = eqb i x || among l i
 
--- The 64-byte text: 2 by 2, caps 1 2 0, pin (0, 0) chosen, tile (0, 0) closed. Only pin (0, 0) is near.
-abbrev pub job64 : Job
-job64 = closed (marked (fresh 2 2 1 2 0) 0 0 1) 0 0 1
+-- 3 by 3, caps 1 2 0, every tile closed, the inner pin (1, 1) chosen. Only that pin is near.
+abbrev pub jobShut : Job
+jobShut = closed (closed (closed (closed (marked (fresh 3 3 1 2 0) 1 1 1) 0 0 1) 0 1 1) 1 0 1) 1 1 1
 
-abbrev pub short64 : Short
-short64 = record { job = job64; greatest = 0; near = spot 1 0 0 ∷ [] }
+abbrev pub shortShut : Short
+shortShut = record { job = jobShut; greatest = 0; near = spot 1 1 1 ∷ [] }
 
--- 3 by 3, caps 1 1 0, tile (0, 0) alone open, pins (0, 0), (1, 0), (1, 1) chosen. Near are the three pins and n, e, s, w, ci, co of tile (0, 0).
-abbrev pub job33 : Job
-job33 = closed (closed (closed (marked (marked (marked (fresh 3 3 1 1 0) 0 0 1) 1 0 1) 1 1 1) 0 1 1) 1 0 1) 1 1 1
+-- 3 by 4, caps O D E, tile (0, 1) alone open, the inner pins (1, 1), (1, 2) chosen
+abbrev pub oneOpen : ℕ → ℕ → ℕ → Job
+oneOpen O D E = closed (closed (closed (closed (closed (marked (marked (fresh 3 4 O D E) 1 1 1) 1 2 1) 0 0 1) 0 2 1) 1 0 1) 1 1 1) 1 2 1
 
-abbrev pub short33 : Short
-short33 =
+-- Caps 1 1 0. One wire passes the centre and then the rim side n, each of limit 1: near are the pins, s, w and ci. With co, n and e the sum is 1 too, but
+-- that near side is not the smallest.
+abbrev pub job34 : Job
+job34 = oneOpen 1 1 0
+
+abbrev pub short34 : Short
+short34 = record { job = job34; greatest = 1; near = spot 1 1 1 ∷ spot 1 1 2 ∷ spot 4 0 1 ∷ spot 5 0 1 ∷ spot 6 0 1 ∷ [] }
+
+-- Caps 1 2 0. The centre passes two wires, the rim side n one: near are the pins and n, e, s, w, ci, co of the tile.
+abbrev pub jobRim : Job
+jobRim = oneOpen 1 2 0
+
+abbrev pub shortRim : Short
+shortRim =
     record {
-      job = job33;
-      greatest = 2;
-      near = spot 1 0 0 ∷ spot 1 1 0 ∷ spot 1 1 1 ∷ spot 2 0 0 ∷ spot 3 0 0 ∷ spot 4 0 0 ∷ spot 5 0 0 ∷ spot 6 0 0 ∷ spot 7 0 0 ∷ [];
+      job = jobRim;
+      greatest = 1;
+      near = spot 1 1 1 ∷ spot 1 1 2 ∷ spot 2 0 1 ∷ spot 3 0 1 ∷ spot 4 0 1 ∷ spot 5 0 1 ∷ spot 6 0 1 ∷ spot 7 0 1 ∷ [];
     }
 
--- The same array with E = 2, pins (0, 0), (0, 1), (1, 0) chosen and pin (1, 1) missing. Near are the three pins, all of tile (0, 0), and the entry and
--- the exit of the missing pin.
+-- The same with E = 2 and pin (0, 1) missing. It stands on the rim, and no wire leaves it directly. Its entry and its exit are near too.
 abbrev pub jobMissing : Job
-jobMissing = closed (closed (closed (marked (marked (marked (marked (fresh 3 3 1 1 2) 0 0 1) 0 1 1) 1 0 1) 1 1 2) 0 1 1) 1 0 1) 1 1 1
+jobMissing = marked (oneOpen 1 2 2) 0 1 2
 
 abbrev pub shortMissing : Short
 shortMissing =
     record {
       job = jobMissing;
-      greatest = 2;
+      greatest = 1;
       near =
-          spot 1 0 0 ∷ spot 1 0 1 ∷ spot 1 1 0 ∷ spot 2 0 0 ∷ spot 3 0 0 ∷ spot 4 0 0 ∷ spot 5 0 0 ∷ spot 6 0 0 ∷ spot 7 0 0 ∷ spot 0 1 1 ∷ spot 1 1 1 ∷ [];
+          spot 1 1 1 ∷ spot 1 1 2 ∷ spot 2 0 1 ∷ spot 3 0 1 ∷ spot 4 0 1 ∷ spot 5 0 1 ∷ spot 6 0 1 ∷ spot 7 0 1 ∷ spot 0 0 1 ∷ spot 1 0 1 ∷ [];
     }
 
--- 3 by 4, caps 1 1 0, tile (0, 1) alone open, pins (1, 1), (1, 2) chosen. One wire passes the centre and then the rim side n, each of limit 1: near are
--- the pins, s, w and ci. With co, n and e the sum is 1 too, but that near side is not the smallest.
-abbrev pub job34 : Job
-job34 = closed (closed (closed (closed (closed (marked (marked (fresh 3 4 1 1 0) 1 1 1) 1 2 1) 0 0 1) 0 2 1) 1 0 1) 1 1 1) 1 2 1
-
-abbrev pub short34 : Short
-short34 = record { job = job34; greatest = 1; near = spot 1 1 1 ∷ spot 1 1 2 ∷ spot 4 0 1 ∷ spot 5 0 1 ∷ spot 6 0 1 ∷ [] }
-
 abbrev pub shorts : List Short
-shorts = short64 ∷ short33 ∷ shortMissing ∷ short34 ∷ []
+shorts = shortShut ∷ short34 ∷ shortRim ∷ shortMissing ∷ []
+
+-- ---- jobs whose chosen pins can all have a route
+
+-- The 64-byte text: 2 by 2, caps 1 2 0, pin (0, 0) chosen, tile (0, 0) closed.
+abbrev pub job64 : Job
+job64 = closed (marked (fresh 2 2 1 2 0) 0 0 1) 0 0 1
+
+-- 3 by 3, caps 1 1 0, tile (0, 0) alone open, pins (0, 0), (1, 0), (1, 1) chosen.
+abbrev pub job33 : Job
+job33 = closed (closed (closed (marked (marked (marked (fresh 3 3 1 1 0) 0 0 1) 1 0 1) 1 1 1) 0 1 1) 1 0 1) 1 1 1
+
+abbrev pub wireds : List Job
+wireds = job64 ∷ job33 ∷ []

@@ -1,5 +1,5 @@
 -- Document 01, "The array and its channels" and "Runs": ranges, a job, and which pins and tiles it has. Assumes nothing.
-use mathlib.Core.Bool.{Bool, true, false, _&&_}
+use mathlib.Core.Bool.{Bool, true, false, _&&_, _||_}
 use Prim.Native.Nat.{ℕ, suc, _-_, _*_, _/_}
 use lib.Dec.{T, eqb, leb, ltb}
 use Rattle.sums.specs.Counting.{when}
@@ -68,6 +68,10 @@ module _ (J : Job) where
   -- "Tile (r, c) has the pins (r, c), (r, c+1), (r+1, c+1), (r+1, c) at its NW, NE, SE and SW corners."
   abbrev pub isTile : ℕ → ℕ → Bool
   isTile r c = ltb (suc r) (J .rows) && ltb (suc c) (J .columns)
+
+  -- "A chosen pin in the first or last row or column"
+  abbrev pub onRim : ℕ → ℕ → Bool
+  onRim r c = eqb r 0 || (eqb (suc r) (J .rows) || (eqb c 0 || eqb (suc c) (J .columns)))
 
   unfoldable pub isOpen : ℕ → ℕ → Bool
   isOpen r c = isTile r c && eqb (J .state r c) 0

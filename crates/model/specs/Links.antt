@@ -7,7 +7,7 @@ use mathlib.Core.Option.{Option, none, some}
 use Prim.Native.Nat.{ℕ, zero, suc, _+_, _/_}
 use lib.Dec.{eqb}
 use Rattle.sums.specs.Counting.{each, those}
-use Rattle.model.specs.Job.{Job, isTile, isOpen, isChosen, isMissing, centreLimit}
+use Rattle.model.specs.Job.{Job, isTile, isOpen, isChosen, isMissing, onRim, centreLimit}
 
 -- ---- places
 
@@ -68,9 +68,9 @@ places J = each (J .rows) (λ r. each (J .columns) (λ c. those (isPlace J) (pla
 
 -- The north and the west side of the tile (r, c); its corners n-e, e-s, s-w, w-n, each named by the point that it starts from; the spokes from its
 -- centre to n, e, s, w; the legs of the pin (r, c) to the four tiles around it, named as in the clockwise table: north leads into the NE tile, east
--- into SE, south into SW, west into NW.
+-- into SE, south into SW, west into NW; the direct exit of the pin (r, c).
 pub data LinkKind : Type 0 where
-  northSide westSide : LinkKind
+  northSide westSide direct : LinkKind
   corner spoke leg : Compass → LinkKind
 
 pub record Link : Type 0 where
@@ -98,6 +98,11 @@ behindOf J westSide r (suc c) = at (side east) r c
 behindOf J (corner d) r c = at (side d) r c
 behindOf J (spoke d) r c = at centre r c
 behindOf J (leg d) r c = pinAt J r c
+behindOf J direct r c = at pin r c
+
+-- "A chosen pin in the first or last row or column gets one more link, to the outside": what lies straight out of the pin (r, c)
+abbrev pub straightOut : Job → ℕ → ℕ → Place
+straightOut J r c = elim (isChosen J r c && onRim J r c) [ true ↦ theOutside | false ↦ at nowhere 0 0 ]
 
 -- "A chosen pin has links to n of the tile whose NW corner it is, e where it is NE, s where SE, w where SW"; a missing pin "to the same four places".
 unfoldable pub aheadOf : Job → LinkKind → ℕ → ℕ → Place
@@ -114,6 +119,7 @@ aheadOf J (leg south) r (suc c) = at (side east) r c
 aheadOf J (leg west) zero c = at nowhere 0 0
 aheadOf J (leg west) (suc r) zero = at nowhere 0 0
 aheadOf J (leg west) (suc r) (suc c) = at (side south) r c
+aheadOf J direct r c = straightOut J r c
 
 -- "A side: limit O. n-e, e-s, s-w, w-n: limit O/2 rounded down. c to each of n, e, s, w: no limit of its own. A chosen pin: limit 1. A missing pin is
 -- linked without limit."
@@ -123,6 +129,7 @@ limitOf J westSide r c = some (J .O)
 limitOf J (corner d) r c = some (J .O / 2)
 limitOf J (spoke d) r c = none
 limitOf J (leg d) r c = elim (eqb (J .mark r c) 2) [ true ↦ none | false ↦ some 1 ]
+limitOf J direct r c = some 1
 
 abbrev pub limit : Job → Link → Option ℕ
 limit J l = limitOf J (l .kind) (l .row) (l .column)
@@ -183,7 +190,7 @@ may J s = isPlace J (tail J s) && isEntered J (head J s)
 
 -- Document 01, "Lanes and pairing": "Links around a place, clockwise", each as the step that leaves by it.
 abbrev pub aroundOf : PlaceKind → ℕ → ℕ → List Step
-aroundOf pin r c = go (leg north) r c ∷ go (leg east) r c ∷ go (leg south) r c ∷ go (leg west) r c ∷ []
+aroundOf pin r c = go (leg north) r c ∷ go (leg east) r c ∷ go (leg south) r c ∷ go (leg west) r c ∷ go direct r c ∷ []
 aroundOf missing r c = go (leg north) r c ∷ go (leg east) r c ∷ go (leg south) r c ∷ go (leg west) r c ∷ []
 aroundOf centre r c = go (spoke north) r c ∷ go (spoke east) r c ∷ go (spoke south) r c ∷ go (spoke west) r c ∷ []
 aroundOf outside r c = []
@@ -216,13 +223,14 @@ isMissingKind x = eqb (placeCode (x .kind)) (placeCode missing)
 abbrev pub samePlace : Place → Place → Bool
 samePlace x y = eqb (placeCode (x .kind)) (placeCode (y .kind)) && (eqb (x .row) (y .row) && eqb (x .column) (y .column))
 
--- the number of a kind among the 14
+-- the number of a kind among the 15
 abbrev pub linkCode : LinkKind → ℕ
 linkCode northSide = 0
 linkCode westSide = 1
 linkCode (corner d) = 2 + compassCode d
 linkCode (spoke d) = 6 + compassCode d
 linkCode (leg d) = 10 + compassCode d
+linkCode direct = 14
 
 abbrev pub sameLink : Link → Link → Bool
 sameLink a b = eqb (linkCode (a .kind)) (linkCode (b .kind)) && (eqb (a .row) (b .row) && eqb (a .column) (b .column))

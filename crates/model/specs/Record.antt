@@ -11,7 +11,7 @@ use lib.Dec.{T, ltb}
 use lib.ListN.{length, getD, getElem?, drop}
 use Rattle.sums.specs.Counting.{when, each}
 use Rattle.model.specs.Job.{Job, arrayFits, capsFit, isPin, isTile}
-use Rattle.model.specs.Links.{north, east, south, west, LinkKind, northSide, westSide, corner, spoke, leg, linkCode, Step, go, come}
+use Rattle.model.specs.Links.{north, east, south, west, LinkKind, northSide, westSide, corner, spoke, leg, direct, linkCode, Step, go, come}
 use Rattle.model.specs.Loads.{Sound}
 
 abbrev pub recordSize : ℕ
@@ -33,7 +33,7 @@ loadPlane k = 2 + linkCode k
 
 -- the first plane in reserve
 abbrev pub reservePlane : ℕ
-reservePlane = 16
+reservePlane = 17
 
 abbrev pub offset : ℕ → ℕ → ℕ → ℕ
 offset plane r c = 768 + 1600 * plane + 40 * r + c
@@ -108,7 +108,7 @@ bytes n f = each n (λ i. f i ∷ [])
 abbrev pub kinds : List LinkKind
 kinds =
     northSide ∷ westSide ∷ corner north ∷ corner east ∷ corner south ∷ corner west ∷ spoke north ∷ spoke east ∷ spoke south ∷ spoke west ∷ leg north
-    ∷ leg east ∷ leg south ∷ leg west ∷ []
+    ∷ leg east ∷ leg south ∷ leg west ∷ direct ∷ []
 
 abbrev pub loadByte : (Step → ℕ) → LinkKind → ℕ → ℕ → ℕ
 loadByte f k r c = f (go k r c) + when (ltb 0 (f (come k r c))) (32 + f (come k r c))

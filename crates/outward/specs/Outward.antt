@@ -1,5 +1,5 @@
 -- Loads that lead outward. The array is parted into four sectors, one for each rim, and each link has a way that leads to the rims: a side away from the
--- middle, a corner or a spoke towards the rim of its tile's sector, a leg away from its pin. A byte leads outward if it is 0 or one wire that way. Assumes
+-- middle, a corner or a spoke towards the rim of its tile's sector, a leg and a direct exit away from their pin. A byte leads outward if it is 0 or one wire that way. Assumes
 -- nothing.
 pub mod Falling
 use mathlib.Core.Path.{_≡_, refl, sym, ap, subst, _∙_}
@@ -49,12 +49,12 @@ cornerFalls w d = ltb (height w (clockwise d)) (height w d)
 pub spokeFalls : Compass → Compass → Bool
 spokeFalls w d = ltb (height w d) 1
 
--- the same for the links within a tile of the sector w and for legs, by the number of the kind less 2
+-- the same for the links within a tile of the sector w, for legs and for direct exits, by the number of the kind less 2
 pub inside : Compass → ℕ → Bool
 inside w j =
     getD
     (cornerFalls w north ∷ cornerFalls w east ∷ cornerFalls w south ∷ cornerFalls w west ∷ spokeFalls w north ∷ spokeFalls w east ∷ spokeFalls w south
-    ∷ spokeFalls w west ∷ true ∷ true ∷ true ∷ true ∷ [])
+    ∷ spokeFalls w west ∷ true ∷ true ∷ true ∷ true ∷ true ∷ [])
     j false
 
 -- whether the positive way of the link of kind k at (r, c) leads outward
@@ -81,12 +81,12 @@ one-back f e = ap (λ (b : Bool). elim b [ true ↦ 1 | false ↦ 33 ]) (sym e)
 -- every load byte is 0, or one wire outward
 pub Outward : Parts → List ℕ → Type 0
 Outward P old =
-    (i : ℕ) → i < 22400
+    (i : ℕ) → i < 24000
     → (getD old (3968 + i) 0 ≡ 0) ⊎ (getD old (3968 + i) 0 ≡ oneWire (leads P (i / 1600) (i % 1600 / 40) (i % 40)))
 
 -- the load bytes from a to before b are one wire each, the i-th along its link's positive way where f says so, and the others are as they were
 pub record Put (old : List ℕ) (a b : ℕ) (f : ℕ → Bool) (new : List ℕ) : Type 0 where
-  pub each : (i : ℕ) → i < 22400
+  pub each : (i : ℕ) → i < 24000
       → (getD new (3968 + i) 0 ≡ getD old (3968 + i) 0) ⊎ ((a ≤ i) × (i < b) × (getD new (3968 + i) 0 ≡ oneWire (f i)))
 
 -- the old bytes lead outward, and so do the new ones
@@ -108,7 +108,7 @@ pub put-more : {old mid : List ℕ} {a b : ℕ} {f : ℕ → Bool} → Put old a
     → Put old a (b + 1) f (set mid (3968 + b) v)
 put-more {old} {mid} {a} {b} {f} p l h v e = record { each = λ i m. by i m (eqb i b) (same? i b) (p .each i m) }
   where
-    by : (i : ℕ) → i < 22400 → (t : Bool) → Same i b t
+    by : (i : ℕ) → i < 24000 → (t : Bool) → Same i b t
         → (getD mid (3968 + i) 0 ≡ getD old (3968 + i) 0) ⊎ ((a ≤ i) × (i < b) × (getD mid (3968 + i) 0 ≡ oneWire (f i)))
         → (getD (set mid (3968 + b) v) (3968 + i) 0 ≡ getD old (3968 + i) 0)
         ⊎ ((a ≤ i) × (i < b + 1) × (getD (set mid (3968 + b) v) (3968 + i) 0 ≡ oneWire (f i)))
@@ -293,18 +293,19 @@ module _ {old new : List ℕ} (n m r : ℕ) (l : r < 40) where
       by true = refl
       by false = refl
 
--- the legs, beside loads of 0
-pub legs-outward : {old new : List ℕ} (P : Parts) → Put old 16000 22400 (λ i. true) new → ((i : ℕ) → i < 32768 → getD old i 0 ≡ 0) → Outward P new
+-- the legs and the direct exits, beside loads of 0
+pub legs-outward : {old new : List ℕ} (P : Parts) → Put old 16000 24000 (λ i. true) new → ((i : ℕ) → i < 32768 → getD old i 0 ≡ 0) → Outward P new
 unfolding Outward leads inside
 legs-outward {old} {new} P p z =
     put-outward P p (λ i l h. leg (i % 1600 / 40) (i % 40) (i / 1600 - 10) (i / 1600) (omega arith) (omega arith)) (λ i l. inl (z (3968 + i) (omega arith)))
   where
-    leg : (r c d k : ℕ) → d < 4 → k ≡ 10 + d → leads P k r c ≡ true
+    leg : (r c d k : ℕ) → d < 5 → k ≡ 10 + d → leads P k r c ≡ true
     leg r c zero k l e = ap (λ (x : ℕ). leads P x r c) e
     leg r c (suc zero) k l e = ap (λ (x : ℕ). leads P x r c) e
     leg r c (suc (suc zero)) k l e = ap (λ (x : ℕ). leads P x r c) e
     leg r c (suc (suc (suc zero))) k l e = ap (λ (x : ℕ). leads P x r c) e
-    leg r c (suc (suc (suc (suc d)))) k l e = absurd (omega arith)
+    leg r c (suc (suc (suc (suc zero)))) k l e = ap (λ (x : ℕ). leads P x r c) e
+    leg r c (suc (suc (suc (suc (suc d))))) k l e = absurd (omega arith)
 
 -- loads with a wire on one leg
 pub one-leg : (P : Parts) → Outward P (set (replicate 32768 0) (3968 + 16000) 1)
@@ -312,5 +313,5 @@ one-leg P =
     legs-outward P
     (put-before
     (put-more (put-none (replicate 32768 0) 16000 (λ i. true)) (omega arith) (omega (arith, length-replicate {A = ℕ} 32768 0)) 1 (one-forth true refl))
-    22400 (λ i l h. omega arith))
+    24000 (λ i l h. omega arith))
     (λ i l. getD-replicate 32768 i 0 0 l)

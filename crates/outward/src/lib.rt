@@ -18,7 +18,7 @@ fn one_wire(forth: bool) -> u8
 
 // The load bytes from a to before b become one wire each.
 fn put(old: &mut [u8], a: usize, b: usize, forth: bool)
-    requires { ⌜ (32768 ≤ length (now old)) × (b ≤ 22400) ⌝ }
+    requires { ⌜ (32768 ≤ length (now old)) × (b ≤ 24000) ⌝ }
     ensures { λ _. ⌜ Put (now (old .entry)) a b (λ i. forth) (now (old .exit)) ⌝ }
 {
     let wire = one_wire(forth);
@@ -173,7 +173,7 @@ pub fn lead_outward(old: &mut [u8], rows: usize, columns: usize)
 {
     let numbers = count_up();
     let east = east_of(columns / 2);
-    put(old, 16000, 22400, true);
+    put(old, 16000, 24000, true);
     for r in 0..up_to_40(rows) {
         put_links(old, &numbers, &east, rows, columns, r);
     }

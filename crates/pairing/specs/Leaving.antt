@@ -15,6 +15,7 @@ use Rattle.model.specs.Links.{Place, Step, turn, aroundOf, around, linkCode, sa
 use Rattle.model.specs.Links.{north, east, south, west, PlaceKind, pin, missing, centre, outside, nowhere, side}
 use Rattle.model.specs.Pairing.{pairsOf, partnerIn}
 use Rattle.model.specs.Wires.{End, endsOn, arrives, departing, leaving}
+use Rattle.model.proofs.Listed.{around-five}
 use Rattle.pairing.specs.Perfect.{Perfect, pairs-perfect}
 use Rattle.pairing.specs.Slots.{start, arrivalPos, departurePos, arrivesAt, start-later, start-cong, arrives-cong}
 use Rattle.pairing.specs.Lanes.{loadOf, lanesIn, lanesOut, Apart, Entry, arrive, depart, done, entry, arrival-entry, departure-entry, ends-length}
@@ -73,20 +74,6 @@ kinds-apart (side west) r c = tt
 
 pub around-apart : (x : Place) → Apart (around x)
 around-apart x = codes-apart (around x) (kinds-apart (x .kind) (x .row) (x .column))
-
-pub around-five : (x : Place) → length (around x) ≤ 5
-around-five x = by (x .kind)
-  where
-    by : (p : PlaceKind) → length (aroundOf p (x .row) (x .column)) ≤ 5
-    by pin = omega arith
-    by missing = omega arith
-    by centre = omega arith
-    by outside = omega arith
-    by nowhere = omega arith
-    by (side north) = omega arith
-    by (side east) = omega arith
-    by (side south) = omega arith
-    by (side west) = omega arith
 
 -- ---- the partner of a lane
 

@@ -9,8 +9,9 @@ use Rattle.sums.specs.Sums.{sum-cong}
 use Rattle.model.specs.Links.{Place, Step, turn, around}
 use Rattle.model.specs.Loads.{arrivals, departures}
 use Rattle.model.specs.Wires.{leaving}
+use Rattle.model.proofs.Listed.{around-five}
 use Rattle.pairing.specs.Lanes.{lanesIn, lanesOut, load-total}
-use Rattle.pairing.specs.Leaving.{around-five, leaving-slot}
+use Rattle.pairing.specs.Leaving.{leaving-slot}
 use Rattle.pairing.specs.Answer.{Partner}
 
 -- the numbers of lanes of five slots are those of the links round the place

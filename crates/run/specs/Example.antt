@@ -1,5 +1,6 @@
 -- Runs to which demand 3 applies, whatever the service: any list of calls after a start; New on 32,768 zero bytes, an edit and a step. The starred jobs of
--- document 01, "Settled by hand", are reached by such runs (the 64-byte text by Read text too), so every service gives the answers that stand there.
+-- document 01, "Settled by hand", are reached by such runs (the 64-byte text by Read text too), so every service wires them whole, as document 02 says; and
+-- a short job is.
 -- Assumes a service; crates/witness has one.
 use mathlib.Core.Path.{_≡_, refl}
 use mathlib.Core.Bool.{false}
@@ -11,7 +12,7 @@ use lib.ListN.{length, getD, replicate, length-replicate}
 use Rattle.sums.specs.Tests.{and-left, and-right, every}
 use Rattle.model.specs.Job.{Job, fresh, marked, isPin, isChosen}
 use Rattle.model.specs.Record.{recordSize}
-use Rattle.model.specs.Examples.{job64, short64, job33, short33}
+use Rattle.model.specs.Examples.{job64, job33, jobShut, shortShut}
 use Rattle.model.specs.Calls.{Call, new, mark, close, step, readText, Answer, allWired, Accepted}
 use Rattle.model.specs.Run.{Buffer, Service, Starts, Follows, NeverOne, Stepping, Demand}
 use Rattle.model.proofs.TextExamples.{text64, reads64}
@@ -21,7 +22,7 @@ use Rattle.run.specs.Says.{enough-accepted}
 use Rattle.run.specs.Demand3.{demand3}
 use Rattle.run.specs.Blank.{Blank, new-begins, text-begins}
 use Rattle.run.specs.Edits.{Edits, end, marks, closes, edits-blank, edits-follow}
-use Rattle.run.specs.Settled.{Answers, shorts-answers, none-answers}
+use Rattle.run.specs.Settled.{Answers, shorts-answers, WholeAnswers, wireds-answers, none-answers}
 
 -- ---- a record of zeros
 
@@ -92,9 +93,9 @@ module _ (S : Service) where
   to64 : Edits plain edits64 job64
   to64 = marks 0 0 1 (omega arith) tt tt (closes 0 0 1 (omega arith) tt tt end)
 
-  pub answers64 : Answers S (recAfter S edits64 begun) short64
+  pub answers64 : WholeAnswers S (recAfter S edits64 begun) job64
   answers64 =
-      shorts-answers short64 (List·Memᴰ·head refl) S begun plain starts-new edits64 (recAfter S edits64 begun)
+      wireds-answers job64 (List·Memᴰ·head refl) S begun plain starts-new edits64 (recAfter S edits64 begun)
       (edits-follow S to64 begun (begun-blank .1) [] (recAfter S edits64 begun) job64 (refl, refl))
       (edits-blank S to64 begun (begun-blank .1) .unwired)
 
@@ -108,11 +109,11 @@ module _ (S : Service) where
   unfolding every
   text-buffer = record { byte = byte-by-test text64 tt; few = omega arith }
 
-  pub text-answers64 : Answers S (S .does (readText text64) zeroRecord .rec) short64
+  pub text-answers64 : WholeAnswers S (S .does (readText text64) zeroRecord .rec) job64
   text-answers64 =
       let (s, b) = text-begins S zeroRecord zero-buffer zero-long text64 job64 text-buffer reads64 in
       let rec : List ℕ = S .does (readText text64) zeroRecord .rec in
-      shorts-answers short64 (List·Memᴰ·head refl) S rec job64 s [] rec (refl, refl) (b .unwired)
+      wireds-answers job64 (List·Memᴰ·head refl) S rec job64 s [] rec (refl, refl) (b .unwired)
 
   -- ---- 3 by 3, one tile open, three pins chosen
 
@@ -129,9 +130,30 @@ module _ (S : Service) where
       (marks 1 1 1 (omega arith) tt tt
       (closes 0 1 1 (omega arith) tt tt (closes 1 0 1 (omega arith) tt tt (closes 1 1 1 (omega arith) tt tt end)))))
 
-  pub answers33 : Answers S (recAfter S edits33 begun33) short33
+  pub answers33 : WholeAnswers S (recAfter S edits33 begun33) job33
   answers33 =
       let (s, b) = new-begins S zeroRecord zero-buffer zero-long 3 3 1 1 0 (omega arith) tt tt in
       let rec : List ℕ = recAfter S edits33 begun33 in
-      shorts-answers short33 (List·Memᴰ·tail (List·Memᴰ·head refl)) S begun33 (fresh 3 3 1 1 0) s edits33 rec
+      wireds-answers job33 (List·Memᴰ·tail (List·Memᴰ·head refl)) S begun33 (fresh 3 3 1 1 0) s edits33 rec
       (edits-follow S to33 begun33 b [] rec job33 (refl, refl)) (edits-blank S to33 begun33 b .unwired)
+
+  -- ---- 3 by 3, every tile closed, the inner pin chosen
+
+  abbrev pub begunShut : List ℕ
+  begunShut = S .does (new 3 3 1 2 0) zeroRecord .rec
+
+  abbrev pub editsShut : List Call
+  editsShut = mark 1 1 1 ∷ close 0 0 1 ∷ close 0 1 1 ∷ close 1 0 1 ∷ close 1 1 1 ∷ []
+
+  toShut : Edits (fresh 3 3 1 2 0) editsShut jobShut
+  toShut =
+      marks 1 1 1 (omega arith) tt tt
+      (closes 0 0 1 (omega arith) tt tt
+      (closes 0 1 1 (omega arith) tt tt (closes 1 0 1 (omega arith) tt tt (closes 1 1 1 (omega arith) tt tt end))))
+
+  pub answersShut : Answers S (recAfter S editsShut begunShut) shortShut
+  answersShut =
+      let (s, b) = new-begins S zeroRecord zero-buffer zero-long 3 3 1 2 0 (omega arith) tt tt in
+      let rec : List ℕ = recAfter S editsShut begunShut in
+      shorts-answers shortShut (List·Memᴰ·head refl) S begunShut (fresh 3 3 1 2 0) s editsShut rec
+      (edits-follow S toShut begunShut b [] rec jobShut (refl, refl)) (edits-blank S toShut begunShut b .unwired)

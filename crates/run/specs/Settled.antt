@@ -1,11 +1,11 @@
 -- Document 01, "Settled by hand", as answers of every service after every run, by demand 3: each row of `shorts` says "added" as often as its greatest number
--- and then "short", and Shortfall gives 1 and the near side of the row; where nothing is chosen, "all wired", never "added". For a job has one greatest
--- number and one smallest near side. Assumes nothing.
+-- and then "short", and Shortfall gives 1 and the near side of the row; each job of `wireds` says "added" as often as pins are chosen and then "all wired",
+-- and Shortfall gives 0; where nothing is chosen, "all wired", never "added". For a job has one greatest number and one smallest near side. Assumes nothing.
 use mathlib.Core.Path.{_≡_, refl, sym, ap, subst, _∙_}
 use mathlib.Core.Logic.{_⊎_, inl, inr}
 use mathlib.Core.Bool.{Bool}
 use mathlib.Core.List.{List, List·Memᴰ, List·Memᴰ·head, List·Memᴰ·tail}
-use Prim.Native.Nat.{ℕ, suc, _≤_, _<_}
+use Prim.Native.Nat.{ℕ, suc, _-_, _≤_, _<_}
 use native.Mathlib.Omega.{arith}
 use lib.Dec.{T}
 use lib.ListN.{length}
@@ -15,13 +15,14 @@ use Rattle.model.specs.Links.{places}
 use Rattle.model.specs.Route.{Family, Greatest, chosenCount}
 use Rattle.model.specs.Near.{Smallest}
 use Rattle.model.specs.Record.{recordSize, scratchSize, over}
-use Rattle.model.specs.Examples.{Short, among, shorts}
+use Rattle.model.specs.Examples.{Short, among, shorts, wireds}
 use Rattle.model.specs.Calls.{Call, shortfall, Answer, allWired, short, lacks, Accepted, wiresIn, nearBytes}
 use Rattle.model.specs.Run.{Buffer, Service, Starts, Follows, Stepping, Ended, Demand}
 use Rattle.model.proofs.Unique.{greatest-unique, smallest-unique}
 use Rattle.model.proofs.Empty.{nothing-chosen}
 use Rattle.model.proofs.ShortByTest.{ShortHolds}
 use Rattle.model.proofs.Shorts.{shorts-hold}
+use Rattle.model.proofs.Wireds.{wireds-hold}
 use Rattle.run.specs.Families.{chosen-le-family}
 use Rattle.run.specs.Demand3.{demand3}
 
@@ -87,6 +88,47 @@ pub shorts-answers : (x : Short) → List·Memᴰ x shorts → (S : Service) (be
     → Follows S begun K calls rec (x .job) → wiresIn rec ≡ 0 → Answers S rec x
 shorts-answers x m S begun K s calls rec f unwired =
     demand-answers S rec x (demand3 S begun K s calls rec (x .job) f .1) unwired (one-left x m) (shorts-hold x m)
+
+-- ---- a job that can be wired whole
+
+-- the answers on a record of the job, with nothing wired
+pub record WholeAnswers (S : Service) (rec : List ℕ) (J : Job) : Type 0 where
+  pub steps : (n : ℕ) (w : Answer) (end : List ℕ) → Stepping S rec n w end → (n ≡ chosenCount J) × (w ≡ allWired)
+  pub ends : (scratch : List ℕ) → Buffer scratch → scratchSize ≤ length scratch → (end : List ℕ) × Stepping S rec (chosenCount J) allWired end
+  pub lacking : (scratch output : List ℕ) → Buffer scratch → Buffer output → scratchSize ≤ length scratch → recordSize ≤ length output
+      → S .does (shortfall scratch output) rec .answer ≡ lacks 0
+
+module _ (S : Service) (rec : List ℕ) (J : Job) (D : Demand S rec J) (unwired : wiresIn rec ≡ 0) (G : Greatest J (chosenCount J)) where
+  all-greatest : D .g ≡ chosenCount J
+  all-greatest = greatest-unique J (D .g) (chosenCount J) (D .greatest) G
+
+  steps-whole : (n : ℕ) (w : Answer) (end : List ℕ) → Stepping S rec n w end → (n ≡ chosenCount J) × (w ≡ allWired)
+  steps-whole n w end r = let (e, t) = D .steps n w end r in (omega (arith, all-greatest), by (t .otherwise))
+    where
+      by : (w ≡ allWired) ⊎ ((w ≡ short) × (D .g < chosenCount J)) → w ≡ allWired
+      by (inl a) = a
+      by (inr (a, l)) = absurd (omega (arith, all-greatest))
+
+  ends-whole : (scratch : List ℕ) → Buffer scratch → scratchSize ≤ length scratch → (end : List ℕ) × Stepping S rec (chosenCount J) allWired end
+  ends-whole scratch b l =
+      let (n, w, end, r) = D .ends scratch b l in
+      let (e, a) = steps-whole n w end r in
+      (end, subst (λ (m : ℕ). Stepping S rec m allWired end) e (subst (λ (y : Answer). Stepping S rec n y end) a r))
+
+  whole-answers : WholeAnswers S rec J
+  whole-answers =
+      record {
+        steps = steps-whole;
+        ends = ends-whole;
+        lacking = λ scratch output b o l m.
+            let z : chosenCount J - D .g ≡ 0 = omega (arith, all-greatest) in
+            D .shortfalls scratch output b o (D .shortfall-accepted scratch output b o l m) ∙ ap lacks z;
+      }
+
+pub wireds-answers : (J : Job) → List·Memᴰ J wireds → (S : Service) (begun : List ℕ) (K : Job) → Starts S begun K → (calls : List Call) (rec : List ℕ)
+    → Follows S begun K calls rec J → wiresIn rec ≡ 0 → WholeAnswers S rec J
+wireds-answers J m S begun K s calls rec f unwired =
+    whole-answers S rec J (demand3 S begun K s calls rec J f .1) unwired (wireds-hold J m)
 
 -- ---- nothing chosen
 

@@ -60,8 +60,8 @@ inner x k e = by (ltb x 41 || leb 1600 x) refl (ltb k 2) refl e
 
 module _ (J : Job) (rec : List ℕ) (d : ℕ) where
   -- a slot that leads back along a link
-  link-slot : (c : ℕ) → d < 105024 → codeOf (d % 64) ≡ c → 8 < c → c ≢ 11 → c ≢ 14 → {n : ℕ} → n ≡ opposed rec d → ltb 0 n ≡ moves J rec d
-  link-slot c l e h p q {n} f = link-back-moves J rec d (is-dart l) (omega arith) (λ z. p (sym e ∙ z)) (λ z. q (sym e ∙ z)) n f
+  link-slot : (c : ℕ) → d < 105024 → codeOf (d % 64) ≡ c → 8 < c → c < 15 → c ≢ 11 → c ≢ 14 → {n : ℕ} → n ≡ opposed rec d → ltb 0 n ≡ moves J rec d
+  link-slot c l e h m p q {n} f = link-back-moves J rec d (is-dart l) (omega arith) (omega arith) (λ z. p (sym e ∙ z)) (λ z. q (sym e ∙ z)) n f
 
 -- the code of a spoke that leaves the exit, as a test
 pub spoke-code : {n : ℕ} → n ≡ 4 → T (eqb n 3 || eqb n 4)
@@ -78,27 +78,27 @@ module _ (J : Job) (rec : List ℕ) (d : ℕ) (l : d + 7 < 105024) where
       → Bit t p
       → Bits 8 (λ k. when (moves J rec (d + k)) 1) (a + 2 * b + 4 * c + 8 * e + 16 * p)
   entry-bits z f g h i q u v w x y =
-      eight-tests (λ k. moves J rec (d + k)) (by-test (link-slot J rec d 9 (omega arith) (centre-code d 0 (omega arith) (omega arith)) (omega arith) (omega arith) (omega arith) f ∙ ap (moves J rec) (omega arith)) u)
-      (by-test (link-slot J rec (d + 1) 9 (omega arith) (centre-code (d + 1) 1 (omega arith) (omega arith)) (omega arith) (omega arith) (omega arith) g) v)
-      (by-test (link-slot J rec (d + 2) 9 (omega arith) (centre-code (d + 2) 2 (omega arith) (omega arith)) (omega arith) (omega arith) (omega arith) h) w)
-      (by-test (link-slot J rec (d + 3) 9 (omega arith) (centre-code (d + 3) 3 (omega arith) (omega arith)) (omega arith) (omega arith) (omega arith) i) x)
+      eight-tests (λ k. moves J rec (d + k)) (by-test (link-slot J rec d 9 (omega arith) (centre-code d 0 (omega arith) (omega arith)) (omega arith) (omega arith) (omega arith) (omega arith) f ∙ ap (moves J rec) (omega arith)) u)
+      (by-test (link-slot J rec (d + 1) 9 (omega arith) (centre-code (d + 1) 1 (omega arith) (omega arith)) (omega arith) (omega arith) (omega arith) (omega arith) g) v)
+      (by-test (link-slot J rec (d + 2) 9 (omega arith) (centre-code (d + 2) 2 (omega arith) (omega arith)) (omega arith) (omega arith) (omega arith) (omega arith) h) w)
+      (by-test (link-slot J rec (d + 3) 9 (omega arith) (centre-code (d + 3) 3 (omega arith) (omega arith)) (omega arith) (omega arith) (omega arith) (omega arith) i) x)
       (by-test q y) (no-test (none-moves J rec (d + 5) (is-dart (omega arith)) (centre-code (d + 5) 5 (omega arith) (omega arith))))
       (no-test (none-moves J rec (d + 6) (is-dart (omega arith)) (centre-code (d + 6) 6 (omega arith) (omega arith))))
       (no-test (none-moves J rec (d + 7) (is-dart (omega arith)) (centre-code (d + 7) 7 (omega arith) (omega arith)))) (omega arith)
 
   pub exit-bits : d % 64 ≡ 56 → {a b c e p : ℕ} {m n r s t : Bool} → m ≡ moves J rec d → n ≡ moves J rec (d + 1) → r ≡ moves J rec (d + 2)
       → s ≡ moves J rec (d + 3)
-      → t ≡ throughCentre rec ((d + 4) / 64)
+      → t ≡ throughCentre rec ((d + 5) / 64)
       → Bit m a
       → Bit n b
       → Bit r c
       → Bit s e
       → Bit t p
-      → Bits 8 (λ k. when (moves J rec (d + k)) 1) (a + 2 * b + 4 * c + 8 * e + 16 * p)
+      → Bits 8 (λ k. when (moves J rec (d + k)) 1) (a + 2 * b + 4 * c + 8 * e + 32 * p)
   exit-bits z {t = t} f g h i q u v w x y =
       eight-tests (λ k. moves J rec (d + k)) (by-test (f ∙ ap (moves J rec) (omega arith)) u) (by-test g v) (by-test h w) (by-test i x)
-      (by-test (centre-back-moves J rec (d + 4) (is-dart (omega arith)) (centre-code (d + 4) 12 (omega arith) (omega arith)) t q) y)
-      (no-test (none-moves J rec (d + 5) (is-dart (omega arith)) (centre-code (d + 5) 13 (omega arith) (omega arith))))
+      (no-test (none-moves J rec (d + 4) (is-dart (omega arith)) (centre-code (d + 4) 12 (omega arith) (omega arith))))
+      (by-test (centre-back-moves J rec (d + 5) (is-dart (omega arith)) (centre-code (d + 5) 13 (omega arith) (omega arith)) t q) y)
       (no-test (none-moves J rec (d + 6) (is-dart (omega arith)) (centre-code (d + 6) 14 (omega arith) (omega arith))))
       (no-test (none-moves J rec (d + 7) (is-dart (omega arith)) (centre-code (d + 7) 15 (omega arith) (omega arith)))) (omega arith)
 
@@ -114,12 +114,12 @@ from-five k l m r = let h : 5 ≤ k = not-least k 4 (not-least k 3 (not-least k 
 
 module _ (u : ℕ) (m : 2 ≤ u % 8) (n : u % 8 < 6) where
   module _ {p q : ℕ} (w : SlotWords (u % 8) p q) where
-    pub first-word : (j : ℕ) → j < 4 → (1 < p / 2 ^ (j * 16) % 65536) × (p / 2 ^ (j * 16) % 65536 < 50000)
+    pub first-word : (j : ℕ) → j < 4 → (1 < p / 2 ^ (j * 16) % 65536) × (p / 2 ^ (j * 16) % 65536 < 53000)
     first-word j l =
         let i = 8 * (u % 8) + j in
         rw (w .four j l) (link-place u m n i j (omega arith) refl, place-bound i (omega arith))
 
-    pub last-word : (1 < q % 65536) × (q % 65536 < 50000)
+    pub last-word : (1 < q % 65536) × (q % 65536 < 53000)
     last-word =
         let i = 8 * (u % 8) + 4 in
         rw (w .fifth) (link-place u m n i 4 (omega arith) refl, place-bound i (omega arith))
@@ -157,11 +157,11 @@ module _ (u : ℕ) (m : 2 ≤ u % 8) (n : u % 8 < 6) where
     side-bits ea eh f₀ f₁ es el a b c d e g h =
         eight-tests (λ k. moves J rec (8 * u + k))
         (by-test (ap (hasRoom rec (8 * u)) ea ∙ sym (plain-moves J rec (8 * u) (is-dart (omega arith)) (inl (slot-code u m n (8 * u) 0 (omega arith) (omega arith)))) ∙ ap (moves J rec) (omega arith)) a)
-        (by-test (ap (hasRoom rec (8 * u + 1)) eh ∙ sym (plain-moves J rec (8 * u + 1) (dart 1 (omega arith)) (inr (slot-code u m n (8 * u + 1) 1 (omega arith) refl)))) b)
+        (by-test (ap (hasRoom rec (8 * u + 1)) eh ∙ sym (plain-moves J rec (8 * u + 1) (dart 1 (omega arith)) (inr (inl (slot-code u m n (8 * u + 1) 1 (omega arith) refl))))) b)
         (by-test (ap₂ (λ (t : Bool) (n : ℕ). t && eqb n 0) f₀ es ∙ sym (spoke-moves J rec (8 * u + 2) (dart 2 (omega arith)) (inl (slot-code u m n (8 * u + 2) 2 (omega arith) refl)))) c)
-        (by-test (ap (hasRoom rec (8 * u + 3)) (eh ∙ corner-cap) ∙ sym (plain-moves J rec (8 * u + 3) (dart 3 (omega arith)) (inr (slot-code u m n (8 * u + 3) 3 (omega arith) refl)))) d)
+        (by-test (ap (hasRoom rec (8 * u + 3)) (eh ∙ corner-cap) ∙ sym (plain-moves J rec (8 * u + 3) (dart 3 (omega arith)) (inr (inl (slot-code u m n (8 * u + 3) 3 (omega arith) refl))))) d)
         (by-test (ap₂ (λ (t : Bool) (n : ℕ). t && eqb n 0) f₁ el ∙ sym (into-moves J rec (8 * u + 4) (dart 4 (omega arith)) (slot-code u m n (8 * u + 4) 4 (omega arith) refl))) e)
-        (by-test (link-slot J rec (8 * u + 5) 10 (omega arith) (slot-code u m n (8 * u + 5) 5 (omega arith) refl) (omega arith) (omega arith) (omega arith) (es ∙ back-load u m n rec 2 (omega arith) tt)) g)
+        (by-test (link-slot J rec (8 * u + 5) 10 (omega arith) (slot-code u m n (8 * u + 5) 5 (omega arith) refl) (omega arith) (omega arith) (omega arith) (omega arith) (es ∙ back-load u m n rec 2 (omega arith) tt)) g)
         (no-test (none-moves J rec (8 * u + 6) (dart 6 (omega arith)) (slot-code u m n (8 * u + 6) 6 (omega arith) refl)))
-        (by-test (link-slot J rec (8 * u + 7) 13 (omega arith) (slot-code u m n (8 * u + 7) 7 (omega arith) refl) (omega arith) (omega arith) (omega arith) (el ∙ back-load u m n rec 4 (omega arith) tt)) h)
+        (by-test (link-slot J rec (8 * u + 7) 13 (omega arith) (slot-code u m n (8 * u + 7) 7 (omega arith) refl) (omega arith) (omega arith) (omega arith) (omega arith) (el ∙ back-load u m n rec 4 (omega arith) tt)) h)
         (omega arith)

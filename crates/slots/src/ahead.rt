@@ -10,9 +10,9 @@ use channel::head_of;
 // How far ahead the spot lies that a dart leads to, 336 more, 16 bits for each of four rows.
 const HEADS: [usize; 16] = [
     0x000c_014b_0152_0015,
-    0x0150_0150_0150_0151,
+    0x0150_0150_0151_0151,
     0x000b_014a_0151_0014,
-    0x0150_0150_0150_014f,
+    0x0150_0150_014f_014f,
     0x0153_0154_0151_0012,
     0x014f_0150_0155_014e,
     0x014f_0153_0151_015a,
@@ -24,7 +24,7 @@ const HEADS: [usize; 16] = [
     0x014f_014e_014d_014c,
     0x0150_0150_0150_0151,
     0x014e_014d_014c_014b,
-    0x0150_0150_0150_014f,
+    0x0150_0150_014f_0150,
 ];
 
 // 1 where the spot v has no mark, else 0.

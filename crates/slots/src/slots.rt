@@ -45,7 +45,7 @@ fn from_any(job: &[u8], loads: &[u8], u: usize) -> usize
 
 // How many wires go along a dart's link its way, by the word of the dart's row, where the dart's cell x has all its neighbours: the link is on the grid.
 fn along(loads: &[u8], w: usize, x: usize) -> usize
-    requires { ⌜ (32768 ≤ length (now loads)) × (1 < w) × (w < 50000) × (41 ≤ x) × (x < 1600) ⌝ }
+    requires { ⌜ (32768 ≤ length (now loads)) × (1 < w) × (w < 53000) × (41 ≤ x) × (x < 1600) ⌝ }
     ensures { λ r. ⌜ ((d : ℕ) → d / 64 ≡ x → placeOf (d % 64) ≡ w → r ≡ when (inGrid (ownerCell d)) (load (now (loads .entry)) (stepOf d))) ⌝ }
 {
     one_way(wide(loads[w / 2 + x]), w % 2 == 0)
@@ -53,7 +53,7 @@ fn along(loads: &[u8], w: usize, x: usize) -> usize
 
 // How many go the other way.
 fn against(loads: &[u8], w: usize, x: usize) -> usize
-    requires { ⌜ (32768 ≤ length (now loads)) × (1 < w) × (w < 50000) × (41 ≤ x) × (x < 1600) ⌝ }
+    requires { ⌜ (32768 ≤ length (now loads)) × (1 < w) × (w < 53000) × (41 ≤ x) × (x < 1600) ⌝ }
     ensures { λ r. ⌜ ((d : ℕ) → d / 64 ≡ x → placeOf (d % 64) ≡ w → r ≡ opposed (now (loads .entry)) d) ⌝ }
 {
     one_way(wide(loads[w / 2 + x]), w % 2 != 0)
@@ -61,7 +61,7 @@ fn against(loads: &[u8], w: usize, x: usize) -> usize
 
 // 1 where fewer wires than most go the dart's way, or some the other way. Nothing branches on the byte.
 fn room(loads: &[u8], w: usize, x: usize, most: usize) -> usize
-    requires { ⌜ (32768 ≤ length (now loads)) × (1 < w) × (w < 50000) × (41 ≤ x) × (x < 1600) ⌝ }
+    requires { ⌜ (32768 ≤ length (now loads)) × (1 < w) × (w < 53000) × (41 ≤ x) × (x < 1600) ⌝ }
     ensures { λ r. ⌜ ((d : ℕ) → d / 64 ≡ x → placeOf (d % 64) ≡ w → r ≡ when (hasRoom (now (loads .entry)) d most) 1) × (r < 2) ⌝ }
 {
     bit((along(loads, w, x) < most) | (0 < against(loads, w, x)))
@@ -134,8 +134,8 @@ fn from_exit(job: &[u8], loads: &[u8], x: usize) -> usize
     let e = bit(spoke_move(job, loads, d + 1));
     let s = bit(spoke_move(job, loads, d + 2));
     let w = bit(spoke_move(job, loads, d + 3));
-    let pass = bit(centre_back(loads, d + 4));
-    n + 2 * e + 4 * s + 8 * w + 16 * pass
+    let pass = bit(centre_back(loads, d + 5));
+    n + 2 * e + 4 * s + 8 * w + 32 * pass
 }
 
 // The slots of u along which the search may move.

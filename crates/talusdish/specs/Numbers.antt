@@ -9,7 +9,7 @@ use Rattle.channel.specs.Map.Entered.{kindAt, by-kind}
 use Rattle.talusdish.specs.Words.{placeNumber}
 
 abbrev table : List ℕ
-table = 5 ∷ 5 ∷ 0 ∷ 1 ∷ 2 ∷ 3 ∷ 4 ∷ 4 ∷ []
+table = 5 ∷ 6 ∷ 0 ∷ 1 ∷ 2 ∷ 3 ∷ 4 ∷ 4 ∷ []
 
 pub place-table : (k : ℕ) → k < 8 → getD table k 0 ≡ placeNumber (kindAt k)
 unfolding below

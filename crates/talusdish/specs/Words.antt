@@ -7,12 +7,12 @@ use Rattle.model.specs.Links.{compassCode, PlaceKind, pin, missing, side, centr
 use Rattle.model.specs.Wires.{Part, unwired, to, out, pastTheEnd}
 use Rattle.model.specs.Calls.{Answer, refused, wrongText, done, added, allWired, short, lacks, lists, wrote, refusal}
 
--- 0 n, 1 e, 2 s, 3 w, 4 c, 5 r; no part has another place
+-- 0 n, 1 e, 2 s, 3 w, 4 c, 5 r, 6 p; no part has another place
 abbrev pub placeNumber : PlaceKind → ℕ
 placeNumber (side d) = compassCode d
 placeNumber centre = 4
 placeNumber missing = 5
-placeNumber pin = 5
+placeNumber pin = 6
 placeNumber outside = 6
 placeNumber nowhere = 6
 

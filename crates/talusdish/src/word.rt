@@ -9,7 +9,7 @@ use service::Answer;
 use wire::Part;
 
 // The numbers of places, by the kinds of their spots: missing pin, pin, n, e, s, w, the centre's entry and its exit.
-const PLACES: [u64; 8] = [5, 5, 0, 1, 2, 3, 4, 4];
+const PLACES: [u64; 8] = [5, 6, 0, 1, 2, 3, 4, 4];
 
 // The number of a place, by the kind of its spot.
 fn place_number(place: usize) -> u64

@@ -7,8 +7,8 @@ use mathlib.Core.List.{List, [], _∷_, List·Memᴰ, List·Memᴰ·head, List·
 use Prim.Native.Nat.{ℕ, zero, suc}
 use lib.Dec.{T, eqb, eqb→eq}
 use Rattle.sums.specs.Tests.{and-left, and-right}
-use Rattle.model.specs.Job.{Job, isPin, isTile, isOpen, isChosen, isMissing}
-use Rattle.model.specs.Links.{Compass, north, east, south, west, PlaceKind, pin, missing, centre, outside, nowhere, side, Place, at, theOutside, holds, isPlace, beside, pinAt, LinkKind, northSide, westSide, corner, spoke, leg, Link, behindOf, aheadOf, Step, head, tail, isEntered, may, around, aroundOf}
+use Rattle.model.specs.Job.{Job, isPin, isTile, isOpen, isChosen, isMissing, onRim}
+use Rattle.model.specs.Links.{Compass, north, east, south, west, PlaceKind, pin, missing, centre, outside, nowhere, side, Place, at, theOutside, holds, isPlace, beside, pinAt, LinkKind, northSide, westSide, corner, spoke, leg, direct, Link, behindOf, aheadOf, Step, head, tail, isEntered, may, around, aroundOf}
 use Rattle.model.proofs.Listed.{may-enters}
 use Rattle.wire.specs.Ways.{way, beside-by, pin-by}
 
@@ -40,7 +40,7 @@ module _ (J : Job) where
 
   kind-leaves : (k : PlaceKind) (r c : ℕ) → T (holds J k r c) → Leave (at k r c) (aroundOf k r c)
   unfolding Leave head behindOf aheadOf isChosen isMissing
-  kind-leaves pin r c t = let e : pinAt J r c ≡ at pin r c = marked-pin r c 1 (at pin r c) t refl in (e, (e, (e, (e, tt))))
+  kind-leaves pin r c t = let e : pinAt J r c ≡ at pin r c = marked-pin r c 1 (at pin r c) t refl in (e, (e, (e, (e, (refl, tt)))))
   kind-leaves missing r c t = let e : pinAt J r c ≡ at missing r c = marked-pin r c 2 (at missing r c) t refl in (e, (e, (e, (e, tt))))
   kind-leaves centre r c t = (refl, (refl, (refl, (refl, tt))))
   kind-leaves outside r c t = absurd t
@@ -73,6 +73,11 @@ module _ (J : Job) where
   ahead-lands (leg west) zero c = absurd
   ahead-lands (leg west) (suc r) zero = absurd
   ahead-lands (leg west) (suc r) (suc c) = inr
+  ahead-lands direct r c = by (isChosen J r c && onRim J r c)
+    where
+      by : (b : Bool) → Lands (elim b [ true ↦ theOutside | false ↦ at nowhere 0 0 ])
+      by true = λ t. inl refl
+      by false = absurd
 
   behind-lands : (k : LinkKind) (r c : ℕ) → Lands (behindOf J k r c)
   unfolding behindOf
@@ -82,6 +87,7 @@ module _ (J : Job) where
   behind-lands (corner d) r c = inr
   behind-lands (spoke d) r c = inr
   behind-lands (leg d) r c = pin-by J r c Lands inr absurd
+  behind-lands direct r c = absurd
 
   way-lands : (l : Link) (b : Bool) → Lands (head J (way l b))
   unfolding head

@@ -11,7 +11,7 @@ use Rattle.sums.specs.Tests.{so, and-left, and-right, each-has, those-has}
 use Rattle.sums.specs.Sums.{when-add, when-so, when-le, sum-le}
 use Rattle.sums.specs.Totals.{total-add, total-le, total-has, total-each, total-those}
 use Rattle.model.specs.Job.{Job, isTile, isOpen}
-use Rattle.model.specs.Links.{Compass, north, west, compassCode, PlaceKind, pin, missing, centre, outside, nowhere, side, Place, at, isPlace, places, isMissingKind, samePlace, LinkKind, northSide, westSide, corner, spoke, leg, Link, link, sameLink, behindOf, aheadOf, limitOf, limit, pass, Step, head, isEntered, may}
+use Rattle.model.specs.Links.{Compass, north, west, compassCode, PlaceKind, pin, missing, centre, outside, nowhere, side, Place, at, isPlace, places, isMissingKind, samePlace, LinkKind, northSide, westSide, corner, spoke, leg, direct, Link, link, sameLink, behindOf, aheadOf, limitOf, limit, pass, Step, head, isEntered, may}
 use Rattle.model.specs.Route.{Chain, Route, uses, visits, Together}
 use Rattle.model.specs.Near.{size}
 use Rattle.model.specs.Length.{isSide, wireLength, isLink, sides, lengthBound}
@@ -47,6 +47,7 @@ module _ (J : Job) where
   in-sides (corner d) r c p q t u = absurd (no-side 2 (compassCode d) (omega arith) t)
   in-sides (spoke d) r c p q t u = absurd (no-side 6 (compassCode d) (omega arith) t)
   in-sides (leg d) r c p q t u = absurd (no-side 10 (compassCode d) (omega arith) t)
+  in-sides direct r c p q t u = absurd t
 
   abbrev In : ℕ → ℕ → Type 0
   In r c = (r < J .rows) × (c < J .columns)
@@ -70,6 +71,7 @@ module _ (J : Job) where
   side-forth (corner d) r c t = absurd (no-side 2 (compassCode d) (omega arith) t)
   side-forth (spoke d) r c t = absurd (no-side 6 (compassCode d) (omega arith) t)
   side-forth (leg d) r c t = absurd (no-side 10 (compassCode d) (omega arith) t)
+  side-forth direct r c t = absurd t
 
   side-back : (k : LinkKind) (r c : ℕ) → T (isSide (link k r c)) → T (isPlace J (aheadOf J k r c)) → In r c
   unfolding aheadOf
@@ -79,6 +81,7 @@ module _ (J : Job) where
   side-back (corner d) r c t = absurd (no-side 2 (compassCode d) (omega arith) t)
   side-back (spoke d) r c t = absurd (no-side 6 (compassCode d) (omega arith) t)
   side-back (leg d) r c t = absurd (no-side 10 (compassCode d) (omega arith) t)
+  side-back direct r c t = absurd t
 
   side-listed : (l : Link) (b : Bool) → T (may J (way l b)) → T (isSide l) → List·Memᴰ l (sides J)
   unfolding head

@@ -11,7 +11,7 @@ use lib.Dec.{T, ltb}
 use lib.ListN.{getD, getElem?, drop}
 use borrow.Author.Tests.{lt-ltb, le-ltb, ltb-true, ltb-false}
 use Rattle.sums.specs.Counting.{when, sum, total}
-use Rattle.sums.specs.Tests.{so, and-comm, both-ways}
+use Rattle.sums.specs.Tests.{so, so-not, and-comm, both-ways}
 use Rattle.sums.specs.Sums.{when-so}
 use Rattle.sums.specs.Entries.{none-some, entry-below, entry-there}
 use Rattle.model.specs.Job.{Job, arrayFits, isChosen}
@@ -20,15 +20,14 @@ use Rattle.model.specs.Loads.{arrivals, departures}
 use Rattle.model.specs.Near.{exit}
 use Rattle.model.specs.Record.{jobOf, load, Legal}
 use Rattle.model.specs.Wires.{Hop, firstLoaded, onward, hopAt, isWired, Part, unwired, to, out, partFor, partOf, partAt}
-use Rattle.model.proofs.Listed.{may-enters}
+use Rattle.model.proofs.Listed.{around-five, may-enters}
 use Rattle.channel.specs.Map.{darts, rev, rowOf, columnOf, stepOf, isLinkDart, outside, dartOf}
 use Rattle.channel.specs.Map.Steps.{slot-step}
 use Rattle.channel.specs.Map.Places.{chosen-cell}
 use Rattle.channel.specs.Map.Network.Pushed.{turn-turn}
-use Rattle.channel.specs.Map.Entered.{Named, slot-entry, slot-none, comes-outside, comes-inside, head-slot, head-named, tail-named}
+use Rattle.channel.specs.Map.Entered.{Named, slot-shut, comes-outside, comes-inside, head-slot, head-named, tail-named}
 use Rattle.pairing.specs.Answer.{lanes, lanes-in, Partner}
 use Rattle.pairing.specs.Lanes.{loadOf}
-use Rattle.pairing.specs.Leaving.{around-five}
 use Rattle.pairing.specs.Onward.{Counts, counts-even, onward-leaves}
 use Rattle.wire.specs.Next.{hop-may, ends-outside}
 use Rattle.wire.specs.Follow.{none-on}
@@ -110,13 +109,29 @@ module _ (rec : List ℕ) (g : Legal rec) where
   run-may : {d i : ℕ} → Runs rec d i → T (may J (stepOf d))
   run-may {d} {i} r = hop-may J f (g .sound .feasible) (hop d i) (r .loaded)
 
+  -- nothing goes where a step may be taken neither way
+  abbrev Idle : (Step → ℕ) → Type 0
+  Idle h = (s : Step) → may J s ≡ false → may J (turn s) ≡ false → h s ≡ 0
+
+  outs-idle : Idle f
+  outs-idle s e b = g .sound .feasible .nowhere s (so-not e) (so-not b)
+
+  ins-idle : Idle (λ s. f (turn s))
+  ins-idle s e b = g .sound .feasible .nowhere (turn s) (so-not b) (so-not (ap (may J) (turn-turn s) ∙ e))
+
   -- what a slot has is the load of the step around the place
-  slot-load : (h : Step → ℕ) (x : Place) → T (isPlace J x) → (k : ℕ) → k < 8 → lanesAt h (8 * exit x + k) ≡ loadOf h (getElem? (around x) k)
-  slot-load h x p k l = by (isLinkDart (8 * exit x + k)) refl
+  slot-load : (h : Step → ℕ) → Idle h → (x : Place) → T (isPlace J x) → (k : ℕ) → k < 8 → lanesAt h (8 * exit x + k) ≡ loadOf h (getElem? (around x) k)
+  slot-load h idle x p k l = by (getElem? (around x) k) refl
     where
-      by : (b : Bool) → isLinkDart (8 * exit x + k) ≡ b → when b (h (stepOf (8 * exit x + k))) ≡ loadOf h (getElem? (around x) k)
-      by true e = sym (ap (loadOf h) (slot-entry J fits x p k l (so e)))
-      by false e = sym (ap (loadOf h) (slot-none J fits x p k l e))
+      past : getElem? (around x) k ≡ none → (b : Bool) → isLinkDart (8 * exit x + k) ≡ b → when b (h (stepOf (8 * exit x + k))) ≡ 0
+      past e true b = let (u, v) = slot-shut J fits x p k l (so b) e in idle (stepOf (8 * exit x + k)) u v
+      past e false b = refl
+
+      by : (o : Option Step) → getElem? (around x) k ≡ o → lanesAt h (8 * exit x + k) ≡ loadOf h (getElem? (around x) k)
+      by none e = past e (isLinkDart (8 * exit x + k)) refl ∙ sym (ap (loadOf h) e)
+      by (some s) e =
+          let (a, b, q) = slot-step J fits x p k s e in
+          when-so (isLinkDart (8 * exit x + k)) (h (stepOf (8 * exit x + k))) b ∙ (ap h q ∙ sym (ap (loadOf h) e))
 
   -- ---- the hop after a hop
 
@@ -146,15 +161,15 @@ module _ (rec : List ℕ) (g : Legal rec) where
       pub slot-five : b % 8 < 5
       slot-five = omega (arith, entry-below (around x) (b % 8) (turn (stepOf d)) slot, around-five x)
 
-      slots-loads : (h : Step → ℕ) (l : List ℕ) → l ≡ lanesOf h (b / 8 * 8) → (k : ℕ) → k < 5 → lanes l k ≡ loadOf h (getElem? (around x) k)
-      slots-loads h l e k m =
+      slots-loads : (h : Step → ℕ) → Idle h → (l : List ℕ) → l ≡ lanesOf h (b / 8 * 8) → (k : ℕ) → k < 5 → lanes l k ≡ loadOf h (getElem? (around x) k)
+      slots-loads h idle l e k m =
           lanes-in l k m
           ∙ (ap (λ (w : List ℕ). getD w k 0) e
-          ∙ (lanes-at h (b / 8 * 8) k m ∙ (ap (λ (n : ℕ). lanesAt h (n + k)) spot ∙ slot-load h x here k (omega arith))))
+          ∙ (lanes-at h (b / 8 * 8) k m ∙ (ap (λ (n : ℕ). lanesAt h (n + k)) spot ∙ slot-load h idle x here k (omega arith))))
 
       module _ (arrive depart : List ℕ) (ins : arrive ≡ lanesOf (λ s. f (turn s)) (b / 8 * 8)) (outs : depart ≡ lanesOf f (b / 8 * 8)) where
         counts : Counts f x (lanes arrive) (lanes depart)
-        counts = record { ins = slots-loads (λ s. f (turn s)) arrive ins; outs = slots-loads f depart outs }
+        counts = record { ins = slots-loads (λ s. f (turn s)) ins-idle arrive ins; outs = slots-loads f outs-idle depart outs }
 
         balance : arrivals f x ≡ departures f x
         balance = g .sound .feasible .balance x here (may-enters J (stepOf d) (run-may r))
@@ -164,7 +179,7 @@ module _ (rec : List ℕ) (g : Legal rec) where
 
         pub lane-comes : i < lanes arrive (b % 8)
         lane-comes =
-            subst (λ (n : ℕ). i < n) (sym (slots-loads (λ s. f (turn s)) arrive ins (b % 8) slot-five ∙ ap (loadOf (λ s. f (turn s))) slot)) came
+            subst (λ (n : ℕ). i < n) (sym (slots-loads (λ s. f (turn s)) ins-idle arrive ins (b % 8) slot-five ∙ ap (loadOf (λ s. f (turn s))) slot)) came
 
         -- what `partner` answers
         module _ (j q : ℕ) (answer : sum 5 (lanes arrive) ≡ sum 5 (lanes depart) → Partner (lanes arrive) (lanes depart) (b % 8) i j q) where
@@ -181,7 +196,7 @@ module _ (rec : List ℕ) (g : Legal rec) where
               let e : b / 8 * 8 + j ≡ 8 * exit x + j = omega (arith, spot) in
               let (l, link, s) = slot-step J fits x here j t there in
               let w : stepOf (b / 8 * 8 + j) ≡ t = ap stepOf e ∙ s in
-              let k : q < f t = subst (λ (n : ℕ). q < n) (slots-loads f depart outs j (found .slot) ∙ ap (loadOf f) there) (found .lane) in
+              let k : q < f t = subst (λ (n : ℕ). q < n) (slots-loads f outs-idle depart outs j (found .slot) ∙ ap (loadOf f) there) (found .lane) in
               record {
                 hop = ap (λ (s : Step). some (record { step = s; lane = q })) w ∙ sym on;
                 runs =
@@ -233,7 +248,7 @@ module _ (rec : List ℕ) (g : Legal rec) where
     pub pin-near : (r < 40) × (c < 40)
     pin-near = chosen-cell J fits r c t
 
-    module _ (u k n : ℕ) (l : k < 4) (spot : u ≡ exit (at pin r c)) (wires : n ≡ lanesAt f (8 * u + k))
+    module _ (u k n : ℕ) (l : k < 5) (spot : u ≡ exit (at pin r c)) (wires : n ≡ lanesAt f (8 * u + k))
         (so-far : firstLoaded f (around (at pin r c)) ≡ firstLoaded f (drop k (around (at pin r c)))) where
       taken : (s : Step) × (getElem? (around (at pin r c)) k ≡ some s) × (8 * u + k < darts) × T (isLinkDart (8 * u + k)) × (stepOf (8 * u + k) ≡ s)
       taken =
@@ -262,7 +277,7 @@ module _ (rec : List ℕ) (g : Legal rec) where
           ∙ (first-after f (around (at pin r c)) k s e (omega (arith, amount))
           ∙ ap (λ (m : ℕ). firstLoaded f (drop m (around (at pin r c)))) (sym (add-one k)))
 
-    pub first-none : (k : ℕ) → k ≡ 4 → firstLoaded f (around (at pin r c)) ≡ firstLoaded f (drop k (around (at pin r c)))
+    pub first-none : (k : ℕ) → k ≡ 5 → firstLoaded f (around (at pin r c)) ≡ firstLoaded f (drop k (around (at pin r c)))
         → Takes rec End (firstLoaded f (around (at pin r c)))
     unfolding firstLoaded
     first-none k e so-far = record { hop = sym (so-far ∙ ap (λ (m : ℕ). firstLoaded f (drop m (around (at pin r c)))) e); runs = tt }

@@ -25,7 +25,7 @@ pub enum Hop {
     On { dart: usize, lane: usize },
 }
 
-// The entries of a wire's list. A place is given as the kind of its spot: 0 a missing pin, 2 to 5 n, e, s, w, 6 the centre.
+// The entries of a wire's list. A place is given as the kind of its spot: 0 a missing pin, 1 a pin that is left directly, 2 to 5 n, e, s, w, 6 the centre.
 pub enum Part {
     Unwired,
     To {
@@ -48,7 +48,7 @@ pub fn first_hop(rec: &[u8], row: usize, column: usize) -> Hop
 {
     let first = 8 * pin_exit(row, column);
     let mut k: usize = 0;
-    while k < 4 {
+    while k < 5 {
         if 0 < wires_out(rec, first + k) {
             return Hop::On {
                 dart: first + k,

@@ -1,14 +1,14 @@
--- Document 01, demand 3, of a service that there is: New 2 2 1 2 0 on zeros, Mark 0 0 1 and a step; and the answers of the starred short jobs of "Settled
--- by hand", which need steps that say "added". So neither the theorem nor what it promises speaks of nothing. Assumes nothing.
+-- Document 01, demand 3, of a service that there is: New 2 2 1 2 0 on zeros, Mark 0 0 1 and a step; and the answers of the starred jobs of "Settled by
+-- hand", which need steps that say "added", and of a short one. So neither the theorem nor what it promises speaks of nothing. Assumes nothing.
 use mathlib.Core.List.{List}
 use Prim.Native.Nat.{ℕ}
 use Rattle.model.specs.Job.{marked}
-use Rattle.model.specs.Examples.{short64, short33}
+use Rattle.model.specs.Examples.{job64, job33, shortShut}
 use Rattle.model.specs.Run.{NeverOne, Demand}
 use Rattle.run.specs.Runs.{recAfter}
 use Rattle.run.specs.Demand3.{demand3}
-use Rattle.run.specs.Settled.{Answers}
-use Rattle.run.specs.Example.{plain, begun, markAndStep, starts-new, follows-step, edits64, answers64, begun33, edits33, answers33}
+use Rattle.run.specs.Settled.{Answers, WholeAnswers}
+use Rattle.run.specs.Example.{plain, begun, markAndStep, starts-new, follows-step, edits64, answers64, begun33, edits33, answers33, begunShut, editsShut, answersShut}
 use Rattle.witness.specs.Served.{service}
 
 -- the record after the run
@@ -19,10 +19,14 @@ pub demand-holds : NeverOne service (begun service) (markAndStep service) × Dem
 demand-holds =
     demand3 service (begun service) (plain service) (starts-new service) (markAndStep service) end (marked (plain service) 0 0 1) (follows-step service)
 
--- short 1 at once
-pub answers-64 : Answers service (recAfter service (edits64 service) (begun service)) short64
+-- once "added", then all wired
+pub answers-64 : WholeAnswers service (recAfter service (edits64 service) (begun service)) job64
 answers-64 = answers64 service
 
--- twice "added", then short 1
-pub answers-33 : Answers service (recAfter service (edits33 service) (begun33 service)) short33
+-- three times "added", then all wired
+pub answers-33 : WholeAnswers service (recAfter service (edits33 service) (begun33 service)) job33
 answers-33 = answers33 service
+
+-- short 1 at once
+pub answers-shut : Answers service (recAfter service (editsShut service) (begunShut service)) shortShut
+answers-shut = answersShut service

@@ -55,5 +55,5 @@ module _ {old rec fin fin' st' sl' : List ℕ} {s : Search} {a b m' : ℕ} (r : 
   fresh-before c all i l h = ⊎-elim (r .seen e i l) (λ p t o. was-over (r .search) e .1 _ (all i p h t o)) (below-or i b)
 
 -- all fresh links, with nothing on the stack
-pub fresh-settled : {old rec fin st sl : List ℕ} {m : ℕ} → Dfs rec fin st sl 0 m → ((i : ℕ) → i < 22400 → Begun old rec fin i) → Settled old rec fin
+pub fresh-settled : {old rec fin st sl : List ℕ} {m : ℕ} → Dfs rec fin st sl 0 m → ((i : ℕ) → i < 24000 → Begun old rec fin i) → Settled old rec fin
 fresh-settled d all = record { falls = done-falls d; fresh = λ i l t o. seen-done d refl _ o (all i l t o) }

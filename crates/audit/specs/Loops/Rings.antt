@@ -17,26 +17,25 @@ use Rattle.channel.specs.Map.{darts, rev, view}
 use Rattle.channel.specs.Map.Numbers.{slot-dart, tail-spot}
 use Rattle.channel.specs.Map.Network.{net, path-along}
 use Rattle.channel.specs.Map.Network.Loops.{FallsFrom}
-use Rattle.channel.specs.Map.Origins.{loaded-slot}
 use Rattle.audit.specs.Loops.{ringDarts, Closed}
 use Rattle.audit.specs.Loops.Dfs.{Edge, Dfs, Bared, Placed}
 use Rattle.sums.specs.Tests.{below-or}
 use Rattle.audit.specs.Loops.Stack.{edge-node}
 
--- a loaded dart is an edge of its spot
-loaded-edge : (rec : List ℕ) (d : ℕ) → d < darts → 0 < view rec d → Edge rec (d / 8) (d % 8) (rev d / 8)
-loaded-edge rec d ld l =
+-- a loaded dart in one of the first five slots is an edge of its spot
+loaded-edge : (rec : List ℕ) (d : ℕ) → d < darts → d % 8 < 5 → 0 < view rec d → Edge rec (d / 8) (d % 8) (rev d / 8)
+loaded-edge rec d ld k l =
     let e : d ≡ 8 * (d / 8) + d % 8 = omega arith in
     record {
       spot = tail-spot d ld;
-      slot = loaded-slot rec d l;
+      slot = k;
       laden = subst (λ (x : ℕ). 0 < view rec x) e l;
       leads = ap (λ (x : ℕ). rev x / 8) (sym e);
     }
 
 -- from a spot that is done loaded darts fall
 pub done-falls : {rec fin st sl : List ℕ} {n m : ℕ} → Dfs rec fin st sl n m → FallsFrom 2 rec (λ u. getD fin u 0)
-done-falls {rec} s = record { fall = λ d ld l b. s .falls (d / 8) (tail-spot d ld) b (d % 8) (rev d / 8) (loaded-edge rec d ld l) }
+done-falls {rec} s = record { fall = λ d ld k l b. s .falls (d / 8) (tail-spot d ld) b (d % 8) (rev d / 8) (loaded-edge rec d ld k l) }
 
 -- sl has the slots alone
 module _ {rec fin st sl₀ sl : List ℕ} {n m : ℕ} (s : Dfs rec fin st sl₀ n m) (b : Bared sl₀ n sl) {x : ℕ} (back : Edge rec (getD st (n - 1) 0) (getD sl₀ (n - 1) 0 % 8) x) where

@@ -16,8 +16,11 @@ spokes-requires c κs = search needs
 legs-requires : tie.Need-legs-requires
 legs-requires c κs = search needs
 
+direct-requires : tie.Need-direct-requires
+direct-requires c κs = search needs
+
 returns : tie.Need-returns
-returns c = let s = c .before .before .before .before .before .args in cc (links-are (s .rec .now) (s .r) (s .c))
+returns c = let s = c .before .before .before .before .before .before .args in cc (links-are (s .rec .now) (s .r) (s .c))
 
 pub links-fit-spec : {M : Type 1} → statement M
 links-fit-spec =
@@ -27,4 +30,5 @@ links-fit-spec =
     corners-requires
     spokes-requires
     legs-requires
+    direct-requires
     returns)

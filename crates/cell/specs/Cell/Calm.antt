@@ -10,7 +10,7 @@ use lib.Dec.{eqb, leb, ltb, leb·zero}
 use lib.ListN.{getD}
 use Rattle.sums.specs.Counting.{when, total}
 use Rattle.model.specs.Job.{Job, isOpen, isChosen, isMissing, centreLimit}
-use Rattle.model.specs.Links.{north, east, south, west, pin, missing, centre, side, at, LinkKind, northSide, westSide, corner, spoke, leg, go}
+use Rattle.model.specs.Links.{north, east, south, west, pin, missing, centre, side, at, LinkKind, northSide, westSide, corner, spoke, leg, direct, go}
 use Rattle.model.specs.Loads.{arrivals, departures}
 use Rattle.model.specs.Record.{loadPlane, offset, cell, jobOf, load}
 use Rattle.cell.specs.Cell.{allFour, fits, room, linkFits, sidesFit, cornersFit, spokesFit, legsFit, linksFit}
@@ -32,7 +32,7 @@ isRest rec p r c = isZero rec p r c && (isZero rec (p + 1) r c && (isZero rec (p
 pub isCalm : List ℕ → ℕ → ℕ → Bool
 isCalm rec r c =
     (isZero rec 2 r c && isZero rec 3 r c)
-    && ((isRest rec 4 r c && (isRest rec 8 r c && isRest rec 12 r c))
+    && ((isRest rec 4 r c && (isRest rec 8 r c && (isRest rec 12 r c && isZero rec 16 r c)))
     && ((isZero rec 2 (r + 1) c && (isZero rec 12 (r + 1) c && isZero rec 15 (r + 1) (c + 1))) && (isZero rec 3 r (c + 1) && isZero rec 14 r (c + 1))))
 
 module _ (rec : List ℕ) (r c : ℕ) where
@@ -45,11 +45,11 @@ module _ (rec : List ℕ) (r c : ℕ) where
   rest-is p = refl
 
   -- as a program reads it: its sides, the links within its tile and of its pin, those below, those beside
-  pub calm-read : {n w i j k s x y e z : Bool} → n ≡ isZero rec 2 r c → w ≡ isZero rec 3 r c → i ≡ isRest rec 4 r c → j ≡ isRest rec 8 r c
-      → k ≡ isRest rec 12 r c → s ≡ isZero rec 2 (r + 1) c → x ≡ isZero rec 12 (r + 1) c → y ≡ isZero rec 15 (r + 1) (c + 1)
-      → e ≡ isZero rec 3 r (c + 1) → z ≡ isZero rec 14 r (c + 1) → ((n && w) && ((i && (j && k)) && ((s && (x && y)) && (e && z)))) ≡ isCalm rec r c
+  pub calm-read : {n w i j k o s x y e z : Bool} → n ≡ isZero rec 2 r c → w ≡ isZero rec 3 r c → i ≡ isRest rec 4 r c → j ≡ isRest rec 8 r c
+      → k ≡ isRest rec 12 r c → o ≡ isZero rec 16 r c → s ≡ isZero rec 2 (r + 1) c → x ≡ isZero rec 12 (r + 1) c → y ≡ isZero rec 15 (r + 1) (c + 1)
+      → e ≡ isZero rec 3 r (c + 1) → z ≡ isZero rec 14 r (c + 1) → ((n && w) && ((i && (j && (k && o))) && ((s && (x && y)) && (e && z)))) ≡ isCalm rec r c
   unfolding isCalm
-  calm-read f₁ f₂ f₃ f₄ f₅ f₆ f₇ f₈ f₉ f₀ = rw (f₁, f₂, f₃, f₄, f₅, f₆, f₇, f₈, f₉, f₀) refl
+  calm-read f₁ f₂ f₃ f₄ f₅ g f₆ f₇ f₈ f₉ f₀ = rw (f₁, f₂, f₃, f₄, f₅, g, f₆, f₇, f₈, f₉, f₀) refl
 
 -- ---- what they find
 
@@ -67,6 +67,7 @@ pub record Calm (rec : List ℕ) (r c : ℕ) : Type 0 where
   pub corners : Rest rec 4 r c
   pub spokes : Rest rec 8 r c
   pub legs : Rest rec 12 r c
+  pub direct : cell rec 16 r c ≡ 0
   pub south : cell rec 2 (r + 1) c ≡ 0
   pub southWest : cell rec 12 (r + 1) c ≡ 0
   pub southEast : cell rec 15 (r + 1) (c + 1) ≡ 0
@@ -97,29 +98,31 @@ module _ (rec : List ℕ) (r c : ℕ) where
   pub calm-holds : isCalm rec r c ≡ true → Calm rec r c
   unfolding isCalm
   calm-holds =
-      by _ _ _ _ _ _ _ _ _ _ (zero-holds rec 2 r c) (zero-holds rec 3 r c) (rest-holds 4) (rest-holds 8) (rest-holds 12) (zero-holds rec 2 (r + 1) c)
+      by _ _ _ _ _ _ _ _ _ _ _ (zero-holds rec 2 r c) (zero-holds rec 3 r c) (rest-holds 4) (rest-holds 8) (rest-holds 12) (zero-holds rec 16 r c) (zero-holds rec 2 (r + 1) c)
       (zero-holds rec 12 (r + 1) c) (zero-holds rec 15 (r + 1) (c + 1)) (zero-holds rec 3 r (c + 1)) (zero-holds rec 14 r (c + 1))
     where
       -- its sides, the links within its tile and of its pin, those below, those beside
-      by : (n w i j k s x y e z : Bool) → (n ≡ true → cell rec 2 r c ≡ 0) → (w ≡ true → cell rec 3 r c ≡ 0) → (i ≡ true → Rest rec 4 r c)
-          → (j ≡ true → Rest rec 8 r c) → (k ≡ true → Rest rec 12 r c) → (s ≡ true → cell rec 2 (r + 1) c ≡ 0) → (x ≡ true → cell rec 12 (r + 1) c ≡ 0)
+      by : (n w i j k o s x y e z : Bool) → (n ≡ true → cell rec 2 r c ≡ 0) → (w ≡ true → cell rec 3 r c ≡ 0) → (i ≡ true → Rest rec 4 r c)
+          → (j ≡ true → Rest rec 8 r c) → (k ≡ true → Rest rec 12 r c) → (o ≡ true → cell rec 16 r c ≡ 0) → (s ≡ true → cell rec 2 (r + 1) c ≡ 0) → (x ≡ true → cell rec 12 (r + 1) c ≡ 0)
           → (y ≡ true → cell rec 15 (r + 1) (c + 1) ≡ 0) → (e ≡ true → cell rec 3 r (c + 1) ≡ 0) → (z ≡ true → cell rec 14 r (c + 1) ≡ 0)
-          → ((n && w) && ((i && (j && k)) && ((s && (x && y)) && (e && z)))) ≡ true → Calm rec r c
-      by n w i j k s x y e z f₁ f₂ f₃ f₄ f₅ f₆ f₇ f₈ f₉ f₀ t =
+          → ((n && w) && ((i && (j && (k && o))) && ((s && (x && y)) && (e && z)))) ≡ true → Calm rec r c
+      by n w i j k o s x y e z f₁ f₂ f₃ f₄ f₅ g f₆ f₇ f₈ f₉ f₀ t =
           let sides : (n && w) ≡ true = first-true (n && w) _ t in
-          let others : ((i && (j && k)) && ((s && (x && y)) && (e && z))) ≡ true = second-true (n && w) _ t in
-          let own : (i && (j && k)) ≡ true = first-true (i && (j && k)) _ others in
-          let theirs : ((s && (x && y)) && (e && z)) ≡ true = second-true (i && (j && k)) _ others in
+          let others : ((i && (j && (k && o))) && ((s && (x && y)) && (e && z))) ≡ true = second-true (n && w) _ t in
+          let own : (i && (j && (k && o))) ≡ true = first-true (i && (j && (k && o))) _ others in
+          let theirs : ((s && (x && y)) && (e && z)) ≡ true = second-true (i && (j && (k && o))) _ others in
           let below : (s && (x && y)) ≡ true = first-true (s && (x && y)) _ theirs in
           let beside : (e && z) ≡ true = second-true (s && (x && y)) _ theirs in
-          let ends : (j && k) ≡ true = second-true i _ own in
+          let ends : (j && (k && o)) ≡ true = second-true i _ own in
+          let pin : (k && o) ≡ true = second-true j _ ends in
           let pins : (x && y) ≡ true = second-true s _ below in
           record {
             north = f₁ (first-true n w sides);
             west = f₂ (second-true n w sides);
             corners = f₃ (first-true i _ own);
-            spokes = f₄ (first-true j k ends);
-            legs = f₅ (second-true j k ends);
+            spokes = f₄ (first-true j _ ends);
+            legs = f₅ (first-true k o pin);
+            direct = g (second-true k o pin);
             south = f₆ (first-true s _ below);
             southWest = f₇ (first-true x y pins);
             southEast = f₈ (second-true x y pins);
@@ -178,13 +181,13 @@ module _ (rec : List ℕ) (r c : ℕ) where
   unfolding passesAt evenAt arrivals departures total load
   missing-passes s = rw (s .first, s .second, s .third, s .fourth, leb·zero (J .E)) refl
 
-  pin-starts : Rest rec 12 r c → leb (departures (load rec) (at pin r c)) 1 ≡ true
+  pin-starts : Rest rec 12 r c → cell rec 16 r c ≡ 0 → leb (departures (load rec) (at pin r c)) 1 ≡ true
   unfolding departures total load
-  pin-starts s = rw (s .first, s .second, s .third, s .fourth) refl
+  pin-starts s e = rw (s .first, s .second, s .third, s .fourth, e) refl
 
-  pins-rest : Rest rec 12 r c → true ≡ pinsEven rec r c
+  pins-rest : Rest rec 12 r c → cell rec 16 r c ≡ 0 → true ≡ pinsEven rec r c
   unfolding pinsEven startsOne missingEven
-  pins-rest s = rw (sym (none-asked (isChosen J r c) _ (pin-starts s)), sym (none-asked (isMissing J r c) _ (missing-passes s))) refl
+  pins-rest s e = rw (sym (none-asked (isChosen J r c) _ (pin-starts s e)), sym (none-asked (isMissing J r c) _ (missing-passes s))) refl
 
   module _ (k : Calm rec r c) where
     pub calm-links : true ≡ linksFit rec r c
@@ -195,6 +198,7 @@ module _ (rec : List ℕ) (r c : ℕ) where
           sym (corners-rest (k .corners)),
           sym (spokes-rest (k .spokes)),
           sym (legs-rest (k .legs)),
+          link-rest direct (k .direct),
         ) refl
 
     -- nothing comes to n, e, s, w, and nothing leaves them
@@ -225,4 +229,4 @@ module _ (rec : List ℕ) (r c : ℕ) where
 
     pub calm-places : true ≡ placesEven rec r c
     unfolding placesEven tileEven
-    calm-places = rw (sym (none-asked (isOpen J r c) _ calm-tile), sym (centre-rest (k .spokes)), sym (pins-rest (k .legs))) refl
+    calm-places = rw (sym (none-asked (isOpen J r c) _ calm-tile), sym (centre-rest (k .spokes)), sym (pins-rest (k .legs) (k .direct))) refl

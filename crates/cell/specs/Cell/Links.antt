@@ -11,7 +11,7 @@ use lib.Dec.{T, eqb, leb, ltb, leb→le, le→leb, ltb→lt, lt→ltb, nleb→lt
 use Rattle.sums.specs.Counting.{when}
 use Rattle.sums.specs.Tests.{and-left, and-right, and-both, or-by, so, so-not}
 use Rattle.model.specs.Job.{Job, inRange, capsFit}
-use Rattle.model.specs.Links.{LinkKind, northSide, westSide, corner, spoke, leg, Link, link, Step, go, come, turn, may, limitOf, limit}
+use Rattle.model.specs.Links.{LinkKind, northSide, westSide, corner, spoke, leg, direct, Link, link, Step, go, come, turn, may, limitOf, limit}
 use Rattle.model.specs.Record.{loadPlane, cell, jobOf, forthPart, backPart, load}
 use Rattle.cell.specs.Cell.{fits, most, room, linkFits, sidesFit, cornersFit, spokesFit, legsFit, linksFit}
 use Rattle.cell.specs.Cell.Tests.{four-at, four-all, range-top, on-grid, off-grid}
@@ -82,6 +82,7 @@ module _ (J : Job) where
       by : (b : Bool) → most (elim b [ true ↦ none | false ↦ some 1 ]) ≤ 31
       by true = omega arith
       by false = omega arith
+  limit-room l direct r c = omega arith
 
   room-small : J .O ≤ 8 → (s : Step) → room J s ≤ 31
   unfolding room
@@ -124,24 +125,28 @@ module _ (rec : List ℕ) where
     orthogonal-small = range-top 1 8 (J .O) (and-left (inRange 1 8 (J .O)) (inRange (J .O) (2 * (J .O)) (J .D) && inRange 0 16 (J .E)) caps)
 
     module _ (r c : ℕ) (a : r < 40) (b : c < 40) where
-      within-part : T (cornersFit rec r c && (spokesFit rec r c && legsFit rec r c))
+      within-part : T (cornersFit rec r c && (spokesFit rec r c && (legsFit rec r c && linkFits rec direct r c)))
       unfolding linksFit
-      within-part = and-right (sidesFit rec r c) (cornersFit rec r c && (spokesFit rec r c && legsFit rec r c)) (t r c a b)
+      within-part = and-right (sidesFit rec r c) (cornersFit rec r c && (spokesFit rec r c && (legsFit rec r c && linkFits rec direct r c))) (t r c a b)
 
-      ends-part : T (spokesFit rec r c && legsFit rec r c)
-      ends-part = and-right (cornersFit rec r c) (spokesFit rec r c && legsFit rec r c) within-part
+      ends-part : T (spokesFit rec r c && (legsFit rec r c && linkFits rec direct r c))
+      ends-part = and-right (cornersFit rec r c) (spokesFit rec r c && (legsFit rec r c && linkFits rec direct r c)) within-part
+
+      pin-part : T (legsFit rec r c && linkFits rec direct r c)
+      pin-part = and-right (spokesFit rec r c) (legsFit rec r c && linkFits rec direct r c) ends-part
 
       sides-part : T (linkFits rec northSide r c && linkFits rec westSide r c)
       unfolding linksFit sidesFit
-      sides-part = and-left (sidesFit rec r c) (cornersFit rec r c && (spokesFit rec r c && legsFit rec r c)) (t r c a b)
+      sides-part = and-left (sidesFit rec r c) (cornersFit rec r c && (spokesFit rec r c && (legsFit rec r c && linkFits rec direct r c))) (t r c a b)
 
       link-part : (k : LinkKind) → T (linkFits rec k r c)
       unfolding cornersFit spokesFit legsFit
       link-part northSide = and-left (linkFits rec northSide r c) (linkFits rec westSide r c) sides-part
       link-part westSide = and-right (linkFits rec northSide r c) (linkFits rec westSide r c) sides-part
-      link-part (corner d) = four-at (λ d. linkFits rec (corner d) r c) (and-left (cornersFit rec r c) (spokesFit rec r c && legsFit rec r c) within-part) d
-      link-part (spoke d) = four-at (λ d. linkFits rec (spoke d) r c) (and-left (spokesFit rec r c) (legsFit rec r c) ends-part) d
-      link-part (leg d) = four-at (λ d. linkFits rec (leg d) r c) (and-right (spokesFit rec r c) (legsFit rec r c) ends-part) d
+      link-part (corner d) = four-at (λ d. linkFits rec (corner d) r c) (and-left (cornersFit rec r c) (spokesFit rec r c && (legsFit rec r c && linkFits rec direct r c)) within-part) d
+      link-part (spoke d) = four-at (λ d. linkFits rec (spoke d) r c) (and-left (spokesFit rec r c) (legsFit rec r c && linkFits rec direct r c) ends-part) d
+      link-part (leg d) = four-at (λ d. linkFits rec (leg d) r c) (and-left (legsFit rec r c) (linkFits rec direct r c) pin-part) d
+      link-part direct = and-right (legsFit rec r c) (linkFits rec direct r c) pin-part
 
     empty-link : (k : LinkKind) (r c : ℕ) → ltb r 40 && ltb c 40 ≡ false → T (linkFits rec k r c)
     unfolding linkFits fits
@@ -215,9 +220,9 @@ module _ (rec : List ℕ) where
     pub links-pass : (r c : ℕ) → T (linksFit rec r c)
     unfolding linksFit sidesFit cornersFit spokesFit legsFit
     links-pass r c =
-        and-both (sidesFit rec r c) (cornersFit rec r c && (spokesFit rec r c && legsFit rec r c))
+        and-both (sidesFit rec r c) (cornersFit rec r c && (spokesFit rec r c && (legsFit rec r c && linkFits rec direct r c)))
         (and-both (linkFits rec northSide r c) (linkFits rec westSide r c) (link-pass northSide r c) (link-pass westSide r c))
-        (and-both (cornersFit rec r c) (spokesFit rec r c && legsFit rec r c) (four-all (λ d. linkFits rec (corner d) r c) (λ d. link-pass (corner d) r c))
-        (and-both (spokesFit rec r c) (legsFit rec r c)
+        (and-both (cornersFit rec r c) (spokesFit rec r c && (legsFit rec r c && linkFits rec direct r c)) (four-all (λ d. linkFits rec (corner d) r c) (λ d. link-pass (corner d) r c))
+        (and-both (spokesFit rec r c) (legsFit rec r c && linkFits rec direct r c)
         (four-all (λ d. linkFits rec (spoke d) r c) (λ d. link-pass (spoke d) r c))
-        (four-all (λ d. linkFits rec (leg d) r c) (λ d. link-pass (leg d) r c))))
+        (and-both (legsFit rec r c) (linkFits rec direct r c) (four-all (λ d. linkFits rec (leg d) r c) (λ d. link-pass (leg d) r c)) (link-pass direct r c))))

@@ -10,9 +10,9 @@ use borrow.Author.Tests.{eq-eqb, ne-eqb}
 use lib.Dec.{eqb, leb, ltb}
 use Rattle.sums.specs.Counting.{when}
 use Rattle.model.specs.Job.{Job, isOpen}
-use Rattle.model.specs.Links.{Compass, north, east, south, west, isPlace, northSide, westSide, corner, spoke, leg, go, come, aheadOf, limitOf, may}
+use Rattle.model.specs.Links.{Compass, north, east, south, west, isPlace, northSide, westSide, corner, spoke, leg, direct, go, come, aheadOf, limitOf, may}
 use Rattle.model.specs.Record.{cell, jobOf}
-use Rattle.channel.specs.Map.Ways.{by-corner, by-spoke, within-may, leg-come, leg-go}
+use Rattle.channel.specs.Map.Ways.{by-corner, by-spoke, within-may, leg-come, leg-go, direct-come}
 use Rattle.cell.specs.Cell.{allFour, fits, most, room, leaving, linkFits, sidesFit, cornersFit, spokesFit, legsFit, linksFit, fourFit}
 
 pub leaving-missing : (m : ℕ) → m ≡ 2 → 31 ≡ leaving m
@@ -73,7 +73,7 @@ module _ (rec : List ℕ) (r c : ℕ) where
   abbrev J : Job
   J = jobOf rec
 
-  pub links-are : linksFit rec r c ≡ (sidesFit rec r c && (cornersFit rec r c && (spokesFit rec r c && legsFit rec r c)))
+  pub links-are : linksFit rec r c ≡ (sidesFit rec r c && (cornersFit rec r c && (spokesFit rec r c && (legsFit rec r c && linkFits rec direct r c))))
   unfolding linksFit
   links-are = refl
 
@@ -105,6 +105,11 @@ module _ (rec : List ℕ) (r c : ℕ) where
   legs-are : legsFit rec r c ≡ (legFits 12 north && (legFits 13 east && (legFits 14 south && legFits 15 west)))
   unfolding legsFit allFour linkFits
   legs-are = simp (leave-room J r c, come-room J r c)
+
+  -- the byte of the direct exit
+  pub direct-is : (b : Bool) → b ≡ fits (cell rec 16 r c) (when (may J (go direct r c)) 1) 0 → b ≡ linkFits rec direct r c
+  unfolding linkFits room most limitOf
+  direct-is b e = e ∙ sym (ap (λ (b : Bool). fits (cell rec 16 r c) (when (may J (go direct r c)) 1) (when b 1)) (direct-come J r c))
 
   -- as a program reads them: a is what may leave, k what may come
   pub legs-read : (m a k : ℕ) (x₁ x₂ x₃ x₄ : Bool) → m ≡ J .mark r c → a ≡ leaving m → k ≡ when (eqb m 2) 31

@@ -11,7 +11,7 @@ use lib.Dec.{T, eqb, leb, ltb, ltb→lt, leb→le}
 use Rattle.sums.specs.Counting.{total}
 use Rattle.sums.specs.Tests.{and-left, and-right, eqb-iff, so}
 use Rattle.model.specs.Job.{Job, inRange, arrayFits, centreLimit, isPin, isTile, isOpen, isChosen, isMissing}
-use Rattle.model.specs.Links.{north, east, south, west, PlaceKind, pin, missing, centre, side, Place, at, Step}
+use Rattle.model.specs.Links.{north, east, south, west, PlaceKind, pin, missing, centre, side, Place, at}
 use Rattle.model.specs.Loads.{arrivals, departures}
 use Rattle.model.specs.Record.{cell, jobOf, forthPart, backPart, load}
 use Rattle.channel.specs.Map.{rowOf, columnOf}
@@ -126,11 +126,6 @@ here k r c = at k (rowOf (41 + 40 * r + c)) (columnOf (41 + 40 * r + c))
 here-is : (k : PlaceKind) (r c : ℕ) → c < 40 → here k r c ≡ at k r c
 here-is k r c b i = at k (cell-row (41 + 40 * r + c) r c refl b i) (cell-column (41 + 40 * r + c) r c refl b i)
 
--- the links of a pin are the same, whatever its mark
-pin-leaves : (f : Step → ℕ) (r c : ℕ) → departures f (at pin r c) ≡ departures f (at missing r c)
-unfolding departures
-pin-leaves f r c = refl
-
 module _ (rec : List ℕ) (r c : ℕ) where
   abbrev J : Job
   J = jobOf rec
@@ -185,11 +180,11 @@ module _ (rec : List ℕ) (r c : ℕ) where
           (first (isPin J r c) (eqb (J .mark r c) 1) (eqb (J .mark r c) 2) (leb (departures (load rec) (at pin r c)) 1) _ is-pin (eq-eqb _ _ (sym f ∙ g))
           (ne-eqb (J .mark r c) 2 (λ h. omega arith)))
 
-      pub missing-read : m ≡ 2 → c < 40 → (i u k : ℕ) → i ≡ arrivals (load rec) (here missing r c) → u ≡ departures (load rec) (here pin r c) → k ≡ J .E
+      pub missing-read : m ≡ 2 → c < 40 → (i u k : ℕ) → i ≡ arrivals (load rec) (here missing r c) → u ≡ departures (load rec) (here missing r c) → k ≡ J .E
           → (eqb i u && leb i k) ≡ pinsEven rec r c
       unfolding pinsEven startsOne missingEven passesAt evenAt isChosen isMissing
       missing-read g b i u k p q s =
-          rw (p, q, s, here-is missing r c b, here-is pin r c b, pin-leaves (load rec) r c)
+          rw (p, q, s, here-is missing r c b)
           (second (isPin J r c) (eqb (J .mark r c) 1) (eqb (J .mark r c) 2) _ (passesAt rec (at missing r c) (J .E)) is-pin
           (ne-eqb (J .mark r c) 1 (λ h. omega arith)) (eq-eqb _ _ (sym f ∙ g)))
 

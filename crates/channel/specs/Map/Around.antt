@@ -7,7 +7,7 @@ use Prim.Native.Nat.{ℕ, zero, suc, _+_, _*_, _<_}
 use native.Mathlib.Omega.{arith}
 use lib.Dec.{T, eqb}
 use lib.ListN.{getD, getElem?}
-use Rattle.model.specs.Links.{north, east, south, west, pin, centre, side, northSide, link, Step, aroundOf}
+use Rattle.model.specs.Links.{north, east, south, west, pin, missing, centre, side, northSide, link, Step, aroundOf}
 use Rattle.model.specs.Near.{spot}
 use Rattle.model.specs.Record.{kinds}
 use Rattle.channel.specs.Map.{darts, stepOf, carries, isLinkDart, links, owners, signs, codes, kindOf, ownerOf, signOf, codeOf}
@@ -45,13 +45,23 @@ takes q k r c i j h t =
 
 -- the darts of each exit, slot by slot
 module _ (r c : ℕ) (a : r < 40) (b : c < 40) where
-  pub takes-legs : Slots (Takes (spot 1 r c)) 0 (aroundOf pin r c)
+  pub takes-legs : Slots (Takes (spot 1 r c)) 0 (aroundOf missing r c)
   unfolding ownerOf owners kindOf links signOf signs carries codeOf codes
   takes-legs =
       takes 1 0 r c r c (omega arith) tt
       then takes 1 1 r c r c (omega arith) tt
       then takes 1 2 r c r c (omega arith) tt
       then takes 1 3 r c r c (omega arith) tt
+      then done
+
+  pub takes-pin : Slots (Takes (spot 1 r c)) 0 (aroundOf pin r c)
+  unfolding ownerOf owners kindOf links signOf signs carries codeOf codes
+  takes-pin =
+      takes 1 0 r c r c (omega arith) tt
+      then takes 1 1 r c r c (omega arith) tt
+      then takes 1 2 r c r c (omega arith) tt
+      then takes 1 3 r c r c (omega arith) tt
+      then takes 1 4 r c r c (omega arith) tt
       then done
 
   pub takes-spokes : Slots (Takes (spot 7 r c)) 0 (aroundOf centre r c)

@@ -8,9 +8,9 @@ pub turn-bound : (i : ℕ) → i < 64 → turnOf i < 5400
 unfolding below turnOf turns
 turn-bound i l = ltb→lt _ _ (below-at 64 (λ i. ltb (turnOf i) 5400) tt i l)
 
-pub kind-bound : (i : ℕ) → i < 64 → kindOf i < 14
+pub kind-bound : (i : ℕ) → i < 64 → kindOf i < 15
 unfolding below kindOf links
-kind-bound i l = ltb→lt _ _ (below-at 64 (λ i. ltb (kindOf i) 14) tt i l)
+kind-bound i l = ltb→lt _ _ (below-at 64 (λ i. ltb (kindOf i) 15) tt i l)
 
 pub owner-bound : (i : ℕ) → i < 64 → ownerOf i < 42
 unfolding below ownerOf owners
@@ -20,6 +20,6 @@ pub sign-bound : (i : ℕ) → i < 64 → signOf i < 2
 unfolding below signOf signs
 sign-bound i l = ltb→lt _ _ (below-at 64 (λ i. ltb (signOf i) 2) tt i l)
 
-pub code-bound : (i : ℕ) → i < 64 → codeOf i < 15
+pub code-bound : (i : ℕ) → i < 64 → codeOf i < 16
 unfolding below codeOf codes
-code-bound i l = ltb→lt _ _ (below-at 64 (λ i. ltb (codeOf i) 15) tt i l)
+code-bound i l = ltb→lt _ _ (below-at 64 (λ i. ltb (codeOf i) 16) tt i l)

@@ -45,9 +45,9 @@ module _ (rec : List ℕ) (d o : ℕ) (e : o ≡ ownerOf (d % 64)) where
 
 -- ---- along it and against it
 
-code-kind : (k : ℕ) → k < 14 → linkCode (getD kinds k northSide) ≡ k
+code-kind : (k : ℕ) → k < 15 → linkCode (getD kinds k northSide) ≡ k
 unfolding below
-code-kind k l = eqb→eq _ _ (below-at 14 (λ k. eqb (linkCode (getD kinds k northSide)) k) tt k l)
+code-kind k l = eqb→eq _ _ (below-at 15 (λ k. eqb (linkCode (getD kinds k northSide)) k) tt k l)
 
 step-cell : (rec : List ℕ) (d : ℕ) → T (inGrid (ownerCell d))
     → cell rec (2 + linkCode (getD kinds (kindOf (d % 64)) northSide)) (rowOf (ownerCell d)) (columnOf (ownerCell d)) ≡ getD rec (address d) 0
@@ -115,9 +115,15 @@ module _ (rec : List ℕ) (x : ℕ) (l : 41 ≤ x) (m : x < 1641) where
       simp (cell-byte rec 12 x l m, cell-byte rec 13 x l m, cell-byte rec 14 x l m, cell-byte rec 15 x l m) (omega arith)
 
   pub pin-departures : forthPart (getD rec (19927 + x) 0) + forthPart (getD rec (21527 + x) 0) + forthPart (getD rec (23127 + x) 0)
-      + forthPart (getD rec (24727 + x) 0) ≡ departures (load rec) (at pin (rowOf x) (columnOf x))
+      + forthPart (getD rec (24727 + x) 0) + forthPart (getD rec (26327 + x) 0) ≡ departures (load rec) (at pin (rowOf x) (columnOf x))
   unfolding departures total load
   pin-departures =
+      simp (cell-byte rec 12 x l m, cell-byte rec 13 x l m, cell-byte rec 14 x l m, cell-byte rec 15 x l m, cell-byte rec 16 x l m) (omega arith)
+
+  pub missing-departures : forthPart (getD rec (19927 + x) 0) + forthPart (getD rec (21527 + x) 0) + forthPart (getD rec (23127 + x) 0)
+      + forthPart (getD rec (24727 + x) 0) ≡ departures (load rec) (at missing (rowOf x) (columnOf x))
+  unfolding departures total load
+  missing-departures =
       simp (cell-byte rec 12 x l m, cell-byte rec 13 x l m, cell-byte rec 14 x l m, cell-byte rec 15 x l m) (omega arith)
 
   pub centre-departures : forthPart (getD rec (13527 + x) 0) + forthPart (getD rec (15127 + x) 0) + forthPart (getD rec (16727 + x) 0)
@@ -128,13 +134,13 @@ module _ (rec : List ℕ) (x : ℕ) (l : 41 ≤ x) (m : x < 1641) where
 
 -- ---- what a dart carries
 
-pub mask-carries : (c : ℕ) → c < 15 → eqb (222 / 2 ^ c % 2) 1 ≡ carries c
+pub mask-carries : (c : ℕ) → c < 16 → eqb (32990 / 2 ^ c % 2) 1 ≡ carries c
 unfolding below carries
-mask-carries c l = same-test _ _ (below-at 15 (λ c. Bool·beq (eqb (222 / 2 ^ c % 2) 1) (carries c)) tt c l)
+mask-carries c l = same-test _ _ (below-at 16 (λ c. Bool·beq (eqb (32990 / 2 ^ c % 2) 1) (carries c)) tt c l)
 
-pub mask-stored : (c : ℕ) → c < 15 → eqb (14046 / 2 ^ c % 2) 1 ≡ isStored c
+pub mask-stored : (c : ℕ) → c < 16 → eqb (46814 / 2 ^ c % 2) 1 ≡ isStored c
 unfolding below isStored
-mask-stored c l = same-test _ _ (below-at 15 (λ c. Bool·beq (eqb (14046 / 2 ^ c % 2) 1) (isStored c)) tt c l)
+mask-stored c l = same-test _ _ (below-at 16 (λ c. Bool·beq (eqb (46814 / 2 ^ c % 2) 1) (isStored c)) tt c l)
 
 pub pass-dart-is : (d c : ℕ) (b : Bool) → c ≡ codeOf (d % 64) → b ≡ inGrid (d / 64) → ((eqb c 5 || eqb c 8) && b) ≡ isPassDart d
 unfolding isPassDart isPassage
@@ -153,9 +159,9 @@ unfolding passedOf
 passed-missing d e = ap (λ k. at k (rowOf (d / 64)) (columnOf (d / 64))) (sym (if-false (eqb (codeOf (d % 64)) 5) centre missing (ne-eqb _ _ e)))
 
 -- a dart of a code that carries is no passage
-pub carries-no-pass : (c : ℕ) → c < 15 → T (carries c) → isPassage c ≡ false
+pub carries-no-pass : (c : ℕ) → c < 16 → T (carries c) → isPassage c ≡ false
 unfolding below carries isPassage
-carries-no-pass c l t = not-so (carries c) (isPassage c) (below-at 15 (λ c. not (carries c && isPassage c)) tt c l) t
+carries-no-pass c l t = not-so (carries c) (isPassage c) (below-at 16 (λ c. not (carries c && isPassage c)) tt c l) t
 
 pub view-link : (rec : List ℕ) (d : ℕ) → carries (codeOf (d % 64)) ≡ true → when (inGrid (ownerCell d)) (load rec (stepOf d)) ≡ view rec d
 unfolding view isLinkDart isPassDart

@@ -1,40 +1,42 @@
 -- The limits of darts, by code: what `cap` and `free` come to for each kind of link, stated over the tests that the code makes. Assumes nothing.
 use mathlib.Core.Path.{_≡_, refl, sym, ap, ap₂, subst, _∙_}
 use mathlib.Core.Logic.{_≢_, _⊎_, inl, inr}
-use mathlib.Core.Bool.{Bool, true, false, _&&_, _||_}
+use mathlib.Core.Bool.{Bool, true, false, not, _&&_, _||_}
 use mathlib.Core.List.{List, [], _∷_}
 use mathlib.Core.Option.{Option, none, some}
-use Prim.Native.Nat.{ℕ, _-_, _/_, _%_, _<_}
+use Prim.Native.Nat.{ℕ, _-_, _/_, _%_, _≤_, _<_}
 use native.Mathlib.Omega.{arith}
-use borrow.Author.Tests.{ne-eqb, eqb-true}
+use borrow.Author.Tests.{eq-eqb, ne-eqb, eqb-true}
 use lib.Dec.{T, eqb, eqb→eq}
 use lib.ListN.{getD}
 use Rattle.sums.specs.Counting.{when}
-use Rattle.sums.specs.Tests.{so, below, below-at}
+use Rattle.sums.specs.Tests.{so, so-not, and-both, if-so, below, below-at}
 use Rattle.model.specs.Job.{Job, isOpen, isMissing, centreLimit}
-use Rattle.model.specs.Links.{Place, isPlace, LinkKind, northSide, westSide, corner, spoke, leg, link, aheadOf, limitOf, limit, pass, may}
+use Rattle.model.specs.Links.{Place, isPlace, LinkKind, northSide, westSide, corner, spoke, leg, direct, link, go, aheadOf, limitOf, limit, pass, may}
 use Rattle.model.specs.Near.{size}
 use Rattle.model.specs.Record.{kinds}
-use Rattle.channel.specs.Map.{links, codes, kindOf, signOf, codeOf, mayTake, reaches, ownerMark}
+use Rattle.channel.specs.Map.{links, signs, codes, kindOf, signOf, codeOf, mayTake, reaches, ownerMark}
 use Rattle.channel.specs.Map.{inGrid, rowOf, columnOf, ownerCell, stepOf, carries, isPassage, isLinkDart, isPassDart, passedOf, isNone, cap, free}
 use Rattle.channel.specs.Map.Bools.{and-true, and-false}
 use Rattle.channel.specs.Map.Bounds.{code-bound}
+use Rattle.channel.specs.Map.Grid.{none-at, test-at}
 use Rattle.channel.specs.Map.Bytes.{carries-no-pass, passed-centre, passed-missing}
-use Rattle.channel.specs.Map.Codes.{own-cell, leg-sign, Which, one, two, three, four, five, six, seven, eight, rest, which}
-use Rattle.channel.specs.Map.Ways.{Within, by-corner, by-spoke, within-may, leg-come, leg-go}
+use Rattle.channel.specs.Map.Codes.{own-cell, leg-sign, Which, one, two, three, four, five, six, seven, eight, fifteen, rest, which}
+use Rattle.channel.specs.Map.Ways.{Within, by-corner, by-spoke, within-may, leg-come, leg-go, direct-come}
 
 -- ---- sorts of links
 
--- 1 a side, 2 a corner, 3 a spoke, 4 a leg
+-- 1 a side, 2 a corner, 3 a spoke, 4 a leg, 5 a direct exit
 abbrev sort : LinkKind → ℕ
 sort northSide = 1
 sort westSide = 1
 sort (corner d) = 2
 sort (spoke d) = 3
 sort (leg d) = 4
+sort direct = 5
 
 abbrev sorts : List ℕ
-sorts = 1 ∷ 1 ∷ 2 ∷ 3 ∷ 3 ∷ 1 ∷ 4 ∷ 4 ∷ 1 ∷ 3 ∷ 3 ∷ 1 ∷ 4 ∷ 4 ∷ 1 ∷ []
+sorts = 1 ∷ 1 ∷ 2 ∷ 3 ∷ 3 ∷ 1 ∷ 4 ∷ 4 ∷ 1 ∷ 3 ∷ 3 ∷ 1 ∷ 4 ∷ 4 ∷ 1 ∷ 5 ∷ []
 
 abbrev kindAt : ℕ → LinkKind
 kindAt i = getD kinds (kindOf i) northSide
@@ -56,11 +58,12 @@ within k s e t = by k (subst (λ (x : ℕ). T (eqb x 2 || eqb x 3)) (sym e) t)
     by (corner d) t = by-corner
     by (spoke d) t = by-spoke
     by (leg d) t = absurd t
+    by direct t = absurd t
 
 module _ (J : Job) where
   -- the limits of the sorts, where the pin has the mark m
   abbrev limits : ℕ → List (Option ℕ)
-  limits m = none ∷ some (J .O) ∷ some (J .O / 2) ∷ none ∷ elim (eqb m 2) [ true ↦ none | false ↦ some 1 ] ∷ []
+  limits m = none ∷ some (J .O) ∷ some (J .O / 2) ∷ none ∷ elim (eqb m 2) [ true ↦ none | false ↦ some 1 ] ∷ some 1 ∷ []
 
   sort-limit : (k : LinkKind) (r c : ℕ) → limitOf J k r c ≡ getD (limits (J .mark r c)) (sort k) none
   unfolding limitOf
@@ -69,6 +72,7 @@ module _ (J : Job) where
   sort-limit (corner d) r c = refl
   sort-limit (spoke d) r c = refl
   sort-limit (leg d) r c = refl
+  sort-limit direct r c = refl
 
   -- the marks of a pin whose legs may be taken, out of it or into it
   abbrev joins : Bool → ℕ → Bool
@@ -82,6 +86,7 @@ module _ (J : Job) where
   leg-may (spoke d) f r c e = absurd (omega arith)
   leg-may (leg d) true r c e = leg-go J d r c
   leg-may (leg d) false r c e = leg-come J d r c
+  leg-may direct f r c e = absurd (omega arith)
 
   -- ---- darts along links
 
@@ -153,6 +158,41 @@ module _ (J : Job) where
   unfolding carries isNone
   free-centre d (inl e) = code-free d 3 e refl ∙ and-true (mayTake J d) ∙ within-take d 3 e tt (own-cell d 3 e tt)
   free-centre d (inr e) = code-free d 4 e refl ∙ and-true (mayTake J d) ∙ within-take d 4 e tt (own-cell d 4 e tt)
+
+  -- ---- direct exits
+
+  cap-direct : (d : ℕ) → codeOf (d % 64) ≡ 15 → (s : ℕ) → kindOf (d % 64) ≡ 14 → signOf (d % 64) ≡ s
+      → cap J d ≡ when (inGrid (d / 64) && may J (record { link = link direct (rowOf (d / 64)) (columnOf (d / 64)); forth = eqb s 0 })) 1
+  unfolding carries mayTake stepOf
+  cap-direct d e s k g = code-cap d 15 e refl ∙ rw (own-cell d 15 e tt, k, g)
+
+  -- along one, where its cell is on the grid and where not
+  module _ (d : ℕ) (e : d % 64 ≡ 12) where
+    cap-along : cap J d ≡ when (inGrid (d / 64) && may J (go direct (rowOf (d / 64)) (columnOf (d / 64)))) 1
+    unfolding codeOf codes kindOf links signOf signs
+    cap-along = cap-direct d (ap codeOf e) 0 (ap kindOf e) (ap signOf e)
+
+    pub cap-out : 41 ≤ d / 64 → d / 64 < 1641 → (b : Bool) → b ≡ may J (go direct ((d / 64 - 41) / 40) ((d / 64 - 41) % 40)) → when b 1 ≡ cap J d
+    cap-out l m b f = sym (cap-along ∙ ap (λ (b : Bool). when b 1) (sym (test-at (d / 64) (λ r c. may J (go direct r c)) b l m f)))
+
+    pub cap-off : d / 64 < 41 → 0 ≡ cap J d
+    cap-off l = sym (cap-along ∙ ap (λ (b : Bool). when b 1) (sym (none-at (d / 64) (λ r c. may J (go direct r c)) l)))
+
+  -- against one
+  against-row : (i : ℕ) → i < 64 → codeOf i ≡ 15 → i ≢ 12 → i ≡ 5
+  unfolding below codeOf codes
+  against-row i l e n =
+      eqb→eq i 5
+      (if-so (eqb (codeOf i) 15 && not (eqb i 12)) (eqb i 5) (below-at 64 (λ i. not (eqb (codeOf i) 15 && not (eqb i 12)) || eqb i 5) tt i l)
+      (and-both (eqb (codeOf i) 15) (not (eqb i 12)) (so (eq-eqb (codeOf i) 15 e)) (so-not (ne-eqb i 12 n))))
+
+  pub cap-against : (d : ℕ) → codeOf (d % 64) ≡ 15 → d % 64 ≢ 12 → 0 ≡ cap J d
+  unfolding kindOf links signOf signs
+  cap-against d e n =
+      let q : d % 64 ≡ 5 = against-row (d % 64) (omega arith) e n in
+      sym (cap-direct d e 1 (ap kindOf q) (ap signOf q)
+      ∙ ap (λ (b : Bool). when (inGrid (d / 64) && b) 1) (direct-come J (rowOf (d / 64)) (columnOf (d / 64)))
+      ∙ ap (λ (b : Bool). when b 1) (and-false (inGrid (d / 64))))
 
   -- ---- legs
 
@@ -247,9 +287,9 @@ module _ (J : Job) where
   unfolding isPassDart
   no-passage d e f = pass-cap d e ∙ ap (λ (b : Bool). when ((b && inGrid (d / 64)) && isPlace J (passedOf d)) (size (pass J (passedOf d)))) f
 
-  pub cap-none : (d : ℕ) → codeOf (d % 64) ≢ 1 → codeOf (d % 64) ≢ 2 → codeOf (d % 64) ≢ 5 → codeOf (d % 64) ≢ 7 → codeOf (d % 64) ≢ 8 → cap J d ≡ 0
+  pub cap-none : (d : ℕ) → codeOf (d % 64) ≢ 1 → codeOf (d % 64) ≢ 2 → codeOf (d % 64) ≢ 5 → codeOf (d % 64) ≢ 7 → codeOf (d % 64) ≢ 8 → codeOf (d % 64) ≢ 15 → cap J d ≡ 0
   unfolding carries
-  cap-none d n1 n2 n5 n7 n8 = by (which (codeOf (d % 64)))
+  cap-none d n1 n2 n5 n7 n8 n15 = by (which (codeOf (d % 64)))
     where
       by : Which (codeOf (d % 64)) → cap J d ≡ 0
       by (one e) = absurd (n1 e)
@@ -257,6 +297,7 @@ module _ (J : Job) where
       by (five e) = absurd (n5 e)
       by (seven e) = absurd (n7 e)
       by (eight e) = absurd (n8 e)
+      by (fifteen e) = absurd (n15 e)
       by (three e) = code-cap d 3 e refl ∙ nothing (mayTake J d)
       by (four e) = code-cap d 4 e refl ∙ nothing (mayTake J d)
       by (six e) = cap-into d e
@@ -275,4 +316,5 @@ module _ (J : Job) where
       by (six e) = absurd (n6 e)
       by (seven e) = absurd (n7 e)
       by (eight e) = other-free d (ap carries e)
+      by (fifteen e) = code-free d 15 e refl ∙ and-false (mayTake J d)
       by (rest e f) = other-free d e

@@ -12,8 +12,8 @@ use lib.Dec.{T, eqb, leb, eqb→eq, leb→le, not-T, T-not}
 use Rattle.sums.specs.Counting.{when, total}
 use Rattle.sums.specs.Tests.{and-left, and-right, so, so-not}
 use Rattle.sums.specs.Sums.{when-none}
-use Rattle.model.specs.Job.{Job, inRange, capsFit, centreLimit, isPin, isTile, isOpen, isChosen, isMissing}
-use Rattle.model.specs.Links.{Compass, north, east, south, west, pin, missing, centre, side, Place, at, theOutside, isPlace, beside, pinAt, behindOf, aheadOf, LinkKind, northSide, westSide, corner, spoke, leg, link, limitOf, Step, go, come, turn, head, tail, isEntered, may, limit, pass, around}
+use Rattle.model.specs.Job.{Job, inRange, capsFit, centreLimit, isPin, isTile, isOpen, isChosen, isMissing, onRim}
+use Rattle.model.specs.Links.{Compass, north, east, south, west, pin, missing, centre, nowhere, side, Place, at, theOutside, isPlace, beside, pinAt, behindOf, aheadOf, LinkKind, northSide, westSide, corner, spoke, leg, direct, link, limitOf, Step, go, come, turn, head, tail, isEntered, may, limit, pass, around}
 use Rattle.model.specs.Near.{size}
 use Rattle.model.specs.Loads.{departures, arrivals, Feasible}
 use Rattle.channel.specs.Map.{isNone}
@@ -60,7 +60,7 @@ module _ (J : Job) where
 
   pub from-pin : (r c : ℕ) → eqb (J .mark r c) 2 ≡ false → From (at pin r c) (around (at pin r c))
   unfolding head behindOf
-  from-pin r c e = (pin-one r c false e, (pin-one r c false e, (pin-one r c false e, (pin-one r c false e, tt))))
+  from-pin r c e = (pin-one r c false e, (pin-one r c false e, (pin-one r c false e, (pin-one r c false e, (refl, tt)))))
 
 module _ {J : Job} {f : Step → ℕ} (feasible : Feasible J f) where
   -- ---- steps
@@ -125,9 +125,23 @@ module _ {J : Job} {f : Step → ℕ} (feasible : Feasible J f) where
   pub centre-even : (r c : ℕ) → arrivals f (at centre r c) ≡ departures f (at centre r c)
   centre-even r c = even (at centre r c) (from-centre J r c) refl
 
+  -- nothing comes straight in
+  pub straight-none : (r c : ℕ) → f (come direct r c) ≡ 0
+  unfolding head aheadOf
+  straight-none r c = idle (come direct r c) (not-T (may J (come direct r c)) (λ t. by (isChosen J r c && onRim J r c) (may-leaves J (come direct r c) t)))
+    where
+      by : (b : Bool) → T (isPlace J (elim b [ true ↦ theOutside | false ↦ at nowhere 0 0 ])) → ⊥
+      by true t = t
+      by false t = t
+
+  -- and nothing goes straight out of a pin that is missing
+  pub missing-straight : (r c : ℕ) → (T (isChosen J r c) → ⊥) → f (go direct r c) ≡ 0
+  unfolding head behindOf
+  missing-straight r c n = idle (go direct r c) (not-T (may J (go direct r c)) (λ t. n (may-leaves J (go direct r c) t)))
+
   -- a chosen pin starts what leaves it
   pub pin-even : (r c : ℕ) → departures f (at pin r c) ≡ arrivals f (at missing r c) + when (isChosen J r c) (departures f (at pin r c))
-  unfolding departures arrivals
+  unfolding departures arrivals total
   pin-even r c = by (eqb (J .mark r c) 2) refl
     where
       unchosen : eqb (J .mark r c) 2 ≡ true → T (isChosen J r c) → ⊥
@@ -135,7 +149,7 @@ module _ {J : Job} {f : Step → ℕ} (feasible : Feasible J f) where
           unfold isChosen in omega (arith, eqb→eq (J .mark r c) 2 (so e), eqb→eq (J .mark r c) 1 (and-right (isPin J r c) (eqb (J .mark r c) 1) t))
 
       started : (b : Bool) → isChosen J r c ≡ b → eqb (J .mark r c) 2 ≡ false
-          → departures f (at pin r c) ≡ arrivals f (at pin r c) + when b (departures f (at pin r c))
+          → departures f (at pin r c) ≡ arrivals f (at missing r c) + when b (departures f (at pin r c))
       started true p e = omega (arith, unentered (at pin r c) (from-pin J r c e) tt)
       started false p e = omega (arith, unentered (at pin r c) (from-pin J r c e) tt, unleft (at pin r c) (from-pin J r c e) (so-not p))
 
@@ -145,6 +159,7 @@ module _ {J : Job} {f : Step → ℕ} (feasible : Feasible J f) where
           omega (
             arith,
             even (at missing r c) (from-missing J r c e) refl,
+            missing-straight r c (unchosen e),
             when-none (isChosen J r c) (departures f (at pin r c)) (λ t. absurd (unchosen e t)),
           )
       by false e = started (isChosen J r c) refl e
@@ -153,12 +168,12 @@ module _ {J : Job} {f : Step → ℕ} (feasible : Feasible J f) where
   centre-none r c = unentered (at centre r c) (from-centre J r c)
 
   pub missing-none : (r c : ℕ) → T (not (isMissing J r c)) → arrivals f (at missing r c) ≡ 0
-  unfolding arrivals
+  unfolding arrivals total
   missing-none r c n = by (eqb (J .mark r c) 2) refl
     where
       by : (b : Bool) → eqb (J .mark r c) 2 ≡ b → arrivals f (at missing r c) ≡ 0
       by true e = unentered (at missing r c) (from-missing J r c e) n
-      by false e = unentered (at pin r c) (from-pin J r c e) tt
+      by false e = omega (arith, unentered (at pin r c) (from-pin J r c e) tt)
 
   -- what comes to a centre or a missing pin is within its limit, and nothing where there is none
   pub passed-le : (b : Bool) (r c : ℕ)
@@ -247,4 +262,5 @@ module _ {J : Job} {f : Step → ℕ} (feasible : Feasible J f) where
         by (corner d) r c b = omega (arith, feasible .limits (record { link = link (corner d) r c; forth = b }) (J .O / 2) refl, O≤)
         by (spoke d) r c true = omega (arith, spoke-le d r c .0, centre-even r c, passed-small true r c)
         by (spoke d) r c false = omega (arith, spoke-le d r c .1, passed-small true r c)
+        by direct r c b = omega (arith, feasible .limits (record { link = link direct r c; forth = b }) 1 refl)
         by (leg d) r c b = leg-small (eqb (J .mark r c) 2) d r c b refl

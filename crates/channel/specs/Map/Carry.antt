@@ -145,6 +145,10 @@ module _ (J : Job) (d : ℕ) where
   pub link-shut : T linked → T (not taken) → Shut J d
   link-shut t n = shut-by (not-right linked taken n) (not-left passed there (link-passes d t))
 
+  -- a place that is not there
+  pub pass-shut : T passed → T (not there) → Shut J d
+  pass-shut t n = shut-by (not-left linked taken (pass-links t)) (not-right passed there n)
+
   pub link-limit : T linked → (k : ℕ) → limit J (stepOf d .link) ≡ some k → Limited J d k
   unfolding cap free isNone
   link-limit t k e =

@@ -1,12 +1,12 @@
 -- What the code of a row says of its link: who owns it, its kind and its sign; and the codes one by one. Assumes nothing.
 use mathlib.Core.Path.{_≡_, refl, sym, subst, _∙_}
 use mathlib.Core.Logic.{_≢_, _⊎_, inl, inr}
-use mathlib.Core.Bool.{Bool, true, false, not, _||_}
+use mathlib.Core.Bool.{Bool, true, false, not, _&&_, _||_}
 use Prim.Native.Nat.{ℕ, zero, suc, _+_, _/_, _%_, _≤_, _<_}
 use native.Mathlib.Omega.{arith}
 use borrow.Author.Tests.{eq-eqb, ne-eqb}
-use lib.Dec.{T, eqb, eqb→eq, leb, leb→le}
-use Rattle.sums.specs.Tests.{Same, same, other, same?, so, below, below-at}
+use lib.Dec.{T, eqb, eqb→eq, leb, leb→le, ltb, ltb→lt}
+use Rattle.sums.specs.Tests.{Same, same, other, same?, so, and-left, and-right, below, below-at}
 use Rattle.channel.specs.Map.{links, owners, signs, codes, kindOf, ownerOf, signOf, codeOf, ownerCell, carries, isPassage}
 use Rattle.channel.specs.Map.Bools.{if-so}
 use Rattle.channel.specs.Map.Bytes.{owner-is}
@@ -25,14 +25,15 @@ pub own-cell : (d c : ℕ) → codeOf (d % 64) ≡ c → T (own c) → ownerCell
 own-cell d c e t = sym (owner-is d 0 (sym (row-own (d % 64) (omega arith) (subst (λ (x : ℕ). T (own x)) (sym e) t)))) ∙ omega arith
 
 -- codes 6 and 7
-pub leg-kind : (i : ℕ) → i < 64 → T (eqb (codeOf i) 6 || eqb (codeOf i) 7) → 10 ≤ kindOf i
+pub leg-kind : (i : ℕ) → i < 64 → T (eqb (codeOf i) 6 || eqb (codeOf i) 7) → (10 ≤ kindOf i) × (kindOf i < 14)
 unfolding below kindOf links codeOf codes
 leg-kind i l t =
-    leb→le _ _
-    (if-so (eqb (codeOf i) 6 || eqb (codeOf i) 7) (leb 10 (kindOf i))
-    (below-at 64 (λ i. not (eqb (codeOf i) 6 || eqb (codeOf i) 7) || leb 10 (kindOf i)) tt i l) t)
+    let both : T (leb 10 (kindOf i) && ltb (kindOf i) 14) =
+    if-so (eqb (codeOf i) 6 || eqb (codeOf i) 7) (leb 10 (kindOf i) && ltb (kindOf i) 14)
+    (below-at 64 (λ i. not (eqb (codeOf i) 6 || eqb (codeOf i) 7) || (leb 10 (kindOf i) && ltb (kindOf i) 14)) tt i l) t in
+    (leb→le _ _ (and-left (leb 10 (kindOf i)) (ltb (kindOf i) 14) both), ltb→lt _ _ (and-right (leb 10 (kindOf i)) (ltb (kindOf i) 14) both))
 
-pub seven-kind : (i : ℕ) → i < 64 → codeOf i ≡ 7 → 10 ≤ kindOf i
+pub seven-kind : (i : ℕ) → i < 64 → codeOf i ≡ 7 → (10 ≤ kindOf i) × (kindOf i < 14)
 seven-kind i l e = leg-kind i l (subst (λ (x : ℕ). T (eqb x 6 || eqb x 7)) (sym e) tt)
 
 pub leg-sign : (i : ℕ) → i < 64 → T (eqb (codeOf i) 6 || eqb (codeOf i) 7) → codeOf i + signOf i ≡ 7
@@ -83,6 +84,7 @@ pub data Which (c : ℕ) : Type 0 where
   six : c ≡ 6 → Which c
   seven : c ≡ 7 → Which c
   eight : c ≡ 8 → Which c
+  fifteen : c ≡ 15 → Which c
   rest : carries c ≡ false → isPassage c ≡ false → Which c
 
 high : (c : ℕ) → 8 < c → isPassage c ≡ false
@@ -103,4 +105,11 @@ which (suc (suc (suc (suc (suc zero))))) = five refl
 which (suc (suc (suc (suc (suc (suc zero)))))) = six refl
 which (suc (suc (suc (suc (suc (suc (suc zero))))))) = seven refl
 which (suc (suc (suc (suc (suc (suc (suc (suc zero)))))))) = eight refl
-which (suc (suc (suc (suc (suc (suc (suc (suc (suc c))))))))) = rest refl (high (suc (suc (suc (suc (suc (suc (suc (suc (suc c))))))))) (omega arith))
+which (suc (suc (suc (suc (suc (suc (suc (suc (suc zero))))))))) = rest refl refl
+which (suc (suc (suc (suc (suc (suc (suc (suc (suc (suc zero)))))))))) = rest refl refl
+which (suc (suc (suc (suc (suc (suc (suc (suc (suc (suc (suc zero))))))))))) = rest refl refl
+which (suc (suc (suc (suc (suc (suc (suc (suc (suc (suc (suc (suc zero)))))))))))) = rest refl refl
+which (suc (suc (suc (suc (suc (suc (suc (suc (suc (suc (suc (suc (suc zero))))))))))))) = rest refl refl
+which (suc (suc (suc (suc (suc (suc (suc (suc (suc (suc (suc (suc (suc (suc zero)))))))))))))) = rest refl refl
+which (suc (suc (suc (suc (suc (suc (suc (suc (suc (suc (suc (suc (suc (suc (suc zero))))))))))))))) = fifteen refl
+which (suc (suc (suc (suc (suc (suc (suc (suc (suc (suc (suc (suc (suc (suc (suc (suc c)))))))))))))))) = rest refl (high (suc (suc (suc (suc (suc (suc (suc (suc (suc (suc (suc (suc (suc (suc (suc (suc c)))))))))))))))) (omega arith))

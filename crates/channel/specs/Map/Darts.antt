@@ -7,12 +7,12 @@ use native.Mathlib.Omega.{arith}
 use lib.Dec.{T, eqb, eqb→eq, leb, ltb, ltb→lt, le→leb, lt→ltb, lit<}
 use lib.ListN.{getD}
 use Rattle.sums.specs.Tests.{if-so, and-left, and-right, and-both, below, below-at}
-use Rattle.model.specs.Links.{north, east, south, west, LinkKind, northSide, westSide, corner, spoke, leg, link, linkCode, Step, turn}
+use Rattle.model.specs.Links.{north, east, south, west, LinkKind, northSide, westSide, corner, spoke, leg, direct, link, linkCode, Step, turn}
 use Rattle.model.specs.Record.{kinds}
-use Rattle.channel.specs.Map.{darts, inGrid, rowOf, columnOf, rev, ownerCell, stepOf, carries, isLinkDart, links, signs, codes, kindOf, ownerOf, signOf, codeOf, seatOf, dartOf}
+use Rattle.channel.specs.Map.{darts, inGrid, rowOf, columnOf, ahead, rev, ownerCell, stepOf, carries, isLinkDart, turns, links, owners, signs, codes, turnOf, kindOf, ownerOf, signOf, codeOf, seatOf, dartOf}
 use Rattle.channel.specs.Map.Bools.{same-test}
 use Rattle.channel.specs.Map.Rows.{owner-le}
-use Rattle.channel.specs.Map.Back.{grid-at, owner-law, link-stored, stored-turned, rev<}
+use Rattle.channel.specs.Map.Back.{grid-at, owner-law, link-stored, stored-turned, rev<, rev-over}
 
 -- ---- cells
 
@@ -61,10 +61,21 @@ dart-at d y i r c (e, l, o, a, b) t =
       },
     )
 
+-- the direct exit of a pin, and against it
+pub out-step : (d : ℕ) → d % 64 ≡ 12 → stepOf d ≡ record { link = link direct (rowOf (ownerCell d)) (columnOf (ownerCell d)); forth = true }
+unfolding stepOf kindOf links signOf signs
+out-step d e =
+    λ j. record { link = link (getD kinds (kindOf (e j)) northSide) (rowOf (ownerCell d)) (columnOf (ownerCell d)); forth = eqb (signOf (e j)) 0 }
+
+pub in-step : (d : ℕ) → d % 64 ≡ 5 → stepOf d ≡ record { link = link direct (rowOf (ownerCell d)) (columnOf (ownerCell d)); forth = false }
+unfolding stepOf kindOf links signOf signs
+in-step d e =
+    λ j. record { link = link (getD kinds (kindOf (e j)) northSide) (rowOf (ownerCell d)) (columnOf (ownerCell d)); forth = eqb (signOf (e j)) 0 }
+
 -- ---- the row of a step
 
 -- the 14 kinds and their numbers
-pub kind-code : (k : LinkKind) → (linkCode k < 14) × (getD kinds (linkCode k) northSide ≡ k)
+pub kind-code : (k : LinkKind) → (linkCode k < 15) × (getD kinds (linkCode k) northSide ≡ k)
 kind-code northSide = (lit< tt, refl)
 kind-code westSide = (lit< tt, refl)
 kind-code (corner north) = (lit< tt, refl)
@@ -79,13 +90,14 @@ kind-code (leg north) = (lit< tt, refl)
 kind-code (leg east) = (lit< tt, refl)
 kind-code (leg south) = (lit< tt, refl)
 kind-code (leg west) = (lit< tt, refl)
+kind-code direct = (lit< tt, refl)
 
 -- a test of every kind in both directions
-all-seats : (p : ℕ → Bool → Bool) → T (below 14 (λ n. p n true && p n false)) → (n : ℕ) → n < 14 → (f : Bool) → T (p n f)
-all-seats p t n l true = and-left (p n true) (p n false) (below-at 14 (λ n. p n true && p n false) t n l)
-all-seats p t n l false = and-right (p n true) (p n false) (below-at 14 (λ n. p n true && p n false) t n l)
+all-seats : (p : ℕ → Bool → Bool) → T (below 15 (λ n. p n true && p n false)) → (n : ℕ) → n < 15 → (f : Bool) → T (p n f)
+all-seats p t n l true = and-left (p n true) (p n false) (below-at 15 (λ n. p n true && p n false) t n l)
+all-seats p t n l false = and-right (p n true) (p n false) (below-at 15 (λ n. p n true && p n false) t n l)
 
-module _ (n : ℕ) (l : n < 14) (f : Bool) where
+module _ (n : ℕ) (l : n < 15) (f : Bool) where
   seat< : seatOf n f < 64
   unfolding below seatOf
   seat< = ltb→lt _ _ (all-seats (λ n f. ltb (seatOf n f) 64) tt n l f)
@@ -108,6 +120,31 @@ unfolding below seatOf kindOf links signOf signs codeOf codes carries
 row-seat i l c =
     eqb→eq _ _ (if-so (carries (codeOf i)) _
     (below-at 64 (λ i. not (carries (codeOf i)) || eqb (seatOf (linkCode (getD kinds (kindOf i) northSide)) (eqb (signOf i) 0)) i) tt i l) c)
+
+-- ---- straight out of a pin, and in
+
+module _ (r c : ℕ) (a : r < 40) (b : c < 40) where
+  pub out-dart : 8 * (8 * (41 + 40 * r + c) + 0 + 1) + 4 ≡ dartOf (record { link = link direct r c; forth = true })
+  unfolding dartOf seatOf ownerOf owners
+  out-dart = omega arith
+
+  pub in-dart : 8 * (8 * (41 + 40 * r + c) + 0) + 5 ≡ dartOf (record { link = link direct r c; forth = false })
+  unfolding dartOf seatOf ownerOf owners
+  in-dart = omega arith
+
+  pub out-back : rev (8 * (8 * (41 + 40 * r + c) + 0 + 1) + 4) ≡ dartOf (record { link = link direct r c; forth = false })
+  unfolding dartOf seatOf ownerOf owners ahead turnOf turns darts
+  out-back =
+      let d = 8 * (8 * (41 + 40 * r + c) + 0 + 1) + 4 in
+      let i : d % 64 ≡ 12 = omega arith in
+      rev-over d (64 * (41 + 40 * r + c) + 5) (omega (arith, ap turnOf i)) (omega arith) ∙ omega arith
+
+  pub in-back : rev (8 * (8 * (41 + 40 * r + c) + 0) + 5) ≡ dartOf (record { link = link direct r c; forth = true })
+  unfolding dartOf seatOf ownerOf owners ahead turnOf turns darts
+  in-back =
+      let d = 8 * (8 * (41 + 40 * r + c) + 0) + 5 in
+      let i : d % 64 ≡ 5 = omega arith in
+      rev-over d (64 * (41 + 40 * r + c) + 12) (omega (arith, ap turnOf i)) (omega arith) ∙ omega arith
 
 -- ---- there and back
 

@@ -2,16 +2,16 @@
 -- step's head, or to a spot of a cell that is no tile. One clause for each kind, direction and rim, by the dart's cell and row. Assumes nothing.
 use mathlib.Core.Path.{_≡_, refl, sym, ap}
 use mathlib.Core.Logic.{inl, inr}
-use mathlib.Core.Bool.{Bool, true, false, not, _&&_}
+use mathlib.Core.Bool.{Bool, true, false, not, _&&_, _||_}
 use mathlib.Core.Option.{some}
 use Prim.Native.Nat.{ℕ, zero, suc, _+_, _*_, _/_, _%_, _≤_, _<_}
 use native.Mathlib.Omega.{arith}
-use lib.Dec.{T, eqb, ltb, ltb→lt, lt→ltb, not-T, T-not, lit<}
+use lib.Dec.{T, eqb, eqb→eq, ltb, ltb→lt, lt→ltb, not-T, T-not, lit<}
 use lib.ListN.{getElem?}
-use Rattle.sums.specs.Tests.{and-left, and-right, and-both, so-not}
-use Rattle.model.specs.Job.{Job, isTile}
-use Rattle.model.specs.Links.{Compass, north, east, south, west, compassCode, pin, missing, side, Place, at, theOutside, isPlace}
-use Rattle.model.specs.Links.{LinkKind, northSide, westSide, corner, spoke, leg, link, beside, pinAt, behindOf, aheadOf}
+use Rattle.sums.specs.Tests.{and-left, and-right, and-both, so, so-not}
+use Rattle.model.specs.Job.{Job, isPin, isTile, isChosen, isMissing, onRim}
+use Rattle.model.specs.Links.{Compass, north, east, south, west, compassCode, pin, missing, nowhere, side, Place, at, theOutside, isPlace}
+use Rattle.model.specs.Links.{LinkKind, northSide, westSide, corner, spoke, leg, direct, link, beside, pinAt, straightOut, behindOf, aheadOf}
 use Rattle.model.specs.Links.{Step, head, tail, isEntered, around}
 use Rattle.model.specs.Near.{spot, entryOf, exitOf, exit}
 use Rattle.channel.specs.Map.{darts, inGrid, rowOf, columnOf, ahead, rev, outside, turns, owners, turnOf, ownerOf, backRow, dartOf, seatOf, EndsAt}
@@ -45,6 +45,14 @@ side-leaves J false t x = absurd t
 pin-leaves : {d : ℕ} {s : Step} {p q : Place} (b : Bool) → Leaves d s p → Leaves d s q → Leaves d s (elim b [ true ↦ p | false ↦ q ])
 pin-leaves true x y = x
 pin-leaves false x y = y
+
+-- nothing leaves what lies straight out
+no-out : (J : Job) (r c : ℕ) → T (isPlace J (straightOut J r c)) → ⊥
+no-out J r c = by (isChosen J r c && onRim J r c)
+  where
+    by : (t : Bool) → T (isPlace J (elim t [ true ↦ theOutside | false ↦ at nowhere 0 0 ])) → ⊥
+    by true t = t
+    by false t = t
 
 pub leaves : (J : Job) (k : LinkKind) (f : Bool) (r c : ℕ) → T (isPlace J (tail J (step k f r c)))
     → Leaves (dartOf (step k f r c)) (step k f r c) (tail J (step k f r c))
@@ -87,6 +95,8 @@ leaves J (leg south) false r (suc c) t = leaves-by (41 + 40 * r + c) 28 (omega a
 leaves J (leg west) false zero c t = absurd t
 leaves J (leg west) false (suc r) zero t = absurd t
 leaves J (leg west) false (suc r) (suc c) t = leaves-by (41 + 40 * r + c) 36 (omega arith) refl
+leaves J direct true r c t = leaves-by (41 + 40 * r + c) 12 (omega arith) refl
+leaves J direct false r c t = absurd (no-out J r c t)
 
 -- ---- heads
 
@@ -97,11 +107,29 @@ rev-spot d i z (m, e, l) =
     let r : rev d ≡ 64 * z + (i + turnOf i) % 64 = rev-over d (64 * z + (i + turnOf i) % 64) (omega (arith, ap turnOf m)) (omega arith) in
     omega arith
 
+or-left : (a b : Bool) → T a → T (a || b)
+or-left true b t = tt
+or-left false b t = absurd t
+
+or-right : (a b : Bool) → T b → T (a || b)
+or-right true b t = tt
+or-right false b t = t
+
 compass< : (w : Compass) → compassCode w < 4
 compass< north = lit< tt
 compass< east = lit< tt
 compass< south = lit< tt
 compass< west = lit< tt
+
+-- no pin is missing and chosen
+both : (J : Job) (r c : ℕ) → T (isMissing J r c) → T (isChosen J r c) → ⊥
+unfolding isMissing isChosen
+both J r c t u =
+    omega (
+      arith,
+      eqb→eq (J .mark r c) 2 (and-right (isPin J r c) (eqb (J .mark r c) 2) t),
+      eqb→eq (J .mark r c) 1 (and-right (isPin J r c) (eqb (J .mark r c) 1) u),
+    )
 
 module _ (J : Job) where
   -- a spot of a side, in a cell that is no tile
@@ -110,10 +138,21 @@ module _ (J : Job) where
   outside-at u z w e n =
       let k = compass< w in
       let q : u / 8 ≡ z = omega arith in
-      and-both (ltb 1 (u % 8)) (ltb (u % 8) 6 && not (inGrid (u / 8) && isTile J (rowOf (u / 8)) (columnOf (u / 8)))) (lt→ltb 1 (u % 8) (omega arith))
+      or-left (ltb 1 (u % 8) && (ltb (u % 8) 6 && not (inGrid (u / 8) && isTile J (rowOf (u / 8)) (columnOf (u / 8))))) _
+      (and-both (ltb 1 (u % 8)) (ltb (u % 8) 6 && not (inGrid (u / 8) && isTile J (rowOf (u / 8)) (columnOf (u / 8)))) (lt→ltb 1 (u % 8) (omega arith))
       (and-both (ltb (u % 8) 6) (not (inGrid (u / 8) && isTile J (rowOf (u / 8)) (columnOf (u / 8)))) (lt→ltb (u % 8) 6 (omega arith))
       (rw q (not-T (inGrid z && isTile J (rowOf z) (columnOf z)) (λ t.
-      n (and-left (inGrid z) (isTile J (rowOf z) (columnOf z)) t) (and-right (inGrid z) (isTile J (rowOf z) (columnOf z)) t)))))
+      n (and-left (inGrid z) (isTile J (rowOf z) (columnOf z)) t) (and-right (inGrid z) (isTile J (rowOf z) (columnOf z)) t))))))
+
+  -- the entry of a cell without a missing pin
+  outside-entry : (u z : ℕ) → u ≡ 8 * z → (T (inGrid z) → T (isMissing J (rowOf z) (columnOf z)) → ⊥) → T (outside J u)
+  unfolding outside
+  outside-entry u z e n =
+      let q : u / 8 ≡ z = omega arith in
+      let k : u % 8 ≡ 0 = omega arith in
+      or-right (ltb 1 (u % 8) && (ltb (u % 8) 6 && not (inGrid (u / 8) && isTile J (rowOf (u / 8)) (columnOf (u / 8))))) _
+      (rw (k, q) (not-T (inGrid z && isMissing J (rowOf z) (columnOf z)) (λ t.
+      n (and-left (inGrid z) (isMissing J (rowOf z) (columnOf z)) t) (and-right (inGrid z) (isMissing J (rowOf z) (columnOf z)) t))))
 
   -- the place beside a tile, or the outside where no tile is
   beside-arrives : (d : ℕ) (w : Compass) (r c : ℕ) → c < 40 → rev d / 8 ≡ spot (2 + compassCode w) r c → T (isEntered J (beside J w r c))
@@ -140,6 +179,22 @@ module _ (J : Job) where
           → EndsAt J (elim t [ true ↦ at missing r c | false ↦ at pin r c ]) (rev d / 8)
       by true m = inl (m, sym e)
       by false m = absurd m
+
+  -- straight out of a pin that is not missing
+  out-arrives : (d r c : ℕ) → c < 40 → rev d / 8 ≡ spot 0 r c → T (isEntered J (straightOut J r c)) → EndsAt J (straightOut J r c) (rev d / 8)
+  unfolding EndsAt
+  out-arrives d r c b e m = by (isChosen J r c && onRim J r c) refl m
+    where
+      by : (t : Bool) → (isChosen J r c && onRim J r c) ≡ t → T (isEntered J (elim t [ true ↦ theOutside | false ↦ at nowhere 0 0 ]))
+          → EndsAt J (elim t [ true ↦ theOutside | false ↦ at nowhere 0 0 ]) (rev d / 8)
+      by true q m =
+          inr (
+            refl,
+            outside-entry (rev d / 8) (41 + 40 * r + c) (omega arith) (λ g t.
+                both J r c (rw (cell-row (41 + 40 * r + c) r c refl b, cell-column (41 + 40 * r + c) r c refl b) at t)
+                (and-left (isChosen J r c) (onRim J r c) (so q))),
+          )
+      by false q m = absurd m
 
   -- no tile stands north of the first row, nor west of the first column
   north-rim : (z : ℕ) → z < 41 → T (inGrid z) → T (isTile J (rowOf z) (columnOf z)) → ⊥
@@ -189,3 +244,5 @@ arrives J k (leg north) false r c a b m = pin-arrives J _ r c (rev-spot _ 44 (41
 arrives J k (leg east) false r c a b m = pin-arrives J _ r c (rev-spot _ 20 (41 + 40 * r + c) (omega arith)) m
 arrives J k (leg south) false r c a b m = pin-arrives J _ r c (rev-spot _ 28 (41 + 40 * r + c) (omega arith)) m
 arrives J k (leg west) false r c a b m = pin-arrives J _ r c (rev-spot _ 36 (41 + 40 * r + c) (omega arith)) m
+arrives J k direct true r c a b m = out-arrives J _ r c b (rev-spot _ 12 (41 + 40 * r + c) (omega arith)) m
+arrives J k direct false r c a b m = absurd m

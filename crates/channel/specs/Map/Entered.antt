@@ -1,32 +1,35 @@
 -- Where a wire that comes along a dart goes on: the place that the dart leads to, by its spot; the dart that takes the step back, which stands in the slot
--- of that place's exit by which the wire came; and that an exit's other slots have no link. Read off the rows of the table. Assumes nothing.
+-- of that place's exit by which the wire came; and that no wire takes an exit's other slots. Read off the rows of the table. Assumes nothing.
 use mathlib.Core.Path.{_≡_, refl, sym, ap, ap₂, subst, _∙_}
-use mathlib.Core.Logic.{_≢_, inl, inr}
-use mathlib.Core.Bool.{Bool, true, false, not, _||_}
+use mathlib.Core.Logic.{_≢_, _⊎_, inl, inr}
+use mathlib.Core.Bool.{Bool, true, false, not, _&&_, _||_}
 use mathlib.Core.List.{List, [], _∷_, map}
-use mathlib.Core.Option.{Option, none, some}
+use mathlib.Core.Option.{none, some}
 use Prim.Native.Nat.{ℕ, zero, suc, _+_, _-_, _*_, _/_, _%_, _≤_, _<_}
 use native.Mathlib.Omega.{arith}
-use borrow.Author.Tests.{le-leb, lt-leb}
+use borrow.Author.Tests.{le-leb, lt-leb, ne-eqb}
 use lib.Dec.{T, eqb, eqb→eq, leb, leb→le, ltb, ltb→lt}
 use lib.ListN.{length, getD, getElem?}
 use Rattle.sums.specs.Counting.{when}
-use Rattle.sums.specs.Tests.{and-left, so, if-so, below, below-at}
-use Rattle.sums.specs.Entries.{entry-there}
-use Rattle.model.specs.Job.{Job, arrayFits, isTile}
+use Rattle.sums.specs.Tests.{and-left, and-right, so, if-so, below, below-at, below-or}
+use Rattle.sums.specs.Entries.{none-some, entry-there}
+use Rattle.model.specs.Job.{Job, arrayFits, isPin, isTile, isChosen, isMissing, onRim}
 use Rattle.model.specs.Links.{Compass, north, east, south, west, clockwise, compassCode, PlaceKind, pin, missing, centre, nowhere, side}
 use Rattle.model.specs.Links.{Place, at, theOutside, isPlace, holds, placeCode}
-use Rattle.model.specs.Links.{LinkKind, northSide, westSide, corner, spoke, leg, link, linkCode, beside, behindOf, aheadOf}
-use Rattle.model.specs.Links.{Step, turn, head, tail, may, isEntered, around, aroundOf}
+use Rattle.model.specs.Links.{LinkKind, northSide, westSide, corner, spoke, leg, direct, link, linkCode, beside, behindOf, aheadOf}
+use Rattle.model.specs.Links.{Step, go, turn, head, tail, may, isEntered, around, aroundOf}
 use Rattle.model.specs.Near.{spot, entryOf, exitOf, entry, exit}
 use Rattle.model.specs.Record.{kinds, load}
 use Rattle.model.proofs.Listed.{may-leaves, may-enters}
 use Rattle.channel.specs.Map.{darts, inGrid, rowOf, columnOf, rev, ownerCell, stepOf, carries, isStored, isLinkDart, EndsAt, outside, opposed, links, owners, signs, codes, kindOf, ownerOf, signOf, codeOf, seatOf, dartOf}
 use Rattle.channel.specs.Map.Back.{owner-law, link-stored, stored-turned}
 use Rattle.channel.specs.Map.Darts.{dart-step, step-grid, cell-row, cell-column, grid-cell}
+use Rattle.channel.specs.Map.Around.{slots-at, takes-pin}
+use Rattle.channel.specs.Map.Bools.{and-false}
 use Rattle.channel.specs.Map.Ends.{leaves}
 use Rattle.channel.specs.Map.Spots.{held-grid, spot-inside}
-use Rattle.channel.specs.Map.Steps.{slot-step, link-tail, link-head}
+use Rattle.channel.specs.Map.Steps.{link-tail, link-head}
+use Rattle.channel.specs.Map.Ways.{direct-go, direct-come}
 use Rattle.channel.specs.Map.Places.{side-kind, pin-by}
 use Rattle.channel.specs.Map.Network.Pushed.{grid-turn, turn-turn}
 
@@ -35,20 +38,25 @@ way k f r c = record { link = link k r c; forth = f }
 
 -- ---- the dart that takes the step back
 
--- from an entry the exit's slot, and at n, e, s, w slots 5 and 7 stand for 2 and 4
+-- From an entry the exit's slot, and at n, e, s, w slots 5 and 7 stand for 2 and 4. Slot 5 of an entry, against a direct exit, stands for itself.
 abbrev moved : Bool → Bool → ℕ → ℕ
-moved true t b = b + 8
+moved true true b = b
+moved true false b = b + 8
 moved false true b = b - 3
 moved false false b = b
 
--- the dart of the same step that leaves an exit
+-- the dart of the same step that leaves an exit, or comes against a direct one
 pub fromExit : ℕ → ℕ
 fromExit b = moved (eqb (b / 8 % 8) 0 || eqb (b / 8 % 8) 6) (leb 5 (b % 8)) b
 
 module _ (b : ℕ) where
-  pub exit-entry : (eqb (b / 8 % 8) 0 || eqb (b / 8 % 8) 6) ≡ true → b + 8 ≡ fromExit b
+  pub exit-straight : (eqb (b / 8 % 8) 0 || eqb (b / 8 % 8) 6) ≡ true → 5 ≤ b % 8 → b ≡ fromExit b
   unfolding fromExit
-  exit-entry e = sym (ap (λ (s : Bool). moved s (leb 5 (b % 8)) b) e)
+  exit-straight e l = sym (ap₂ (λ (s t : Bool). moved s t b) e (le-leb 5 (b % 8) l))
+
+  pub exit-entry : (eqb (b / 8 % 8) 0 || eqb (b / 8 % 8) 6) ≡ true → b % 8 < 5 → b + 8 ≡ fromExit b
+  unfolding fromExit
+  exit-entry e l = sym (ap₂ (λ (s t : Bool). moved s t b) e (lt-leb 5 (b % 8) l))
 
   pub exit-twin : (eqb (b / 8 % 8) 0 || eqb (b / 8 % 8) 6) ≡ false → 5 ≤ b % 8 → b - 3 ≡ fromExit b
   unfolding fromExit
@@ -68,7 +76,8 @@ exit-row b =
     ∙ ap₂ (λ (k j : ℕ). 64 * (b / 64) + moved (eqb k 0 || eqb k 6) (leb 5 j) (b % 64)) k j
   where
     by : (s t : Bool) → (T t → 5 ≤ b % 8) → moved s t b ≡ 64 * (b / 64) + moved s t (b % 64)
-    by true t h = omega arith
+    by true true h = omega arith
+    by true false h = omega arith
     by false true h = omega (arith, h tt)
     by false false h = omega arith
 
@@ -115,18 +124,6 @@ below-slots q n a d r c k e h l t =
     ltb→lt k n
     (if-so (carries (codeOf (8 * q + k))) (ltb k n) (below-at 8 (λ k. not (carries (codeOf (8 * q + k))) || ltb k n) a k l)
     (subst (λ (j : ℕ). T (carries (codeOf j))) i (and-left (carries (codeOf (d % 64))) (inGrid (ownerCell d)) t)))
-
-kind-slots : (J : Job) (p : PlaceKind) (r c k : ℕ) → T (holds J p r c) → k < 8 → T (isLinkDart (8 * exitOf p r c + k)) → k < length (aroundOf p r c)
-unfolding below codeOf codes carries exitOf
-kind-slots J pin r c k h l t = below-slots 1 4 tt _ r c k refl (omega arith) l t
-kind-slots J missing r c k h l t = below-slots 1 4 tt _ r c k refl (omega arith) l t
-kind-slots J centre r c k h l t = below-slots 7 4 tt _ r c k refl (omega arith) l t
-kind-slots J PlaceKind.outside r c k h l t = absurd h
-kind-slots J nowhere r c k h l t = absurd h
-kind-slots J (side north) r c k h l t = below-slots 2 5 tt _ r c k refl (omega arith) l t
-kind-slots J (side east) r c k h l t = below-slots 3 5 tt _ r c k refl (omega arith) l t
-kind-slots J (side south) r c k h l t = below-slots 4 5 tt _ r c k refl (omega arith) l t
-kind-slots J (side west) r c k h l t = below-slots 5 5 tt _ r c k refl (omega arith) l t
 
 -- what goes along the link of a dart, by the dart's code
 module _ (d n m : ℕ) where
@@ -183,7 +180,7 @@ named-at u q r c p e h b k =
     let x : u / 8 ≡ 41 + 40 * r + c = omega arith in
     record { kind = ap kindAt m ∙ k; grid = omega arith; row = cell-row (u / 8) r c x b; column = cell-column (u / 8) r c x b }
 
--- ---- a step to the outside is taken from n, e, s or w
+-- ---- a step to the outside is taken from n, e, s or w, or from a pin
 
 -- the place's exit has the place's kind
 abbrev OneKind : Job → Place → Type 0
@@ -205,6 +202,10 @@ beside-one J d r c = by (isTile J r c)
     by : (b : Bool) → OneKind J (elim b [ true ↦ at (side d) r c | false ↦ theOutside ])
     by true = side-one J d r c
     by false = absurd
+
+pin-one : (J : Job) (r c : ℕ) → OneKind J (at pin r c)
+unfolding kindAt exitOf
+pin-one J r c p = let e : exitOf pin r c % 8 ≡ 1 = omega arith in ap kindAt e
 
 -- no other place is the outside
 not-outside : {A : Type 0} (x : Place) → placeCode (x .kind) ≢ 3 → x ≡ theOutside → A
@@ -233,6 +234,8 @@ outward J (leg west) true (suc r) (suc c) e = not-outside (at (side south) r c) 
 outward J (leg d) false r c e =
     pin-by J (λ x. x ≡ theOutside → OneKind J (aheadOf J (leg d) r c)) r c (λ q. not-outside (at missing r c) (λ z. omega arith))
     (λ q. not-outside (at pin r c) (λ z. omega arith)) e
+outward J direct true r c e = pin-one J r c
+outward J direct false r c e = not-outside (at pin r c) (λ q. omega arith) e
 
 module _ (J : Job) (fits : T (arrayFits (J .rows) (J .columns))) where
   entry-kind : (p : PlaceKind) (r c : ℕ) → T (holds J p r c) → T (isEntered J (at p r c)) → Named (entryOf p r c) p r c
@@ -247,20 +250,47 @@ module _ (J : Job) (fits : T (arrayFits (J .rows) (J .columns))) where
   entry-kind (side south) r c h t = named-at _ 4 r c (side south) refl (omega arith) (held-grid J fits (side south) r c h .1) refl
   entry-kind (side west) r c h t = named-at _ 5 r c (side west) refl (omega arith) (held-grid J fits (side west) r c h .1) refl
 
-  module _ (x : Place) (t : T (isPlace J x)) (k : ℕ) (l : k < 8) where
-    -- a slot with a link is the step around the place
-    pub slot-entry : T (isLinkDart (8 * exit x + k)) → getElem? (around x) k ≡ some (stepOf (8 * exit x + k))
-    slot-entry h =
-        let (s, e) = entry-there (around x) k (kind-slots J (x .kind) (x .row) (x .column) k t l h) in
-        e ∙ ap some (sym (slot-step J fits x t k s e .2))
+  -- a step that may be taken neither way
+  abbrev Shut : Step → Type 0
+  Shut s = (may J s ≡ false) × (may J (turn s) ≡ false)
 
-    -- one without is past them
-    pub slot-none : isLinkDart (8 * exit x + k) ≡ false → getElem? (around x) k ≡ none
-    slot-none e = by (getElem? (around x) k) refl
-      where
-        by : (o : Option Step) → getElem? (around x) k ≡ o → o ≡ none
-        by none g = refl
-        by (some s) g = absurd (subst T e (slot-step J fits x t k s g .1))
+  -- the direct exit of a missing pin
+  missing-shut : (r c : ℕ) → T (isMissing J r c) → Shut (stepOf (8 * spot 1 r c + 4))
+  unfolding isMissing isChosen
+  missing-shut r c h =
+      let (a, b) = held-grid J fits missing r c h in
+      let e : stepOf (8 * spot 1 r c + 4) ≡ go direct r c = slots-at (takes-pin r c a b) 4 (go direct r c) refl .step in
+      let m : J .mark r c ≡ 2 = eqb→eq (J .mark r c) 2 (and-right (isPin J r c) (eqb (J .mark r c) 2) h) in
+      let n : eqb (J .mark r c) 1 ≡ false = ne-eqb (J .mark r c) 1 (λ q. absurd (omega arith)) in
+      subst Shut (sym e) (direct-go J r c ∙ ap (λ (b : Bool). (isPin J r c && b) && onRim J r c) n ∙ ap (λ (b : Bool). b && onRim J r c) (and-false (isPin J r c)), direct-come J r c)
+
+  kind-slots : (p : PlaceKind) (r c k : ℕ) → T (holds J p r c) → k < 8 → T (isLinkDart (8 * exitOf p r c + k))
+      → (k < length (aroundOf p r c)) ⊎ Shut (stepOf (8 * exitOf p r c + k))
+  unfolding below codeOf codes carries exitOf
+  kind-slots pin r c k h l t = inl (below-slots 1 5 tt _ r c k refl (omega arith) l t)
+  kind-slots missing r c k h l t = by (below-or k 4)
+    where
+      by : (k < 4) ⊎ (4 ≤ k) → (k < 4) ⊎ Shut (stepOf (8 * spot 1 r c + k))
+      by (inl m) = inl m
+      by (inr m) =
+          let e : 4 ≡ k = omega (arith, below-slots 1 5 tt _ r c k refl (omega arith) l t) in
+          inr (subst (λ (j : ℕ). Shut (stepOf (8 * spot 1 r c + j))) e (missing-shut r c h))
+  kind-slots centre r c k h l t = inl (below-slots 7 4 tt _ r c k refl (omega arith) l t)
+  kind-slots PlaceKind.outside r c k h l t = absurd h
+  kind-slots nowhere r c k h l t = absurd h
+  kind-slots (side north) r c k h l t = inl (below-slots 2 5 tt _ r c k refl (omega arith) l t)
+  kind-slots (side east) r c k h l t = inl (below-slots 3 5 tt _ r c k refl (omega arith) l t)
+  kind-slots (side south) r c k h l t = inl (below-slots 4 5 tt _ r c k refl (omega arith) l t)
+  kind-slots (side west) r c k h l t = inl (below-slots 5 5 tt _ r c k refl (omega arith) l t)
+
+  -- the link of a slot past the steps around the place may be taken neither way
+  pub slot-shut : (x : Place) → T (isPlace J x) → (k : ℕ) → k < 8 → T (isLinkDart (8 * exit x + k)) → getElem? (around x) k ≡ none
+      → Shut (stepOf (8 * exit x + k))
+  slot-shut x t k l h n = by (kind-slots (x .kind) (x .row) (x .column) k t l h)
+    where
+      by : (k < length (around x)) ⊎ Shut (stepOf (8 * exit x + k)) → Shut (stepOf (8 * exit x + k))
+      by (inl m) = let (s, e) = entry-there (around x) k m in absurd (none-some s (sym n ∙ e))
+      by (inr z) = z
 
   -- ---- where a dart leads
 

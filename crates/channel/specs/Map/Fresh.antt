@@ -126,7 +126,7 @@ module _ (old rec : List ℕ) (k : ℕ) where
 module _ (J : Job) (fits : T (arrayFits (J .rows) (J .columns))) (old rec : List ℕ) (feasible : Feasible J (load rec)) where
   -- a step that is loaded in rec and not in old leaves the spot of a fresh byte
   step-fresh : (s : Step) → 0 < load rec s → load old s ≡ 0
-      → (i : ℕ) × (i < 22400) × T (isFresh old rec i) × (originOf rec i < spots) × (originOf rec i ≡ exit (tail J s))
+      → (i : ℕ) × (i < 24000) × T (isFresh old rec i) × (originOf rec i < spots) × (originOf rec i ≡ exit (tail J s))
   unfolding isFresh spots darts
   step-fresh s l e =
       let g = loaded-grid J fits rec feasible s l in
@@ -141,7 +141,7 @@ module _ (J : Job) (fits : T (arrayFits (J .rows) (J .columns))) (old rec : List
       )
 
   module _ (rank : ℕ → ℕ) (falls : FallsFrom 2 rec rank)
-      (fresh : (i : ℕ) → i < 22400 → T (isFresh old rec i) → originOf rec i < spots → 2 ≤ rank (originOf rec i)) where
+      (fresh : (i : ℕ) → i < 24000 → T (isFresh old rec i) → originOf rec i < spots → 2 ≤ rank (originOf rec i)) where
     -- a trail of the new loads is one of the old ones, or its end is behind a fresh link
     old-or-behind : (ss : List Step) (x y : Place) → Trail J (load rec) x ss y → T (isPlace J y) → Trail J (load old) x ss y ⊎ (2 ≤ rank (exit y))
     old-or-behind [] x y t p = inl t

@@ -15,7 +15,7 @@ use Rattle.channel.specs.Map.Bools.{if-so}
 
 -- the codes of its entry, then those of its exit
 abbrev centreCodes : List ℕ
-centreCodes = 9 ∷ 9 ∷ 9 ∷ 9 ∷ 5 ∷ 0 ∷ 0 ∷ 0 ∷ 4 ∷ 4 ∷ 4 ∷ 4 ∷ 11 ∷ 0 ∷ 0 ∷ 0 ∷ []
+centreCodes = 9 ∷ 9 ∷ 9 ∷ 9 ∷ 5 ∷ 0 ∷ 0 ∷ 0 ∷ 4 ∷ 4 ∷ 4 ∷ 4 ∷ 0 ∷ 11 ∷ 0 ∷ 0 ∷ []
 
 pub centre-code : (d j : ℕ) → j < 16 → d % 64 ≡ 48 + j → codeOf (d % 64) ≡ getD centreCodes j 0
 unfolding below codeOf codes

@@ -60,9 +60,9 @@ row? i l = by (carries (codeOf i)) refl (isPassage (codeOf i)) refl
     by false e true f = passage
     by false e false f = nothing e f
 
-pub place-bound : (i : ℕ) → i < 64 → placeOf i < 50000
+pub place-bound : (i : ℕ) → i < 64 → placeOf i < 53000
 unfolding below placeOf carries isPassage codes codeOf links kindOf owners ownerOf signs signOf
-place-bound i l = ltb→lt _ _ (below-at 64 (λ i. ltb (placeOf i) 50000) tt i l)
+place-bound i l = ltb→lt _ _ (below-at 64 (λ i. ltb (placeOf i) 53000) tt i l)
 
 -- only slot 4 leads from an entry to its exit
 pub no-passage : (i : ℕ) → i < 64 → i % 8 < 4 → placeOf i ≢ 1
@@ -141,13 +141,13 @@ module _ (rec : List ℕ) (d w : ℕ) (e : placeOf (d % 64) ≡ w) where
 -- ---- by the words of a spot
 
 module _ {k w last : ℕ} (s : SlotWords k w last) (h : k < 8) where
-  pub four-link : (j : ℕ) → j < 4 → (w / 2 ^ (j * 16) % 65536 < 50000) × (w / 2 ^ (j * 16) % 65536 ≢ 1)
+  pub four-link : (j : ℕ) → j < 4 → (w / 2 ^ (j * 16) % 65536 < 53000) × (w / 2 ^ (j * 16) % 65536 ≢ 1)
   four-link j l = (
     omega (arith, s .four j l, place-bound (8 * k + j) (omega arith)),
     λ e. no-passage (8 * k + j) (omega arith) (omega arith) (sym (s .four j l) ∙ e),
   )
 
-  pub fifth-link : (last % 65536 < 50000) × (last % 65536 ≢ 1)
+  pub fifth-link : (last % 65536 < 53000) × (last % 65536 ≢ 1)
   fifth-link = (omega (arith, s .fifth, place-bound (8 * k + 4) (omega arith)), s .link)
 
 pub slot-test : (rec : List ℕ) (u k w : ℕ) (b : Bool) → k < 8 → w ≡ placeOf (8 * (u % 8) + k)

@@ -9,12 +9,12 @@ use borrow.Author.Tests.{lt-ltb, le-ltb, eq-eqb, ne-eqb}
 use lib.Dec.{eqb, leb, leb→le, ltb, ltb→lt}
 use lib.ListN.{getD, set}
 use Rattle.sums.specs.Tests.{so, and-left, and-right, or-by}
-use Rattle.model.specs.Job.{Job, isTile, isChosen}
+use Rattle.model.specs.Job.{Job, isTile, isChosen, isMissing}
 use Rattle.model.specs.Links.{pin, at}
 use Rattle.model.specs.Loads.{departures}
 use Rattle.model.specs.Record.{load}
 use Rattle.channel.specs.Map.{inGrid, rowOf, columnOf, ownerCell, isStored, isStart, outside, starts, bump, address, laid, kindOf, ownerOf, signOf, codeOf}
-use Rattle.channel.specs.Map.Bools.{if-true, if-false, and-false, between}
+use Rattle.channel.specs.Map.Bools.{if-true, if-false, and-false, or-false, between}
 use Rattle.channel.specs.Map.Grid.{grid-bounds}
 use Rattle.channel.specs.Map.Bytes.{owner-is, address-is}
 
@@ -29,16 +29,20 @@ module _ (J : Job) (u : ℕ) where
   unfolding isStart
   start-is b k e = rw (eq-eqb (u % 8) 1 k) e
 
-  pub not-outside : (ltb (u % 8) 2 || leb 6 (u % 8)) ≡ true → false ≡ outside J u
+  pub entry-outside : (b : Bool) → u % 8 ≡ 0 → b ≡ (inGrid (u / 8) && isMissing J (rowOf (u / 8)) (columnOf (u / 8))) → not b ≡ outside J u
   unfolding outside
-  not-outside e =
-      or-by (ltb (u % 8) 2) (leb 6 (u % 8)) (λ t. let l : u % 8 ≤ 1 = omega (arith, ltb→lt (u % 8) 2 t) in rw (le-ltb 1 (u % 8) l))
-      (λ t. let l : 6 ≤ u % 8 = leb→le 6 (u % 8) t in rw (le-ltb (u % 8) 6 l, and-false)) (so e)
+  entry-outside b k e = rw (k, ap not e)
+
+  pub not-outside : u % 8 ≢ 0 → (ltb (u % 8) 2 || leb 6 (u % 8)) ≡ true → false ≡ outside J u
+  unfolding outside
+  not-outside z e =
+      or-by (ltb (u % 8) 2) (leb 6 (u % 8)) (λ t. let l : u % 8 ≤ 1 = omega (arith, ltb→lt (u % 8) 2 t) in rw (le-ltb 1 (u % 8) l, ne-eqb (u % 8) 0 z))
+      (λ t. let l : 6 ≤ u % 8 = leb→le 6 (u % 8) t in rw (le-ltb (u % 8) 6 l, and-false, ne-eqb (u % 8) 0 z)) (so e)
 
   pub outside-is : (b : Bool) → (ltb (u % 8) 2 || leb 6 (u % 8)) ≡ false → b ≡ (inGrid (u / 8) && isTile J (rowOf (u / 8)) (columnOf (u / 8)))
       → not b ≡ outside J u
   unfolding outside
-  outside-is b k e = let (l, m) = between (u % 8) 2 6 k in rw (lt-ltb 1 (u % 8) l, lt-ltb (u % 8) 6 m) (ap not e)
+  outside-is b k e = let (l, m) = between (u % 8) 2 6 k in let z : u % 8 ≢ 0 = omega arith in rw (lt-ltb 1 (u % 8) l, lt-ltb (u % 8) 6 m, ne-eqb (u % 8) 0 z) (ap not e ∙ sym (or-false (not (inGrid (u / 8) && isTile J (rowOf (u / 8)) (columnOf (u / 8))))))
 
   pub start-bounds : isStart J u ≡ true → (41 ≤ u / 8) × (u / 8 < 1641)
   unfolding isStart

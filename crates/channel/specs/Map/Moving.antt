@@ -17,7 +17,6 @@ use Rattle.model.specs.Record.{load}
 use Rattle.channel.specs.Map.{turns, owners, codes, turnOf, kindOf, ownerOf, signOf, codeOf, backRow, backCell, backCode, reaches, ownerMark}
 use Rattle.channel.specs.Map.{darts, inGrid, rowOf, columnOf, rev, ownerCell, stepOf, carries, isPassage, isLinkDart, isPassDart, cap, free, view, opposed, moves}
 use Rattle.channel.specs.Map.Bools.{if-so, is-on, is-left, and-true, and-false, and-swap, or-true, or-false}
-use Rattle.channel.specs.Map.Bounds.{code-bound}
 use Rattle.channel.specs.Map.Packed.{not-least}
 use Rattle.channel.specs.Map.Grid.{grid-bounds}
 use Rattle.channel.specs.Map.Turning.{back-kind, back-code, back-owner, back-sign, Turn, over, stays, turn?}
@@ -184,21 +183,26 @@ under-one : (n : ℕ) → ltb n 1 ≡ eqb n 0
 under-one n = both-ways (ltb n 1) (eqb n 0) (λ t. so (eq-eqb n 0 (omega (arith, ltb→lt n 1 t)))) (λ t. lt→ltb n 1 (omega (arith, eqb→eq n 0 t)))
 
 module _ (J : Job) (rec : List ℕ) (d : ℕ) (l : d < darts) where
-  -- sides and corners
-  pub plain-moves : (codeOf (d % 64) ≡ 1) ⊎ (codeOf (d % 64) ≡ 2)
+  -- sides, corners and direct exits
+  abbrev Plain : Type 0
+  Plain = (codeOf (d % 64) ≡ 1) ⊎ ((codeOf (d % 64) ≡ 2) ⊎ (codeOf (d % 64) ≡ 15))
+
+  pub plain-moves : Plain
       → moves J rec d ≡ (ltb (when (inGrid (ownerCell d)) (load rec (stepOf d))) (cap J d) || ltb 0 (opposed rec d))
   unfolding carries backCode
   plain-moves (inl e) =
       room-moves J rec d (free-none J d (omega arith) (omega arith) (omega arith) (omega arith)) (back-link rec d 1 l e tt refl) (ap carries e)
-  plain-moves (inr e) =
+  plain-moves (inr (inl e)) =
       room-moves J rec d (free-none J d (omega arith) (omega arith) (omega arith) (omega arith)) (back-link rec d 2 l e tt refl) (ap carries e)
+  plain-moves (inr (inr e)) =
+      room-moves J rec d (free-none J d (omega arith) (omega arith) (omega arith) (omega arith)) (back-link rec d 15 l e tt refl) (ap carries e)
 
-  pub plain-back : (codeOf (d % 64) ≡ 1) ⊎ (codeOf (d % 64) ≡ 2) → (a : ℕ) → a ≡ opposed rec d → 0 < a → true ≡ moves J rec d
+  pub plain-back : Plain → (a : ℕ) → a ≡ opposed rec d → 0 < a → true ≡ moves J rec d
   plain-back w a e p =
       let q : ltb 0 (opposed rec d) ≡ true = lt-ltb 0 (opposed rec d) (omega (arith, e)) in
       rw (plain-moves w, q) (sym (or-true (ltb (when (inGrid (ownerCell d)) (load rec (stepOf d))) (cap J d))))
 
-  pub plain-room : (codeOf (d % 64) ≡ 1) ⊎ (codeOf (d % 64) ≡ 2) → (a n m : ℕ) → a ≡ opposed rec d → a ≤ 0
+  pub plain-room : Plain → (a n m : ℕ) → a ≡ opposed rec d → a ≤ 0
       → n ≡ when (inGrid (ownerCell d)) (load rec (stepOf d)) → m ≡ cap J d → ltb n m ≡ moves J rec d
   plain-room w a n m e p f g =
       let q : ltb 0 (opposed rec d) ≡ false = le-ltb 0 (opposed rec d) (omega (arith, e)) in
@@ -208,9 +212,9 @@ module _ (J : Job) (rec : List ℕ) (d : ℕ) (l : d < darts) where
   pub spoke-moves : (codeOf (d % 64) ≡ 3) ⊎ (codeOf (d % 64) ≡ 4) → moves J rec d ≡ (free J d && eqb (opposed rec d) 0)
   unfolding carries isPassage backCode
   spoke-moves (inl e) =
-      free-moves J rec d (cap-none J d (omega arith) (omega arith) (omega arith) (omega arith) (omega arith)) (back-none rec d 3 l e refl refl)
+      free-moves J rec d (cap-none J d (omega arith) (omega arith) (omega arith) (omega arith) (omega arith) (omega arith)) (back-none rec d 3 l e refl refl)
   spoke-moves (inr e) =
-      free-moves J rec d (cap-none J d (omega arith) (omega arith) (omega arith) (omega arith) (omega arith)) (back-none rec d 4 l e refl refl)
+      free-moves J rec d (cap-none J d (omega arith) (omega arith) (omega arith) (omega arith) (omega arith) (omega arith)) (back-none rec d 4 l e refl refl)
 
   pub into-moves : codeOf (d % 64) ≡ 6 → moves J rec d ≡ (free J d && eqb (opposed rec d) 0)
   unfolding carries isPassage backCode
@@ -300,18 +304,18 @@ module _ (J : Job) (rec : List ℕ) (d : ℕ) (l : d < darts) where
       ∙ ap₂ ltb (sym p) (sym q))
 
   -- ways back
-  high-moves : 8 < codeOf (d % 64) → moves J rec d ≡ ltb 0 (view rec (rev d))
-  high-moves m =
-      back-moves J rec d (cap-none J d (omega arith) (omega arith) (omega arith) (omega arith) (omega arith))
+  high-moves : 8 < codeOf (d % 64) → codeOf (d % 64) < 15 → moves J rec d ≡ ltb 0 (view rec (rev d))
+  high-moves m h =
+      back-moves J rec d (cap-none J d (omega arith) (omega arith) (omega arith) (omega arith) (omega arith) (omega arith))
       (free-none J d (omega arith) (omega arith) (omega arith) (omega arith))
 
   pub centre-back-moves : codeOf (d % 64) ≡ 11 → (b : Bool) → b ≡ throughCentre rec (d / 64) → b ≡ moves J rec d
   unfolding throughCentre
-  centre-back-moves e b f = f ∙ sym (high-moves (omega arith) ∙ ap (ltb 0) (centre-back rec d l e))
+  centre-back-moves e b f = f ∙ sym (high-moves (omega arith) (omega arith) ∙ ap (ltb 0) (centre-back rec d l e))
 
   pub missing-back-moves : codeOf (d % 64) ≡ 14 → (b : Bool) → b ≡ throughMissing rec (d / 64) → b ≡ moves J rec d
   unfolding throughMissing
-  missing-back-moves e b f = f ∙ sym (high-moves (omega arith) ∙ ap (ltb 0) (missing-back rec d l e))
+  missing-back-moves e b f = f ∙ sym (high-moves (omega arith) (omega arith) ∙ ap (ltb 0) (missing-back rec d l e))
 
   back-carries : (c : ℕ) → c < 15 → T (ltb 8 c && (not (eqb c 11) && not (eqb c 14))) → carries (backCode c) ≡ true
   unfolding below carries backCode
@@ -320,20 +324,20 @@ module _ (J : Job) (rec : List ℕ) (d : ℕ) (l : d < darts) where
       (if-so (ltb 8 c && (not (eqb c 11) && not (eqb c 14))) (carries (backCode c))
       (below-at 15 (λ c. not (ltb 8 c && (not (eqb c 11) && not (eqb c 14))) || carries (backCode c)) tt c m) t)
 
-  pub link-back-moves : 8 < codeOf (d % 64) → codeOf (d % 64) ≢ 11 → codeOf (d % 64) ≢ 14 → (a : ℕ) → a ≡ opposed rec d → ltb 0 a ≡ moves J rec d
-  link-back-moves m n p a e =
+  pub link-back-moves : 8 < codeOf (d % 64) → codeOf (d % 64) < 15 → codeOf (d % 64) ≢ 11 → codeOf (d % 64) ≢ 14 → (a : ℕ) → a ≡ opposed rec d → ltb 0 a ≡ moves J rec d
+  link-back-moves m h n p a e =
       let t : T (ltb 8 (codeOf (d % 64)) && (not (eqb (codeOf (d % 64)) 11) && not (eqb (codeOf (d % 64)) 14))) =
       and-both (ltb 8 (codeOf (d % 64))) _ (lt→ltb 8 _ m)
       (and-both (not (eqb (codeOf (d % 64)) 11)) (not (eqb (codeOf (d % 64)) 14)) (so-not (ne-eqb (codeOf (d % 64)) 11 n))
       (so-not (ne-eqb (codeOf (d % 64)) 14 p))) in
       ap (ltb 0) e
-      ∙ sym (high-moves m ∙ ap (ltb 0) (back-link rec d (codeOf (d % 64)) l refl (so-not (ne-eqb (codeOf (d % 64)) 0 (omega arith)))
-      (back-carries (codeOf (d % 64)) (code-bound (d % 64) (omega arith)) t)))
+      ∙ sym (high-moves m h ∙ ap (ltb 0) (back-link rec d (codeOf (d % 64)) l refl (so-not (ne-eqb (codeOf (d % 64)) 0 (omega arith)))
+      (back-carries (codeOf (d % 64)) h t)))
 
   pub none-moves : codeOf (d % 64) ≡ 0 → false ≡ moves J rec d
   unfolding carries isPassage backCode
   none-moves e =
-      sym (back-moves J rec d (cap-none J d (omega arith) (omega arith) (omega arith) (omega arith) (omega arith))
+      sym (back-moves J rec d (cap-none J d (omega arith) (omega arith) (omega arith) (omega arith) (omega arith) (omega arith))
       (free-none J d (omega arith) (omega arith) (omega arith) (omega arith))
       ∙ ap (ltb 0) (back-none rec d 0 l e refl refl))
 

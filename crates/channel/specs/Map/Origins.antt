@@ -1,21 +1,16 @@
--- Where the wires of a load byte begin: the byte has the load of a step, and its wires leave the spot of the step's dart. A loaded dart stands at one of the
--- slots 0 to 4. Assumes nothing.
+-- Where the wires of a load byte begin: the byte has the load of a step, and its wires leave the spot of the step's dart. Assumes nothing.
 use mathlib.Core.Path.{_≡_, refl, sym, ap, subst, _∙_}
 use mathlib.Core.Logic.{_≢_}
-use mathlib.Core.Bool.{Bool, true, false, not, _&&_, _||_}
+use mathlib.Core.Bool.{Bool, true, false}
 use mathlib.Core.List.{List}
 use Prim.Native.Nat.{ℕ, _+_, _-_, _*_, _/_, _%_, _<_}
 use native.Mathlib.Omega.{arith}
-use borrow.Author.Tests.{eq-eqb, ne-eqb, lt-ltb, le-ltb, ltb-false}
-use lib.Dec.{T, eqb, leb, ltb, ltb→lt, le→leb}
+use borrow.Author.Tests.{eq-eqb, ne-eqb, lt-ltb, le-ltb}
+use lib.Dec.{eqb, ltb}
 use lib.ListN.{getD}
-use Rattle.sums.specs.Counting.{when}
-use Rattle.sums.specs.Tests.{if-so, so, below, below-at}
 use Rattle.model.specs.Links.{linkCode, Step}
-use Rattle.model.specs.Loads.{arrivals}
 use Rattle.model.specs.Record.{loadPlane, load}
-use Rattle.channel.specs.Map.{codes, ownerOf, codeOf, seatOf, dartOf, wayPart}
-use Rattle.channel.specs.Map.{spots, inGrid, ownerCell, stepOf, carries, isPassage, isLinkDart, isPassDart, passedOf, view}
+use Rattle.channel.specs.Map.{spots, ownerOf, seatOf, dartOf, wayPart}
 use Rattle.channel.specs.Map.Bools.{if-true, if-false}
 use Rattle.channel.specs.Map.Darts.{OnGrid, kind-code}
 use Rattle.channel.specs.Map.Grid.{cell-on}
@@ -54,7 +49,7 @@ pub stepByte : Step → ℕ
 stepByte s = 1600 * linkCode (s .link .kind) + (40 * s .link .row + s .link .column)
 
 module _ (s : Step) (g : OnGrid s) where
-  pub step-byte< : stepByte s < 22400
+  pub step-byte< : stepByte s < 24000
   unfolding stepByte
   step-byte< = omega (arith, kind-code (s .link .kind) .0, g .row<, g .column<)
 
@@ -72,7 +67,7 @@ module _ (s : Step) (g : OnGrid s) where
       let n = linkCode (s .link .kind) in
       let x = 40 * s .link .row + s .link .column in
       let i = stepByte s in
-      let h : n < 14 = kind-code (s .link .kind) .0 in
+      let h : n < 15 = kind-code (s .link .kind) .0 in
       let k : i / 1600 ≡ n = omega (arith, g .row<, g .column<) in
       let m : i % 1600 ≡ x = omega (arith, g .row<, g .column<) in
       let (z, w) = byte-way (getD rec (3968 + i) 0) (s .forth) (subst (λ (a : ℕ). 0 < a) (step-load rec) l) in
@@ -82,29 +77,3 @@ module _ (s : Step) (g : OnGrid s) where
     where
       whole : (x j o r c : ℕ) → x ≡ 40 * r + c → 8 * (41 + x - o) + j / 8 ≡ (64 * (41 + 40 * r + c - o) + j) / 8
       whole x j o r c e = omega arith
-
--- ---- slots
-
-idle-row : (i : ℕ) → i < 64 → T (leb 5 (i % 8)) → T (not (carries (codeOf i) || isPassage (codeOf i)))
-unfolding below carries isPassage codeOf codes
-idle-row i l =
-    if-so (leb 5 (i % 8)) (not (carries (codeOf i) || isPassage (codeOf i)))
-    (below-at 64 (λ i. not (leb 5 (i % 8)) || not (carries (codeOf i) || isPassage (codeOf i))) tt i l)
-
-pub loaded-slot : (rec : List ℕ) (d : ℕ) → 0 < view rec d → d % 8 < 5
-unfolding view isLinkDart isPassDart
-loaded-slot rec d w = by (ltb (d % 8) 5) refl
-  where
-    none : (a b : Bool) (x y : Bool) (m n : ℕ) → T (not (a || b)) → when (a && x) m + when (b && y) n ≡ 0
-    none true b x y m n t = absurd t
-    none false true x y m n t = absurd t
-    none false false x y m n t = refl
-
-    by : (b : Bool) → ltb (d % 8) 5 ≡ b → d % 8 < 5
-    by true e = ltb→lt (d % 8) 5 (so e)
-    by false e =
-        absurd (omega (
-          arith,
-          none (carries (codeOf (d % 64))) (isPassage (codeOf (d % 64))) (inGrid (ownerCell d)) (inGrid (d / 64)) (load rec (stepOf d)) (arrivals (load rec) (passedOf d))
-              (idle-row (d % 64) (omega arith) (le→leb 5 (d % 64 % 8) (omega (arith, ltb-false (d % 8) 5 e)))),
-        ))

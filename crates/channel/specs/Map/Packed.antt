@@ -18,24 +18,27 @@ use Rattle.channel.specs.Map.Bools.{is-off}
 -- eight rows to a word, a byte for each: the code, and 16 times the kind of link
 abbrev rowWords : List ℕ
 rowWords =
-    0x0000_0008_dccc_bcac ∷ 0x0000_000e_d7c7_b7a7 ∷ 0xbd00_6ab6_5263_2201 ∷ 0xcd00_7ac6_2273_3211 ∷ 0xdd00_8ad6_3283_4201 ∷ 0xad00_9aa6_4293_5211
-    ∷ 0x0000_0005_9989_7969 ∷ 0x0000_000b_9484_7464 ∷ []
+    0x0000_ef08_dccc_bcac ∷ 0x0000_0eef_d7c7_b7a7 ∷ 0xbd00_6ab6_5263_2201 ∷ 0xcd00_7ac6_2273_3211 ∷ 0xdd00_8ad6_3283_4201 ∷ 0xad00_9aa6_4293_5211
+    ∷ 0x0000_0005_9989_7969 ∷ 0x0000_0b00_9484_7464 ∷ []
 
 -- four rows to a word, 16 bits for each: how far the way back lies ahead
 abbrev turnWords : List ℕ
 turnWords =
-    0x0061_0a5a_0a93_00ac ∷ 0x0a80_0a80_0a80_0a88 ∷ 0x005c_0a55_0a8e_00a7 ∷ 0x0a80_0a80_0a80_0a78 ∷ 0x0a96_0a9e_0a8a_0090 ∷ 0x0a72_0a80_0aa3_0a6d
+    0x0061_0a5a_0a93_00ac ∷ 0x0a80_0a80_0a87_0a89 ∷ 0x005c_0a55_0a8e_00a7 ∷ 0x0a80_0a80_0a77_0a79 ∷ 0x0a96_0a9e_0a8a_0090 ∷ 0x0a72_0a80_0aa3_0a6d
     ∷ 0x0a76_0a97_0a8a_0ad0 ∷ 0x0aab_0a80_0a9c_0aa6 ∷ 0x0a76_0a90_0a8a_1470 ∷ 0x14a4_0a80_0a95_149f ∷ 0x0a76_0a89_0a6a_0a30 ∷ 0x1459_0a80_0a8e_1454
-    ∷ 0x0a77_0a70_0a69_0a62 ∷ 0x0a80_0a80_0a80_0a88 ∷ 0x0a72_0a6b_0a64_0a5d ∷ 0x0a80_0a80_0a80_0a78 ∷ []
+    ∷ 0x0a77_0a70_0a69_0a62 ∷ 0x0a80_0a80_0a80_0a89 ∷ 0x0a72_0a6b_0a64_0a5d ∷ 0x0a80_0a80_0a77_0a80 ∷ []
 
 -- and where the bytes of their links stand
 abbrev placeWords : List ℕ
 placeWords =
-    0x0000_0000_0000_0000 ∷ 0x0000_0000_0000_0001 ∷ 0xc12e_b4ae_a82e_9bae ∷ 0x0000_0000_0000_0000 ∷ 0x5d2f_69af_37ae_1eae ∷ 0x0000_0000_0000_a82f ∷ 0x37af_762f_442e_2b30 ∷ 0x0000_0000_0000_b4b1 ∷ 0x442f_82af_50ae_1eff ∷ 0x0000_0000_0000_c181 ∷ 0x50af_8f2f_5d2e_2b2f ∷ 0x0000_0000_0000_9bff ∷ 0x0000_0000_0000_0000 ∷ 0x0000_0000_0000_0001 ∷ 0x8f2e_82ae_762e_69ae ∷ 0x0000_0000_0000_0000 ∷ []
+    0x0000_0000_0000_0000 ∷ 0x0000_0000_cdaf_0001 ∷ 0xc12e_b4ae_a82e_9bae ∷ 0x0000_0000_0000_cdae ∷ 0x5d2f_69af_37ae_1eae ∷ 0x0000_0000_0000_a82f
+    ∷ 0x37af_762f_442e_2b30 ∷ 0x0000_0000_0000_b4b1 ∷ 0x442f_82af_50ae_1eff ∷ 0x0000_0000_0000_c181 ∷ 0x50af_8f2f_5d2e_2b2f ∷ 0x0000_0000_0000_9bff
+    ∷ 0x0000_0000_0000_0000 ∷ 0x0000_0000_0000_0001 ∷ 0x8f2e_82ae_762e_69ae ∷ 0x0000_0000_0000_0000 ∷ []
 
 -- the rows of the darts along links: two words for the positive way and two for the other, a byte for each kind
 abbrev seatWords : List ℕ
-seatWords = 0x3938_2921_1911_1810 ∷ 0x0000_0b0a_0908_3b3a ∷ 0x1a12_132b_231b_2820 ∷ 0x0000_241c_142c_2a22 ∷ []
+seatWords =
+    0x3938_2921_1911_1810 ∷ 0x000c_0b0a_0908_3b3a ∷ 0x1a12_132b_231b_2820 ∷ 0x0005_241c_142c_2a22 ∷ []
 
 -- ---- the parts of a word
 
@@ -71,10 +74,10 @@ module _ {k w : ℕ} where
   unfolding below seatOf
   seat-word = part 4 8 (λ w j. getD seatWords w 0 / 2 ^ (j * 8) % 256) (λ k j. seatOf (8 * (k % 2) + j) (ltb k 2)) tt
 
-pub seat-small : (k : ℕ) → k < 14 → (f : Bool) → seatOf k f < 64
+pub seat-small : (k : ℕ) → k < 15 → (f : Bool) → seatOf k f < 64
 unfolding below seatOf
-seat-small k l true = ltb→lt _ _ (below-at 14 (λ k. ltb (seatOf k true) 64) tt k l)
-seat-small k l false = ltb→lt _ _ (below-at 14 (λ k. ltb (seatOf k false) 64) tt k l)
+seat-small k l true = ltb→lt _ _ (below-at 15 (λ k. ltb (seatOf k true) 64) tt k l)
+seat-small k l false = ltb→lt _ _ (below-at 15 (λ k. ltb (seatOf k false) 64) tt k l)
 
 -- ---- the slots of a spot
 
@@ -105,9 +108,9 @@ entry-place k (inr e) j l =
 
 -- ---- the bits of a word
 
-pub packed-sign : (i : ℕ) → i < 64 → 0x1000_bdbd_bcbc_1000 / 2 ^ i % 2 ≡ signOf i
+pub packed-sign : (i : ℕ) → i < 64 → 0x2000_bdbd_bcbc_2020 / 2 ^ i % 2 ≡ signOf i
 unfolding below signs signOf
-packed-sign i l = eqb→eq _ _ (below-at 64 (λ i. eqb (0x1000_bdbd_bcbc_1000 / 2 ^ i % 2) (signOf i)) tt i l)
+packed-sign i l = eqb→eq _ _ (below-at 64 (λ i. eqb (0x2000_bdbd_bcbc_2020 / 2 ^ i % 2) (signOf i)) tt i l)
 
 pub packed-owner : (i : ℕ) → i < 64 → 0x0000_0090_9100_0000 / 2 ^ i % 2 + 0x0000_9091_0000_0000 / 2 ^ i % 2 * 40 ≡ ownerOf i
 unfolding below owners ownerOf

@@ -1,23 +1,23 @@
 -- The spots of places: which kind each has, that the slots of a place's exit are the steps around it, so that what goes along these steps is a sum over the
 -- slots, and that a place is not outside. Assumes nothing.
-use mathlib.Core.Path.{_≡_, refl, ap, subst}
+use mathlib.Core.Path.{_≡_, refl, sym, ap, subst, _∙_}
 use mathlib.Core.Logic.{_≢_}
-use mathlib.Core.Bool.{Bool, true, false, not, _&&_}
+use mathlib.Core.Bool.{Bool, true, false, not, _&&_, _||_}
 use Prim.Native.Nat.{ℕ, suc, _+_, _*_, _/_, _%_, _≤_, _<_}
 use native.Mathlib.Omega.{arith}
 use lib.Dec.{T, eqb, eqb→eq, ltb, ltb→lt, T-not, not-T}
 use lib.ListN.{length}
 use Rattle.sums.specs.Counting.{sum, total}
-use Rattle.sums.specs.Tests.{Same, same, other, same?, and-left, and-right, and-both}
+use Rattle.sums.specs.Tests.{Same, same, other, same?, and-left, and-right, and-both, or-by}
 use Rattle.sums.specs.Sums.{when-none}
 use Rattle.sums.specs.Totals.{sum-entries}
 use Rattle.sums.specs.Entries.{entry-there}
-use Rattle.model.specs.Job.{Job, inRange, arrayFits, isPin, isTile, isOpen, isChosen, isMissing}
-use Rattle.model.specs.Links.{Compass, north, east, south, west, compassCode, pin, missing, side, Place, at, isPlace, leg, spoke, pinAt, behindOf, aheadOf, Step, come, head, isEntered, may, aroundOf, around}
+use Rattle.model.specs.Job.{Job, inRange, arrayFits, isPin, isTile, isOpen, isChosen, isMissing, onRim}
+use Rattle.model.specs.Links.{Compass, north, east, south, west, compassCode, pin, missing, nowhere, side, Place, at, theOutside, isPlace, leg, spoke, direct, pinAt, straightOut, behindOf, aheadOf, Step, go, come, head, isEntered, may, aroundOf, around}
 use Rattle.model.specs.Near.{spot, exitOf, exit}
 use Rattle.model.proofs.RecordOf.{range-most}
-use Rattle.channel.specs.Map.{darts, inGrid, rowOf, columnOf, stepOf, isLinkDart, isStart, want, outside}
-use Rattle.channel.specs.Map.Darts.{cell-row, cell-column, cell-grid, grid-cell}
+use Rattle.channel.specs.Map.{darts, inGrid, rowOf, columnOf, ownerCell, ownerOf, owners, stepOf, isLinkDart, isStart, want, outside}
+use Rattle.channel.specs.Map.Darts.{cell-row, cell-column, cell-grid, grid-cell, in-step, out-step}
 use Rattle.channel.specs.Map.Steps.{slot-step}
 
 -- ---- kinds
@@ -70,6 +70,20 @@ module _ (J : Job) where
       (λ m. pin-by (λ x. T (isEntered J x) → ⊥) r c (λ e. T-not (isMissing J r c) n) (λ e t. t)
       (and-right (isPlace J (aheadOf J (leg d) r c)) (isEntered J (pinAt J r c)) m))
 
+  -- nothing comes straight in
+  pub straight-shut : (r c : ℕ) → T (not (may J (come direct r c)))
+  unfolding may head behindOf aheadOf
+  straight-shut r c = by (isChosen J r c && onRim J r c)
+    where
+      by : (b : Bool) → T (not (isPlace J (elim b [ true ↦ theOutside | false ↦ at nowhere 0 0 ]) && isEntered J (at pin r c)))
+      by true = tt
+      by false = tt
+
+  -- and nothing goes straight out of a pin that is not chosen
+  pub chosen-shut : (r c : ℕ) → (T (isChosen J r c) → ⊥) → T (not (may J (go direct r c)))
+  unfolding may head behindOf aheadOf
+  chosen-shut r c n = not-T (isChosen J r c && isEntered J (straightOut J r c)) (λ m. n (and-left (isChosen J r c) (isEntered J (straightOut J r c)) m))
+
   -- nor is a centre that is not there
   pub spoke-shut : (d : Compass) (r c : ℕ) → T (not (isOpen J r c)) → T (not (may J (come (spoke d) r c)))
   unfolding may head behindOf
@@ -115,18 +129,48 @@ module _ (J : Job) (fits : T (arrayFits (J .rows) (J .columns))) where
   abbrev tiled : ℕ → Bool
   tiled u = inGrid (u / 8) && isTile J (rowOf (u / 8)) (columnOf (u / 8))
 
-  pub kind-inside : (u : ℕ) → (1 < u % 8 → u % 8 < 6 → ⊥) → T (not (outside J u))
+  abbrev struck : ℕ → Bool
+  struck u = inGrid (u / 8) && isMissing J (rowOf (u / 8)) (columnOf (u / 8))
+
+  abbrev atSide : ℕ → Bool
+  atSide u = ltb 1 (u % 8) && (ltb (u % 8) 6 && not (tiled u))
+
+  abbrev atEntry : ℕ → Bool
+  atEntry u = eqb (u % 8) 0 && not (struck u)
+
+  inside-by : (u : ℕ) → (T (atSide u) → ⊥) → (T (atEntry u) → ⊥) → T (not (outside J u))
   unfolding outside
-  kind-inside u n =
-      not-T (ltb 1 (u % 8) && (ltb (u % 8) 6 && not (tiled u)))
+  inside-by u f g = not-T (atSide u || atEntry u) (or-by (atSide u) (atEntry u) f g)
+
+  pub kind-inside : (u : ℕ) → (1 < u % 8 → u % 8 < 6 → ⊥) → (u % 8 ≢ 0) → T (not (outside J u))
+  kind-inside u n z =
+      inside-by u
       (λ o. n (ltb→lt 1 (u % 8) (and-left (ltb 1 (u % 8)) (ltb (u % 8) 6 && not (tiled u)) o))
       (ltb→lt (u % 8) 6 (and-left (ltb (u % 8) 6) (not (tiled u)) (and-right (ltb 1 (u % 8)) (ltb (u % 8) 6 && not (tiled u)) o))))
+      (λ o. z (eqb→eq (u % 8) 0 (and-left (eqb (u % 8) 0) (not (struck u)) o)))
 
-  pub tile-inside : (u r c : ℕ) → u / 8 ≡ 41 + 40 * r + c → T (isTile J r c) → T (not (outside J u))
-  unfolding outside
-  tile-inside u r c e t =
-      not-T (ltb 1 (u % 8) && (ltb (u % 8) 6 && not (tiled u)))
+  -- the entry of a missing pin
+  pub entry-inside : (r c : ℕ) → T (isMissing J r c) → T (not (outside J (spot 0 r c)))
+  entry-inside r c t =
+      inside-by (spot 0 r c) (λ o. omega (arith, ltb→lt 1 (spot 0 r c % 8) (and-left (ltb 1 (spot 0 r c % 8)) _ o)))
+      (λ o. T-not (struck (spot 0 r c)) (and-right (eqb (spot 0 r c % 8) 0) (not (struck (spot 0 r c))) o) held)
+    where
+      b : c < 40
+      b = missing-cell r c t .1
+
+      e : spot 0 r c / 8 ≡ 41 + 40 * r + c
+      e = omega arith
+
+      held : T (struck (spot 0 r c))
+      held =
+          and-both (inGrid (spot 0 r c / 8)) _ (cell-grid (spot 0 r c / 8) r c e b (missing-cell r c t .0))
+          (rw (cell-row (spot 0 r c / 8) r c e b, cell-column (spot 0 r c / 8) r c e b) t)
+
+  pub tile-inside : (u r c : ℕ) → u / 8 ≡ 41 + 40 * r + c → T (isTile J r c) → u % 8 ≢ 0 → T (not (outside J u))
+  tile-inside u r c e t z =
+      inside-by u
       (λ o. T-not (tiled u) (and-right (ltb (u % 8) 6) (not (tiled u)) (and-right (ltb 1 (u % 8)) (ltb (u % 8) 6 && not (tiled u)) o)) inside)
+      (λ o. z (eqb→eq (u % 8) 0 (and-left (eqb (u % 8) 0) (not (struck u)) o)))
     where
       inside : T (tiled u)
       inside =
@@ -169,6 +213,21 @@ module _ (J : Job) (fits : T (arrayFits (J .rows) (J .columns))) where
 
       chosen : T (isChosen J r (columnOf (spot 1 r c / 8))) → ⊥
       chosen h = missing-chosen J r c t (subst (λ (x : ℕ). T (isChosen J r x)) (cell-column (spot 1 r c / 8) r c e b) h)
+
+  -- ---- straight out, by the row
+
+  pub in-shut : (d : ℕ) → d % 64 ≡ 5 → T (not (may J (stepOf d)))
+  in-shut d e = subst (λ (s : Step). T (not (may J s))) (sym (in-step d e)) (straight-shut J (rowOf (ownerCell d)) (columnOf (ownerCell d)))
+
+  -- from a pin that is not chosen
+  pub out-shut : (d r c : ℕ) → d ≡ 8 * spot 1 r c + 4 → c < 40 → (T (isChosen J r c) → ⊥) → T (not (may J (stepOf d)))
+  unfolding may head behindOf aheadOf ownerCell ownerOf owners
+  out-shut d r c q b n =
+      let i : d % 64 ≡ 12 = omega arith in
+      let x : ownerCell d ≡ 41 + 40 * r + c = ap (λ (m : ℕ). d / 64 + ownerOf m) i ∙ omega arith in
+      subst (λ (s : Step). T (not (may J s))) (sym (out-step d i))
+      (rw (cell-row (ownerCell d) r c x b, cell-column (ownerCell d) r c x b)
+      (not-T (isPlace J (at pin r c) && isEntered J (straightOut J r c)) (λ m. n (and-left (isChosen J r c) (isEntered J (straightOut J r c)) m))))
 
   -- ---- slots
 

@@ -44,14 +44,14 @@ module _ (i : ℕ) (l : i < 64) where
 
   -- from an entry to its exit, and back
   abbrev passRow : ℕ → Bool
-  passRow i = eqb (turnOf i) 2696 && (eqb (codeOf (i + 8)) (codeOf i + 6) && leb i 52)
+  passRow i = eqb (turnOf i) 2697 && (eqb (codeOf (i + 9)) (codeOf i + 6) && leb i 52)
 
   pass-row : T (isPassage (codeOf i)) → T (passRow i)
   unfolding below turnOf turns codeOf codes isPassage
   pass-row = if-so (isPassage (codeOf i)) _ (below-at 64 (λ i. not (isPassage (codeOf i)) || passRow i) tt i l)
 
   abbrev returnRow : ℕ → Bool
-  returnRow i = eqb (turnOf i) 2680 && (isPassage (codeOf (i - 8)) && leb 8 i)
+  returnRow i = eqb (turnOf i) 2679 && (isPassage (codeOf (i - 9)) && leb 9 i)
 
   return-row : T (isReturn (codeOf i)) → T (returnRow i)
   unfolding below turnOf turns codeOf codes isPassage isReturn
@@ -175,23 +175,23 @@ pass-on : (e : ℕ) → e < darts → T (isPassage (codeOf (e % 64))) → Passes
 unfolding darts
 pass-on e l t =
     let i = e % 64 in
-    let (a, b, c) = three (eqb (turnOf i) 2696) (eqb (codeOf (i + 8)) (codeOf i + 6)) (leb i 52) (pass-row i (row< e) t) in
+    let (a, b, c) = three (eqb (turnOf i) 2697) (eqb (codeOf (i + 9)) (codeOf i + 6)) (leb i 52) (pass-row i (row< e) t) in
     let k : i ≤ 52 = leb→le i 52 c in
-    let r : rev e ≡ e + 8 = rev-over e (e + 8) (unfold ahead in omega (arith, eqb→eq (turnOf i) 2696 a)) (omega arith) in
-    record { cell = omega arith; code = ap codeOf (row e (rev e) r k) ∙ eqb→eq (codeOf (i + 8)) (codeOf i + 6) b }
+    let r : rev e ≡ e + 9 = rev-over e (e + 9) (unfold ahead in omega (arith, eqb→eq (turnOf i) 2697 a)) (omega arith) in
+    record { cell = omega arith; code = ap codeOf (row e (rev e) r k) ∙ eqb→eq (codeOf (i + 9)) (codeOf i + 6) b }
   where
-    row : (e d : ℕ) → d ≡ e + 8 → e % 64 ≤ 52 → d % 64 ≡ e % 64 + 8
+    row : (e d : ℕ) → d ≡ e + 9 → e % 64 ≤ 52 → d % 64 ≡ e % 64 + 9
     row e d p k = omega arith
 
 pass-back : (d : ℕ) → d < darts → T (isReturn (codeOf (d % 64))) → T (isPassage (codeOf (rev d % 64)))
 pass-back d l t =
     let i = d % 64 in
-    let (a, b, c) = three (eqb (turnOf i) 2680) (isPassage (codeOf (i - 8))) (leb 8 i) (return-row i (row< d) t) in
-    let k : 8 ≤ i = leb→le 8 i c in
-    let r : rev d ≡ d - 8 = rev-over d (d - 8) (unfold ahead in omega (arith, eqb→eq (turnOf i) 2680 a)) (omega arith) in
+    let (a, b, c) = three (eqb (turnOf i) 2679) (isPassage (codeOf (i - 9))) (leb 9 i) (return-row i (row< d) t) in
+    let k : 9 ≤ i = leb→le 9 i c in
+    let r : rev d ≡ d - 9 = rev-over d (d - 9) (unfold ahead in omega (arith, eqb→eq (turnOf i) 2679 a)) (omega arith) in
     subst (λ (j : ℕ). T (isPassage (codeOf j))) (row d (rev d) r k) b
   where
-    row : (d e : ℕ) → e ≡ d - 8 → 8 ≤ d % 64 → d % 64 - 8 ≡ e % 64
+    row : (d e : ℕ) → e ≡ d - 9 → 9 ≤ d % 64 → d % 64 - 9 ≡ e % 64
     row d e p k = omega arith
 
 passage-return : (c : ℕ) → T (isPassage c) → T (isReturn (c + 6))

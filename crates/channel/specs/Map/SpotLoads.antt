@@ -9,7 +9,7 @@ use lib.Dec.{T, eqb, leb, eqb→eq, leb→le}
 use Rattle.sums.specs.Counting.{sum, total}
 use Rattle.sums.specs.Tests.{and-left, and-right, below, below-at}
 use Rattle.sums.specs.Sums.{sum-cong, sum-none}
-use Rattle.model.specs.Links.{Compass, compassCode, north, east, south, west, missing, centre, side, at}
+use Rattle.model.specs.Links.{Compass, compassCode, north, east, south, west, pin, missing, centre, side, at, direct, go, come}
 use Rattle.model.specs.Loads.{departures, arrivals}
 use Rattle.model.specs.Record.{load}
 use Rattle.channel.specs.Map.{links, owners, signs, codes, kindOf, ownerOf, signOf, codeOf, inGrid, carries, returns, isPassage, isReturn}
@@ -51,19 +51,19 @@ module _ (rec : List ℕ) (x r c : ℕ) (e : x ≡ 41 + 40 * r + c) where
 
   -- the entry and the exit of a missing pin, and of a centre
   module _ (a : r < 40) (b : c < 40) where
-    pub missing-entry-goes : sum 8 (λ k. goes rec (0 * 8 + k) x) ≡ arrivals (load rec) (at missing r c)
+    pub missing-entry-goes : sum 8 (λ k. goes rec (0 * 8 + k) x) ≡ arrivals (load rec) (at missing r c) + load rec (come direct r c)
     unfolding below sum total arrivals kindOf links ownerOf owners signOf signs codeOf codes carries isPassage
     missing-entry-goes = slots r c 0 0 tt (omega arith) (omega arith) (goes-at rec x r c e) ∙ omega arith
 
-    pub missing-entry-comes : sum 8 (λ k. comes rec (0 * 8 + k) x) ≡ arrivals (load rec) (at missing r c)
+    pub missing-entry-comes : sum 8 (λ k. comes rec (0 * 8 + k) x) ≡ arrivals (load rec) (at missing r c) + load rec (go direct r c)
     unfolding below sum total arrivals kindOf links ownerOf owners signOf signs codeOf codes returns isReturn
     missing-entry-comes = slots r c 0 0 tt (omega arith) (omega arith) (comes-at rec x r c e) ∙ omega arith
 
-    pub missing-exit-goes : sum 8 (λ k. goes rec (1 * 8 + k) x) ≡ departures (load rec) (at missing r c)
+    pub missing-exit-goes : sum 8 (λ k. goes rec (1 * 8 + k) x) ≡ departures (load rec) (at pin r c)
     unfolding below sum total departures kindOf links ownerOf owners signOf signs codeOf codes carries isPassage
     missing-exit-goes = slots r c 1 0 tt (omega arith) (omega arith) (goes-at rec x r c e) ∙ omega arith
 
-    pub missing-exit-comes : sum 8 (λ k. comes rec (1 * 8 + k) x) ≡ arrivals (load rec) (at missing r c)
+    pub missing-exit-comes : sum 8 (λ k. comes rec (1 * 8 + k) x) ≡ arrivals (load rec) (at missing r c) + load rec (come direct r c)
     unfolding below sum total arrivals kindOf links ownerOf owners signOf signs codeOf codes returns isReturn
     missing-exit-comes = slots r c 1 0 tt (omega arith) (omega arith) (comes-at rec x r c e) ∙ omega arith
 

@@ -8,7 +8,7 @@ use native.Mathlib.Nat.{eq-zero-or-pos, add-zero}
 use native.Mathlib.Omega.{arith}
 use lib.Dec.{T, eqb, eqb→eq, leb, leb→le, ltb, ltb→lt, lit<}
 use Rattle.sums.specs.Counting.{when, sum, total}
-use Rattle.sums.specs.Tests.{and-left, and-right, and-both, and-not}
+use Rattle.sums.specs.Tests.{and-left, and-right, and-both, and-not, or-by}
 use Rattle.sums.specs.Sums.{when-add, when-cong, when-none, sum-cong, sum-none, sum-append, sum-rows, when-full, sum-widen}
 use Rattle.sums.specs.Totals.{total-cong, total-each, total-those}
 use Rattle.model.specs.Job.{Job, inRange, arrayFits, isPin, isTile, isOpen, isChosen, isMissing}
@@ -184,22 +184,50 @@ module _ (J : Job) where
 
     pub spot-inside : (u : ℕ) → IsSpot J u → T (outside J u) → ⊥
     unfolding outside
-    spot-inside u s t =
-        let k = spot-at u s in
-        let rest = ltb (u % 8) 6 && not onTile in
-        let a : 1 < u % 8 = ltb→lt 1 (u % 8) (and-left (ltb 1 (u % 8)) rest t) in
-        let e : u / 8 ≡ 41 + 40 * k .row + k .column = omega (arith, k .same, k .kind<) in
-        let c : k .column < 40 = omega (arith, columns≤, k .inside) in
-        let r : k .row < 40 = omega (arith, rows≤, k .inside) in
-        let o : T (isOpen J (k .row) (k .column)) = open-at (k .kind) (k .row) (k .column) (omega (arith, k .same, k .kind<)) (k .held) in
-        let tile : T (isTile J (rowOf (u / 8)) (columnOf (u / 8))) =
-        rw (cell-row (u / 8) (k .row) (k .column) e c, cell-column (u / 8) (k .row) (k .column) e c) (open-tile (k .row) (k .column) o) in
-        and-not onTile
-        (and-both onTile (not onTile) (and-both (inGrid (u / 8)) _ (cell-grid (u / 8) (k .row) (k .column) e c r) tile)
-        (and-right (ltb (u % 8) 6) (not onTile) (and-right (ltb 1 (u % 8)) rest t)))
+    spot-inside u s = or-by (ltb 1 (u % 8) && (ltb (u % 8) 6 && not onTile)) (eqb (u % 8) 0 && not onMissing) from-side from-entry
       where
         onTile : Bool
         onTile = inGrid (u / 8) && isTile J (rowOf (u / 8)) (columnOf (u / 8))
+
+        onMissing : Bool
+        onMissing = inGrid (u / 8) && isMissing J (rowOf (u / 8)) (columnOf (u / 8))
+
+        k : At u
+        k = spot-at u s
+
+        e : u / 8 ≡ 41 + 40 * k .row + k .column
+        e = omega (arith, k .same, k .kind<)
+
+        c : k .column < 40
+        c = omega (arith, columns≤, k .inside)
+
+        r : k .row < 40
+        r = omega (arith, rows≤, k .inside)
+
+        held-zero : (n : ℕ) → n ≡ 0 → T (has n (k .row) (k .column)) → T (isMissing J (k .row) (k .column))
+        held-zero zero q t = t
+        held-zero (suc n) q t = absurd (omega arith)
+
+        from-entry : T (eqb (u % 8) 0 && not onMissing) → ⊥
+        from-entry t =
+            let z : u % 8 ≡ 0 = eqb→eq (u % 8) 0 (and-left (eqb (u % 8) 0) (not onMissing) t) in
+            let m : T (isMissing J (rowOf (u / 8)) (columnOf (u / 8))) =
+            rw (cell-row (u / 8) (k .row) (k .column) e c, cell-column (u / 8) (k .row) (k .column) e c)
+            (held-zero (k .kind) (omega (arith, k .same, k .kind<)) (k .held)) in
+            and-not onMissing
+            (and-both onMissing (not onMissing) (and-both (inGrid (u / 8)) _ (cell-grid (u / 8) (k .row) (k .column) e c r) m)
+            (and-right (eqb (u % 8) 0) (not onMissing) t))
+
+        from-side : T (ltb 1 (u % 8) && (ltb (u % 8) 6 && not onTile)) → ⊥
+        from-side t =
+            let rest = ltb (u % 8) 6 && not onTile in
+            let a : 1 < u % 8 = ltb→lt 1 (u % 8) (and-left (ltb 1 (u % 8)) rest t) in
+            let o : T (isOpen J (k .row) (k .column)) = open-at (k .kind) (k .row) (k .column) (omega (arith, k .same, k .kind<)) (k .held) in
+            let tile : T (isTile J (rowOf (u / 8)) (columnOf (u / 8))) =
+            rw (cell-row (u / 8) (k .row) (k .column) e c, cell-column (u / 8) (k .row) (k .column) e c) (open-tile (k .row) (k .column) o) in
+            and-not onTile
+            (and-both onTile (not onTile) (and-both (inGrid (u / 8)) _ (cell-grid (u / 8) (k .row) (k .column) e c r) tile)
+            (and-right (ltb (u % 8) 6) (not onTile) (and-right (ltb 1 (u % 8)) rest t)))
 
     -- ---- sums over the spots
 

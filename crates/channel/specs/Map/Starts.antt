@@ -2,10 +2,10 @@
 -- spots stand 8 apart from 329 on, and none is outside. Assumes nothing.
 use mathlib.Core.Path.{_≡_, refl}
 use Prim.Native.Nat.{ℕ, _+_, _-_, _*_, _/_, _%_, _<_}
-use mathlib.Core.Bool.{not, _&&_}
+use mathlib.Core.Bool.{Bool, not, _&&_}
 use native.Mathlib.Omega.{arith}
 use lib.Dec.{T, eqb, ltb, eqb→eq, ltb→lt}
-use Rattle.sums.specs.Tests.{and-left, and-right}
+use Rattle.sums.specs.Tests.{and-left, and-right, or-by}
 use Rattle.sums.specs.Counting.{when}
 use Rattle.sums.specs.Sums.{when-some}
 use Rattle.model.specs.Job.{Job, arrayFits, isTile, isChosen}
@@ -39,8 +39,11 @@ module _ (J : Job) where
   pub start-inside : (u : ℕ) → T (isStart J u) → T (outside J u) → ⊥
   unfolding isStart outside
   start-inside u t o =
-      omega (
-        arith,
-        eqb→eq (u % 8) 1 (and-left (eqb (u % 8) 1) (inGrid (u / 8) && isChosen J (rowOf (u / 8)) (columnOf (u / 8))) t),
-        ltb→lt 1 (u % 8) (and-left (ltb 1 (u % 8)) (ltb (u % 8) 6 && not (inGrid (u / 8) && isTile J (rowOf (u / 8)) (columnOf (u / 8)))) o),
-      )
+      high (eqb→eq (u % 8) 1 (and-left (eqb (u % 8) 1) (inGrid (u / 8) && isChosen J (rowOf (u / 8)) (columnOf (u / 8))) t))
+    where
+      sides : Bool
+      sides = ltb 1 (u % 8) && (ltb (u % 8) 6 && not (inGrid (u / 8) && isTile J (rowOf (u / 8)) (columnOf (u / 8))))
+
+      high : (u % 8 ≡ 1) → ⊥
+      high e =
+          or-by sides _ (λ a. omega (arith, ltb→lt 1 (u % 8) (and-left (ltb 1 (u % 8)) _ a))) (λ a. omega (arith, eqb→eq (u % 8) 0 (and-left (eqb (u % 8) 0) _ a))) o

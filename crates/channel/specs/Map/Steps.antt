@@ -18,7 +18,7 @@ pub use Rattle.channel.specs.Map.Back.{Turned, stored-turned, link-store
 pub use Rattle.channel.specs.Map.Darts.{OnGrid, step-grid, dart-step, step-dart, plain-back}
 pub use Rattle.channel.specs.Map.{dartOf}
 use Rattle.channel.specs.Map.Ends.{Leaves, leaves, arrives}
-use Rattle.channel.specs.Map.Around.{slots-at, Slots, Takes, takes-legs, takes-spokes, takes-north, takes-east, takes-south, takes-west}
+use Rattle.channel.specs.Map.Around.{slots-at, Slots, Takes, takes-pin, takes-legs, takes-spokes, takes-north, takes-east, takes-south, takes-west}
 pub use Rattle.channel.specs.Map.Passes.{pass-ends}
 use Rattle.channel.specs.Map.Passes.{pass-missing, pass-centre}
 
@@ -62,7 +62,7 @@ module _ (J : Job) (fits : T (arrayFits (J .rows) (J .columns))) where
       (d .range, d .linked, d .step)
     where
       takes : (k : PlaceKind) (r c : ℕ) → T (holds J k r c) → Slots (Takes (exitOf k r c)) 0 (aroundOf k r c)
-      takes pin r c t = takes-legs r c (chosen-in r c t .0) (chosen-in r c t .1)
+      takes pin r c t = takes-pin r c (chosen-in r c t .0) (chosen-in r c t .1)
       takes missing r c t = takes-legs r c (missing-in r c t .0) (missing-in r c t .1)
       takes centre r c t = takes-spokes r c (omega (arith, open-in r c t)) (omega (arith, open-in r c t))
       takes PlaceKind.outside r c t = absurd t

@@ -117,13 +117,13 @@ grid? rec s = go (inCells (s .link .row) (s .link .column)) (λ t. t) (λ t. t)
     go false f h =
         inr (load-amount rec s ∙ none (s .forth) (byteOf rec (s .link)) (when-none (inCells (s .link .row) (s .link .column)) _ (λ t. absurd (h t))))
 
-row-kind< : (i : ℕ) → i < 64 → kindOf i < 14
+row-kind< : (i : ℕ) → i < 64 → kindOf i < 15
 unfolding below kindOf links
-row-kind< i l = ltb→lt _ _ (below-at 64 (λ i. ltb (kindOf i) 14) tt i l)
+row-kind< i l = ltb→lt _ _ (below-at 64 (λ i. ltb (kindOf i) 15) tt i l)
 
-code-kind : (n : ℕ) → n < 14 → linkCode (getD kinds n northSide) ≡ n
+code-kind : (n : ℕ) → n < 15 → linkCode (getD kinds n northSide) ≡ n
 unfolding below
-code-kind n l = eqb→eq _ _ (below-at 14 (λ n. eqb (linkCode (getD kinds n northSide)) n) tt n l)
+code-kind n l = eqb→eq _ _ (below-at 15 (λ n. eqb (linkCode (getD kinds n northSide)) n) tt n l)
 
 abbrev spotOf : Link → ℕ
 spotOf l = offset (loadPlane (l .kind)) (l .row) (l .column)
@@ -143,7 +143,7 @@ module _ (d : ℕ) (g : T (inGrid (ownerCell d))) where
   unfolding address stepOf
   address-spot = omega (arith, code-kind (kindOf (d % 64)) (row-kind< (d % 64) (omega arith)), grid-cell (ownerCell d) g)
 
-  pub address-range : (offset 2 0 0 ≤ address d) × (address d < offset 16 0 0)
+  pub address-range : (offset 2 0 0 ≤ address d) × (address d < offset 17 0 0)
   unfolding address
   address-range = (omega (arith, grid-at (ownerCell d) g), omega (arith, grid-at (ownerCell d) g, row-kind< (d % 64) (omega arith)))
 
@@ -179,7 +179,7 @@ module _ (rec : List ℕ) (d : ℕ) where
       go r (bumps s g) = length-set rec (address d) _
 
   -- a byte out of the planes of loads stays
-  laid-kept : (i : ℕ) → (offset 2 0 0 ≤ i → i < offset 16 0 0 → ⊥) → getD (laid rec d) i 0 ≡ getD rec i 0
+  laid-kept : (i : ℕ) → (offset 2 0 0 ≤ i → i < offset 17 0 0 → ⊥) → getD (laid rec d) i 0 ≡ getD rec i 0
   laid-kept i h = go (laid rec d) lay?
     where
       go : (r : List ℕ) → Lay r → getD r i 0 ≡ getD rec i 0
@@ -190,7 +190,7 @@ module _ (rec : List ℕ) (d : ℕ) where
   pub laid-other : (i : ℕ) → d < darts → i < offset 2 0 0 → getD (laid rec d) i 0 ≡ getD rec i 0
   laid-other i l h = laid-kept i (λ a b. omega arith)
 
-  pub laid-rest : (i : ℕ) → d < darts → offset 16 0 0 ≤ i → getD (laid rec d) i 0 ≡ getD rec i 0
+  pub laid-rest : (i : ℕ) → d < darts → offset 17 0 0 ≤ i → getD (laid rec d) i 0 ≡ getD rec i 0
   laid-rest i l h = laid-kept i (λ a b. omega arith)
 
   cell-kept : (p r c : ℕ) → p < 2 → cell (laid rec d) p r c ≡ cell rec p r c

@@ -1,15 +1,17 @@
 -- Sums over all darts. Where a dart's term is that of its step, and 0 where the step may not be taken, the sum is one over the steps around the places;
 -- where it is that of the place passed, the sum is one over the places. A sum over the starts is one over the chosen pins. Assumes nothing.
 use mathlib.Core.Path.{_≡_, refl, sym, ap, _∙_, subst}
-use mathlib.Core.Logic.{_≢_, inl, inr}
+use mathlib.Core.Logic.{_≢_, _⊎_, inl, inr}
 use mathlib.Core.Bool.{Bool, true, false, not, _&&_, _||_}
 use mathlib.Core.Option.{none, some}
 use Prim.Native.Nat.{ℕ, _+_, _*_, _/_, _%_, _≤_, _<_}
+use native.Mathlib.Nat.{eq-zero-or-pos}
 use native.Mathlib.Omega.{arith}
-use lib.Dec.{T, eqb, eqb→eq, ltb, ltb→lt, lit<, lit≤}
+use borrow.Author.Tests.{ne-eqb}
+use lib.Dec.{T, T-not, eqb, eqb→eq, ltb, ltb→lt, lit<, lit≤}
 use lib.ListN.{length}
 use Rattle.sums.specs.Counting.{when, sum, total}
-use Rattle.sums.specs.Tests.{Same, other, same?, below, below-at, and-left, and-right, and-both, both-ways, if-so}
+use Rattle.sums.specs.Tests.{Same, same, other, so-not, same?, below, below-at, and-left, and-right, and-both, both-ways, if-so}
 use Rattle.sums.specs.Sums.{when-none, when-so, when-some, sum-cong, sum-none, sum-some, sum-pick, sum-rows}
 use Rattle.sums.specs.Totals.{sum-entries}
 use Rattle.model.specs.Job.{Job, arrayFits, isChosen}
@@ -19,6 +21,7 @@ use Rattle.model.proofs.Listed.{may-leaves}
 use Rattle.channel.specs.Map.{spots, darts, inGrid, rowOf, columnOf, isStart, ownerCell, stepOf, carries, isPassage, isLinkDart, isPassDart, passedOf, codes, codeOf, countsTwice}
 use Rattle.channel.specs.Map.Darts.{cell-row, cell-column, cell-grid, grid-cell}
 use Rattle.channel.specs.Map.Steps.{slot-step, link-tail, place-pass, pass-ends}
+use Rattle.channel.specs.Map.Places.{in-shut, out-shut}
 use Rattle.channel.specs.Map.Spots.{missing-or-chosen, held-grid, places-cong, sum-spots}
 
 -- ---- rows without a dart of a kind
@@ -46,39 +49,52 @@ module _ (test : ℕ → Bool) (k from : ℕ) (fails : T (below 8 (λ i. ltb i f
       by false t a n f = t
 
 -- no dart of a link leaves an exit behind the steps around the place
-exit-links : (k : PlaceKind) (r c i : ℕ) → length (aroundOf k r c) ≤ i → i < 8 → T (isLinkDart (8 * exitOf k r c + i)) → ⊥
+exit-links : (J : Job) → T (arrayFits (J .rows) (J .columns)) → (k : PlaceKind) (r c i : ℕ) → T (holds J k r c) → length (aroundOf k r c) ≤ i → i < 8
+    → T (isLinkDart (8 * exitOf k r c + i)) → T (may J (stepOf (8 * exitOf k r c + i))) → ⊥
 unfolding exitOf below carries codeOf codes
-exit-links k r c i l m t = by k l (link-row (8 * exitOf k r c + i) t)
+exit-links J fits k r c i h l m t y = by k h l y (link-row (8 * exitOf k r c + i) t)
   where
     test : ℕ → Bool
     test i = carries (codeOf i)
 
-    by : (k : PlaceKind) → length (aroundOf k r c) ≤ i → T (test ((8 * exitOf k r c + i) % 64)) → ⊥
-    by pin l = slot-fails test 1 4 tt (spot 1 r c) i (omega arith) l m
-    by missing l = slot-fails test 1 4 tt (spot 1 r c) i (omega arith) l m
-    by centre l = slot-fails test 7 4 tt (spot 7 r c) i (omega arith) l m
-    by PlaceKind.outside l = slot-fails test 0 0 tt 0 i refl l m
-    by nowhere l = slot-fails test 0 0 tt 0 i refl l m
-    by (side north) l = slot-fails test 2 5 tt (spot 2 r c) i (omega arith) l m
-    by (side east) l = slot-fails test 3 5 tt (spot 3 r c) i (omega arith) l m
-    by (side south) l = slot-fails test 4 5 tt (spot 4 r c) i (omega arith) l m
-    by (side west) l = slot-fails test 5 5 tt (spot 5 r c) i (omega arith) l m
+    by : (k : PlaceKind) → T (holds J k r c) → length (aroundOf k r c) ≤ i → T (may J (stepOf (8 * exitOf k r c + i))) → T (test ((8 * exitOf k r c + i) % 64)) → ⊥
+    by pin h l y = slot-fails test 1 5 tt (spot 1 r c) i (omega arith) l m
+    by missing h l y = after (eqb i 4) (same? i 4)
+      where
+        after : (b : Bool) → Same i 4 b → T (test ((8 * spot 1 r c + i) % 64)) → ⊥
+        after true (same e) u =
+            T-not (may J (stepOf (8 * spot 1 r c + i)))
+            (out-shut J fits (8 * spot 1 r c + i) r c (omega arith) (held-grid J fits missing r c h .1) (missing-or-chosen J r c h)) y
+        after false (other n) u = slot-fails test 1 5 tt (spot 1 r c) i (omega arith) (omega arith) m u
+    by centre h l y = slot-fails test 7 4 tt (spot 7 r c) i (omega arith) l m
+    by PlaceKind.outside h l y = absurd h
+    by nowhere h l y = absurd h
+    by (side north) h l y = slot-fails test 2 5 tt (spot 2 r c) i (omega arith) l m
+    by (side east) h l y = slot-fails test 3 5 tt (spot 3 r c) i (omega arith) l m
+    by (side south) h l y = slot-fails test 4 5 tt (spot 4 r c) i (omega arith) l m
+    by (side west) h l y = slot-fails test 5 5 tt (spot 5 r c) i (omega arith) l m
 
 -- nor the entry of a place that counts twice
-entry-links : (k : PlaceKind) (r c i : ℕ) → T (countsTwice k) → i < 8 → T (isLinkDart (8 * entryOf k r c + i)) → ⊥
+entry-links : (J : Job) → T (arrayFits (J .rows) (J .columns)) → (k : PlaceKind) (r c i : ℕ) → T (countsTwice k) → i < 8 → T (isLinkDart (8 * entryOf k r c + i))
+    → T (may J (stepOf (8 * entryOf k r c + i))) → ⊥
 unfolding entryOf below carries codeOf codes countsTwice
-entry-links k r c i d m t = by k d (link-row (8 * entryOf k r c + i) t)
+entry-links J fits k r c i d m t y = by k d y (link-row (8 * entryOf k r c + i) t)
   where
     test : ℕ → Bool
     test i = carries (codeOf i)
 
-    by : (k : PlaceKind) → T (countsTwice k) → T (test ((8 * entryOf k r c + i) % 64)) → ⊥
-    by pin d = absurd d
-    by missing d = slot-fails test 0 0 tt (spot 0 r c) i (omega arith) (omega arith) m
-    by centre d = slot-fails test 6 0 tt (spot 6 r c) i (omega arith) (omega arith) m
-    by PlaceKind.outside d = absurd d
-    by nowhere d = absurd d
-    by (side e) d = absurd d
+    by : (k : PlaceKind) → T (countsTwice k) → T (may J (stepOf (8 * entryOf k r c + i))) → T (test ((8 * entryOf k r c + i) % 64)) → ⊥
+    by pin d y = absurd d
+    by missing d y = after (eqb i 5) (same? i 5)
+      where
+        after : (b : Bool) → Same i 5 b → T (test ((8 * spot 0 r c + i) % 64)) → ⊥
+        after true (same e) u = T-not (may J (stepOf (8 * spot 0 r c + i))) (in-shut J fits (8 * spot 0 r c + i) (omega arith)) y
+        after false (other n) u = slot-fails (λ j. test j && not (eqb j 5)) 0 0 tt (spot 0 r c) i (omega arith) (omega arith) m
+            (and-both (test ((8 * spot 0 r c + i) % 64)) (not (eqb ((8 * spot 0 r c + i) % 64) 5)) u (so-not (ne-eqb ((8 * spot 0 r c + i) % 64) 5 (omega arith))))
+    by centre d y = slot-fails test 6 0 tt (spot 6 r c) i (omega arith) (omega arith) m
+    by PlaceKind.outside d y = absurd d
+    by nowhere d y = absurd d
+    by (side e) d y = absurd d
 
 -- no passage leaves an exit
 exit-passes : (J : Job) (k : PlaceKind) (r c i : ℕ) → T (holds J k r c) → i < 8 → T (isPassDart (8 * exitOf k r c + i)) → ⊥
@@ -121,6 +137,13 @@ around-le (side east) r c = lit≤ tt
 around-le (side south) r c = lit≤ tt
 around-le (side west) r c = lit≤ tt
 
+none-by : (n : ℕ) → (0 < n → ⊥) → n ≡ 0
+none-by n h = by (eq-zero-or-pos n)
+  where
+    by : (n ≡ 0) ⊎ (0 < n) → n ≡ 0
+    by (inl e) = e
+    by (inr p) = absurd (h p)
+
 -- ---- the sums
 
 module _ (J : Job) (fits : T (arrayFits (J .rows) (J .columns))) where
@@ -161,12 +184,12 @@ module _ (J : Job) (fits : T (arrayFits (J .rows) (J .columns))) where
         exits x t =
             sum-entries (around x) 8 (λ i. onLink (8 * exit x + i)) f (around-le (x .kind) (x .row) (x .column))
             (λ i s e. let (l, u, q) = slot-step J fits x t i s e in when-so (isLinkDart (8 * exit x + i)) _ u ∙ ap f q)
-            (λ i l m. when-none (isLinkDart (8 * exit x + i)) _ (λ u. absurd (exit-links (x .kind) (x .row) (x .column) i l m u)))
+            (λ i l m. when-none (isLinkDart (8 * exit x + i)) _ (λ u. none-by (f (stepOf (8 * exit x + i))) (λ p. exit-links J fits (x .kind) (x .row) (x .column) i t l m u (only _ p))))
 
         entries : (x : Place) → T (countsTwice (x .kind)) → sum 8 (λ i. onLink (8 * entry x + i)) ≡ 0
         entries x d =
             sum-none 8 (λ i. onLink (8 * entry x + i))
-            (λ i m. when-none (isLinkDart (8 * entry x + i)) _ (λ u. absurd (entry-links (x .kind) (x .row) (x .column) i d m u)))
+            (λ i m. when-none (isLinkDart (8 * entry x + i)) _ (λ u. none-by (f (stepOf (8 * entry x + i))) (λ p. entry-links J fits (x .kind) (x .row) (x .column) i d m u (only _ p))))
 
   -- what each passage has by the place passed
   module _ (f : Place → ℕ) (only : (x : Place) → pass J x ≡ none → f x ≡ 0) where

@@ -1,14 +1,15 @@
 -- Which steps may be taken, by the kind of link: a side by the tiles at both sides of it, a corner and a spoke by their tile, a leg by its pin and the
--- tile that it leads into. Assumes nothing.
+-- tile that it leads into, a direct exit by its pin. Assumes nothing.
 use mathlib.Core.Path.{_≡_, refl, sym, ap, subst, _∙_}
 use mathlib.Core.Bool.{Bool, true, false, not, _&&_, _||_}
-use Prim.Native.Nat.{ℕ, zero, suc, _<_}
+use Prim.Native.Nat.{ℕ, zero, suc, _+_, _<_}
+use native.Mathlib.Numerals.{add-one}
 use native.Mathlib.Omega.{arith}
 use borrow.Author.Tests.{lt-ltb}
 use lib.Dec.{T, eqb, ltb, ltb→lt}
 use Rattle.sums.specs.Tests.{and-left, and-right, so}
-use Rattle.model.specs.Job.{Job, isPin, isTile, isOpen, isChosen, isMissing}
-use Rattle.model.specs.Links.{Compass, north, east, south, west, pin, missing, side, at, theOutside, isPlace, isEntered, beside, pinAt, LinkKind, northSide, westSide, corner, spoke, leg, link, go, come, behindOf, aheadOf, head, may}
+use Rattle.model.specs.Job.{Job, isPin, isTile, isOpen, isChosen, isMissing, onRim}
+use Rattle.model.specs.Links.{Compass, north, east, south, west, pin, missing, nowhere, side, at, theOutside, isPlace, isEntered, beside, pinAt, LinkKind, northSide, westSide, corner, spoke, leg, direct, link, go, come, behindOf, aheadOf, head, may}
 use Rattle.channel.specs.Map.Bools.{and-same, and-true, and-false, or-true, or-false}
 
 -- a link within a tile: a corner or a spoke
@@ -146,3 +147,35 @@ module _ (J : Job) where
       by true false e f = ap (λ (b : Bool). (b && eqb (J .mark r c) 1) && true) (leg-pin d r c (so e))
           ∙ ap (λ (b : Bool). b && true) (sym (or-false (eqb (J .mark r c) 1)))
       by false m e f = and-false (isPlace J (elim m [ true ↦ at missing r c | false ↦ at pin r c ])) ∙ sym (and-false (eqb (J .mark r c) 1 || m))
+
+  -- ---- direct exits
+
+  -- out of a chosen pin on the rim
+  pub direct-go : (r c : ℕ) → may J (go direct r c) ≡ (isChosen J r c && onRim J r c)
+  unfolding may head behindOf aheadOf
+  direct-go r c = by (isChosen J r c) (onRim J r c)
+    where
+      by : (a b : Bool) → (a && isEntered J (elim (a && b) [ true ↦ theOutside | false ↦ at nowhere 0 0 ])) ≡ (a && b)
+      by true true = refl
+      by true false = refl
+      by false b = refl
+
+  -- as a program tests it, from the header's numbers
+  pub direct-rim : (r c n m : ℕ) (b : Bool) → b ≡ isChosen J r c → n ≡ J .rows → m ≡ J .columns
+      → (b && (((eqb r 0 || eqb (r + 1) n) || eqb c 0) || eqb (c + 1) m)) ≡ may J (go direct r c)
+  direct-rim r c n m b e f g =
+      rw (e, f, g, add-one r, add-one c) (by (isChosen J r c) (eqb r 0) (eqb (suc r) (J .rows)) (eqb c 0) (eqb (suc c) (J .columns)) ∙ sym (direct-go r c))
+    where
+      by : (a p q s t : Bool) → (a && (((p || q) || s) || t)) ≡ (a && (p || (q || (s || t))))
+      by a true q s t = refl
+      by a false true s t = refl
+      by a false false s t = refl
+
+  -- never into one
+  pub direct-come : (r c : ℕ) → may J (come direct r c) ≡ false
+  unfolding may head behindOf aheadOf
+  direct-come r c = by (isChosen J r c && onRim J r c)
+    where
+      by : (b : Bool) → (isPlace J (elim b [ true ↦ theOutside | false ↦ at nowhere 0 0 ]) && false) ≡ false
+      by true = refl
+      by false = refl

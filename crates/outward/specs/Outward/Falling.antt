@@ -10,8 +10,8 @@ use lib.Dec.{T, eqb, leb, ltb, leb→le, ltb→lt}
 use lib.ListN.{getD}
 use Rattle.sums.specs.Tests.{and-left, and-right, so, so-not, below-or, below, below-at}
 use Rattle.sums.specs.Sums.{when-so, when-some}
-use Rattle.model.specs.Job.{Job, isTile}
-use Rattle.model.specs.Links.{Compass, north, east, south, west, clockwise, compassCode, PlaceKind, pin, missing, centre, nowhere, side, Place, at, theOutside, isPlace, LinkKind, northSide, westSide, corner, spoke, leg, link, linkCode, beside, pinAt, behindOf, aheadOf, Step, head, tail, may}
+use Rattle.model.specs.Job.{Job, isTile, isChosen, onRim}
+use Rattle.model.specs.Links.{Compass, north, east, south, west, clockwise, compassCode, PlaceKind, pin, missing, centre, nowhere, side, Place, at, theOutside, isPlace, LinkKind, northSide, westSide, corner, spoke, leg, direct, link, linkCode, beside, pinAt, behindOf, aheadOf, Step, head, tail, may}
 use Rattle.model.specs.Loads.{Trail}
 use Rattle.model.specs.Record.{offset, cell, forthPart, backPart, load}
 use Rattle.model.proofs.Listed.{may-leaves}
@@ -222,6 +222,14 @@ module _ (P : Parts) (J : Job) where
   leg-falls west (suc r) zero l m = λ t. omega (arith, pin-rank (suc r) 0, nowhere-rank)
   leg-falls west (suc r) (suc c) l m = λ t. omega (arith, pin-rank (suc r) (suc c), below-pins south r c (omega arith) (omega arith))
 
+  direct-falls : (r c : ℕ) → Falls direct r c true
+  unfolding behindOf aheadOf rank rankOf
+  direct-falls r c = λ t. by (isChosen J r c && onRim J r c)
+    where
+      by : (b : Bool) → rank P (elim b [ true ↦ theOutside | false ↦ at nowhere 0 0 ]) < 100000
+      by true = omega arith
+      by false = omega arith
+
   link-falls : (k : LinkKind) (r c : ℕ) → r < 40 → c < 40 → (f : Bool) → f ≡ leads P (linkCode k) r c → Falls k r c f
   unfolding leads inside
   link-falls northSide r c l m f e = north-falls r c l f e
@@ -238,15 +246,17 @@ module _ (P : Parts) (J : Job) where
   link-falls (leg east) r c l m f e = subst (Falls (leg east) r c) (sym e) (leg-falls east r c l m)
   link-falls (leg south) r c l m f e = subst (Falls (leg south) r c) (sym e) (leg-falls south r c l m)
   link-falls (leg west) r c l m f e = subst (Falls (leg west) r c) (sym e) (leg-falls west r c l m)
+  link-falls direct r c l m f e = subst (Falls direct r c) (sym e) (direct-falls r c)
 
   -- ---- a loaded step
 
-  kind< : (k : LinkKind) → linkCode k < 14
+  kind< : (k : LinkKind) → linkCode k < 15
   kind< northSide = omega arith
   kind< westSide = omega arith
   kind< (corner d) = omega (arith, code< d)
   kind< (spoke d) = omega (arith, code< d)
   kind< (leg d) = omega (arith, code< d)
+  kind< direct = omega arith
 
   -- what a byte has one way or the other
   part : Bool → ℕ → ℕ

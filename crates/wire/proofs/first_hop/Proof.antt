@@ -12,10 +12,10 @@ use Rattle.wire.proofs.first_hop.Tie as tie
 
 abbrev Inv-loop : tie.InvT-loop
 Inv-loop rec row column first k₀ k =
-    (k ≤ 4) × (firstLoaded (load rec) (around (at pin row column)) ≡ firstLoaded (load rec) (drop k (around (at pin row column))))
+    (k ≤ 5) × (firstLoaded (load rec) (around (at pin row column)) ≡ firstLoaded (load rec) (drop k (around (at pin row column))))
 
 abbrev μ-loop : tie.MeasureT-loop
-μ-loop rec row column first k₀ k = 4 - k
+μ-loop rec row column first k₀ k = 5 - k
 
 pin-exit-requires : tie.Need-pin-exit-requires Inv-loop μ-loop
 pin-exit-requires c κs = pin-near (c .before .args .rec .now) (c .before .pre .0) (c .before .args .row) (c .before .args .column) (c .before .pre .1)

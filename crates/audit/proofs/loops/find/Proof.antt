@@ -14,11 +14,11 @@ use Rattle.audit.proofs.loops.find.Tie as tie
 
 abbrev Inv-loop : tie.InvT-loop
 Inv-loop rec old fin₀ st₀ sl₀ m₀ k₀ fin st sl m k =
-    (length fin ≡ length fin₀) × (length st ≡ length st₀) × (length sl ≡ length sl₀) × (k ≤ 1400) × Dfs rec fin st sl 0 m
-    × ((i : ℕ) → 16 * (1400 - k) ≤ i → i < 22400 → Begun old rec fin i)
+    (length fin ≡ length fin₀) × (length st ≡ length st₀) × (length sl ≡ length sl₀) × (k ≤ 1500) × Dfs rec fin st sl 0 m
+    × ((i : ℕ) → 16 * (1500 - k) ≤ i → i < 24000 → Begun old rec fin i)
 
 abbrev μ-loop : tie.MeasureT-loop
-μ-loop rec old fin₀ st₀ sl₀ m₀ k₀ fin st sl m k = 1400 - k
+μ-loop rec old fin₀ st₀ sl₀ m₀ k₀ fin st sl m k = 1500 - k
 
 loop-holds : tie.Need-loop-holds Inv-loop μ-loop
 loop-holds c =

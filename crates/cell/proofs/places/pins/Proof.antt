@@ -1,4 +1,4 @@
--- `places::pins` meets its contract, mark by mark: the sums over the four legs. Assumes nothing.
+-- `places::pins` meets its contract, mark by mark: the sums over the legs and the direct exit. Assumes nothing.
 use borrow.Author.Needs.{needs}
 use native.Mathlib.Omega.{arith}
 use Rattle.cell.specs.Cell.Sums.{pins-none, chosen-read, missing-read, idle-read}
@@ -34,8 +34,8 @@ returns-2 c =
 through-missing-requires : tie.Need-through-missing-requires
 through-missing-requires c κs = search needs
 
-out-of-pin-requires-2 : tie.Need-out-of-pin-requires-2
-out-of-pin-requires-2 c κs = search needs
+out-of-missing-requires : tie.Need-out-of-missing-requires
+out-of-missing-requires c κs = search needs
 
 extra-requires : tie.Need-extra-requires
 extra-requires c κs = search needs
@@ -43,7 +43,7 @@ extra-requires c κs = search needs
 returns-3 : tie.Need-returns-3
 returns-3 c =
     missing-read _ _ _ _ (c .before .before .before .before .before .before .before .pin-at .ensures) (c .before .before .before .before .before .before .if1 .left) _ (c .before .before .before .before .before .mark-of .ensures) (c .before .before .before .if3 .taken) (omega arith) _ _ _
-    (c .before .before .through-missing .ensures .0) (c .before .out-of-pin2 .ensures .0) (c .extra .ensures .0)
+    (c .before .before .through-missing .ensures .0) (c .before .out-of-missing .ensures .0) (c .extra .ensures .0)
 
 returns-4 : tie.Need-returns-4
 returns-4 c = idle-read _ _ _ _ (c .before .before .before .before .pin-at .ensures) (c .before .before .before .if1 .left) _ (c .before .before .mark-of .ensures) (c .before .if2 .left) (c .if3 .left)
@@ -61,7 +61,7 @@ pins-spec =
     out-of-pin-requires
     returns-2
     through-missing-requires
-    out-of-pin-requires-2
+    out-of-missing-requires
     extra-requires
     returns-3
     returns-4)

@@ -24,6 +24,9 @@ pin-limit-requires c κs = search needs
 missing-limit-requires : tie.Need-missing-limit-requires
 missing-limit-requires c κs = search needs
 
+direct-limit-requires : tie.Need-direct-limit-requires
+direct-limit-requires c κs = search needs
+
 returns : tie.Need-returns
 returns c = search needs
 
@@ -40,12 +43,15 @@ returns-5 : tie.Need-returns-5
 returns-5 c = search needs
 
 returns-6 : tie.Need-returns-6
-returns-6 c =
+returns-6 c = search needs
+
+returns-7 : tie.Need-returns-7
+returns-7 c =
     let s = c .before .before .before in
     let e = c .before .code-of .ensures in
     let n = c .match .rest in
-    sym (cap-none (jobOf (s .args .job .now)) (s .args .d) (λ q. n .0 .0 .0 .0 .1 (e ∙ q)) (λ q. n .0 .0 .0 .1 (e ∙ q)) (λ q. n .0 .0 .1 (e ∙ q))
-    (λ q. n .0 .1 (e ∙ q)) (λ q. n .1 (e ∙ q)))
+    sym (cap-none (jobOf (s .args .job .now)) (s .args .d) (λ q. n .0 .0 .0 .0 .0 .1 (e ∙ q)) (λ q. n .0 .0 .0 .0 .1 (e ∙ q))
+    (λ q. n .0 .0 .0 .1 (e ∙ q)) (λ q. n .0 .0 .1 (e ∙ q)) (λ q. n .0 .1 (e ∙ q)) (λ q. n .1 (e ∙ q)))
 
 pub limit-spec : {M : Type 1} → statement M
 limit-spec =
@@ -57,9 +63,11 @@ limit-spec =
     centre-limit-requires
     pin-limit-requires
     missing-limit-requires
+    direct-limit-requires
     returns
     returns-2
     returns-3
     returns-4
     returns-5
-    returns-6)
+    returns-6
+    returns-7)

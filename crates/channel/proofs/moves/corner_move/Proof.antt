@@ -1,6 +1,6 @@
 -- `moves::corner_move` meets its contract: a wire the other way, or room. Assumes nothing.
 use borrow.Author.Needs.{needs}
-use mathlib.Core.Logic.{inr}
+use mathlib.Core.Logic.{inl, inr}
 use Rattle.model.specs.Record.{jobOf}
 use Rattle.channel.specs.Map.Numbers.{is-dart}
 use Rattle.channel.specs.Map.Moving.{plain-back, plain-room}
@@ -13,7 +13,7 @@ load-against-requires c κs = search needs
 returns : tie.Need-returns
 returns c =
     let s = c .before .before .before .before in
-    plain-back (jobOf (s .args .job .now)) (s .args .loads .now) (s .args .d) (is-dart (s .pre .2)) (inr (s .pre .3)) _ (c .before .load-against .ensures .0)
+    plain-back (jobOf (s .args .job .now)) (s .args .loads .now) (s .args .d) (is-dart (s .pre .2)) (inr (inl (s .pre .3))) _ (c .before .load-against .ensures .0)
     (c .if1 .taken)
 
 load-along-requires : tie.Need-load-along-requires
@@ -25,7 +25,7 @@ corner-limit-requires c κs = search needs
 returns-2 : tie.Need-returns-2
 returns-2 c =
     let s = c .before .before .before .before .before .before in
-    plain-room (jobOf (s .args .job .now)) (s .args .loads .now) (s .args .d) (is-dart (s .pre .2)) (inr (s .pre .3)) _ _ _
+    plain-room (jobOf (s .args .job .now)) (s .args .loads .now) (s .args .d) (is-dart (s .pre .2)) (inr (inl (s .pre .3))) _ _ _
     (c .before .before .before .load-against .ensures .0)
     (c .before .before .if1 .left) (c .before .load-along .ensures .0) (c .corner-limit .ensures)
 

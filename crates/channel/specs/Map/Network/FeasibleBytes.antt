@@ -9,26 +9,27 @@ use Prim.Native.Nat.{ℕ, _+_, _*_, _/_, _%_, _≤_, _<_}
 use native.Mathlib.Nat.{eq-zero-or-pos}
 use native.Mathlib.Omega.{arith}
 use lib.Dec.{T, not-T}
-use lib.ListN.{length}
+use lib.ListN.{length, getElem?}
 use Rattle.sums.specs.Counting.{when, sum, total}
 use Rattle.sums.specs.Sums.{sum-cong, sum-le, sum-add}
 use Rattle.flow.specs.Balance.{back, out}
 use Rattle.flow.specs.Flow.{Flow}
 use Rattle.model.specs.Job.{Job, arrayFits, isOpen, isChosen, isMissing}
-use Rattle.model.specs.Links.{Compass, north, east, south, west, compassCode, PlaceKind, pin, missing, centre, nowhere, side, Place, at, isPlace, leg, Step, come, turn, isEntered, may, limit, pass, around}
+use Rattle.model.specs.Links.{Compass, north, east, south, west, compassCode, PlaceKind, pin, missing, centre, nowhere, side, Place, at, isPlace, LinkKind, leg, direct, link, Step, go, come, turn, isEntered, may, limit, pass, around}
 use Rattle.model.specs.Near.{spot, entryOf, exitOf, entry, exit}
 use Rattle.model.specs.Loads.{departures, arrivals, Feasible}
 use Rattle.model.specs.Record.{load}
 use Rattle.channel.specs.Map.{spots, darts, rowOf, columnOf, stepOf, isLinkDart, isNone, isStart, want, outside, starts, dartOf}
 use Rattle.channel.specs.Map.Back.{link-stored}
-use Rattle.channel.specs.Map.Darts.{OnGrid, step-grid, dart-step, step-dart}
+use Rattle.channel.specs.Map.Darts.{OnGrid, step-grid, dart-step, step-dart, out-dart, in-dart, out-back, in-back}
 use Rattle.channel.specs.Map.Network.{net}
-use Rattle.channel.specs.Map.Steps.{place-pass}
+use Rattle.channel.specs.Map.Steps.{place-pass, slot-step}
+use Rattle.channel.specs.Map.Passes.{pass-missing}
 use Rattle.channel.specs.Map.Stores.{grid?}
-use Rattle.channel.specs.Map.Carry.{Shut, shut, link-shut, link-limit, pass-limit}
+use Rattle.channel.specs.Map.Carry.{Shut, shut, pass-shut, link-shut, link-limit, pass-limit}
 use Rattle.channel.specs.Map.Network.Pushed.{grid-turn}
-use Rattle.channel.specs.Map.Network.InOut.{Quiet, side-out, side-back, exit-out, exit-back, entry-out, entry-back}
-use Rattle.channel.specs.Map.Places.{compass<, five, side-kind, side-cell, tile-cell, chosen-cell, missing-cell, open-tile, kind-inside, tile-inside, want-kind, start-cell, missing-want, missing-chosen, leg-shut, slot-link, slots-total}
+use Rattle.channel.specs.Map.Network.InOut.{Quiet, NoStraight, centre-straight, pin-out, pin-back, side-out, side-back, exit-out, exit-back, entry-out, entry-back}
+use Rattle.channel.specs.Map.Places.{compass<, five, side-kind, side-cell, tile-cell, chosen-cell, missing-cell, open-tile, kind-inside, entry-inside, tile-inside, want-kind, start-cell, missing-want, missing-chosen, leg-shut, straight-shut, chosen-shut, slot-link, slots-total}
 use Rattle.channel.specs.Map.Network.Agree.{Agrees, load-one, load-le}
 
 module _ (J : Job) (fits : T (arrayFits (J .rows) (J .columns))) (g s : ℕ → ℕ) (rec : List ℕ) (F : Flow (net J) g s) (a : Agrees g rec) where
@@ -127,7 +128,7 @@ module _ (J : Job) (fits : T (arrayFits (J .rows) (J .columns))) (g s : ℕ → 
         ap (λ (m : ℕ). sum m (λ k. g (8 * u + k))) e,
         side-out g quiet J u (compassCode d) (side-kind d r c) (compass< d) low slots,
         side-back g quiet J u (compassCode d) (side-kind d r c) (compass< d) low slots,
-        still u low (tile-inside J fits u r c (side-cell d r c) (open-tile J fits r c t)) (want-kind J fits u kind),
+        still u low (tile-inside J fits u r c (side-cell d r c) (open-tile J fits r c t) (omega (arith, side-kind d r c))) (want-kind J fits u kind),
       )
     where
       x : Place
@@ -149,7 +150,8 @@ module _ (J : Job) (fits : T (arrayFits (J .rows) (J .columns))) (g s : ℕ → 
       kind = omega (arith, side-kind d r c)
 
   -- a place whose exit is the spot behind u
-  module _ (x : Place) (t : T (isPlace J x)) (u j : ℕ) (m : u % 8 ≡ 6 * j) (b : j < 2) (e : exit x ≡ u + 1) (q : length (around x) ≡ 4) where
+  module _ (x : Place) (t : T (isPlace J x)) (u j : ℕ) (m : u % 8 ≡ 6 * j) (b : j < 2) (e : exit x ≡ u + 1) (q : length (around x) ≡ 4)
+      (inner : T (not (outside J u))) (straight : (low : u + 1 < spots) (slots : (k : ℕ) → k < 4 → T (isLinkDart (8 * (u + 1) + k))) → NoStraight g quiet J u j m b low slots) where
     slots : (k : ℕ) → k < 4 → T (isLinkDart (8 * (u + 1) + k))
     slots k h = subst (λ (v : ℕ). T (isLinkDart (8 * v + k))) e (slot-link J fits x t k (omega arith) .1)
 
@@ -162,9 +164,9 @@ module _ (J : Job) (fits : T (arrayFits (J .rows) (J .columns))) (g s : ℕ → 
     through =
         omega (
           arith,
-          entry-out g quiet J u j m b low slots,
-          entry-back g quiet J u j m b low slots,
-          still u (omega (arith, low)) (kind-inside J fits u (λ h k. omega arith)) (want-kind J fits u (omega arith)),
+          entry-out g quiet J u j m b low slots (straight low slots),
+          entry-back g quiet J u j m b low slots (straight low slots),
+          still u (omega (arith, low)) inner (want-kind J fits u (omega arith)),
         )
 
     onto : sum (length (around x)) (λ k. g (dartOf (turn (stepOf (8 * exit x + k))))) ≡ g (8 * u + 4)
@@ -179,9 +181,9 @@ module _ (J : Job) (fits : T (arrayFits (J .rows) (J .columns))) (g s : ℕ → 
         ∙ (ap (λ (v : ℕ). sum 4 (λ k. g (8 * v + k))) e
         ∙ omega (
           arith,
-          exit-out g quiet J u j m b low slots,
-          exit-back g quiet J u j m b low slots,
-          F .load .balanced (u + 1) low (kind-inside J fits (u + 1) (λ h k. omega arith)),
+          exit-out g quiet J u j m b low slots (straight low slots),
+          exit-back g quiet J u j m b low slots (straight low slots),
+          F .load .balanced (u + 1) low (kind-inside J fits (u + 1) (λ h k. omega arith) (omega arith)),
         ))
 
     pair-even : departures f x ≡ arrivals f x + s (u + 1)
@@ -194,6 +196,19 @@ module _ (J : Job) (fits : T (arrayFits (J .rows) (J .columns))) (g s : ℕ → 
         let w = pass-limit J (8 * entry x + 4) p k (ap (pass J) y ∙ h) in
         omega (arith, arrivals-le x t, onto, ap (λ (v : ℕ). g (8 * v + 4)) n, F .load .within (8 * entry x + 4) l (w .unfree), w .cap≤)
 
+  -- nothing goes straight out of a missing pin
+  missing-darts : (r c : ℕ) → T (isMissing J r c) → {m : spot 0 r c % 8 ≡ 6 * 0} {b : 0 < 2} (low : spot 0 r c + 1 < spots)
+      (slots : (k : ℕ) → k < 4 → T (isLinkDart (8 * (spot 0 r c + 1) + k))) → NoStraight g quiet J (spot 0 r c) 0 m b low slots
+  missing-darts r c t low slots =
+      let (p, q) = missing-cell J fits r c t in
+      let gone : g (dartOf (go direct r c)) ≡ 0 = dart-none (go direct r c) (record { row< = p; column< = q }) (chosen-shut J r c (missing-chosen J r c t)) in
+      let come : g (dartOf (come direct r c)) ≡ 0 = dart-none (come direct r c) (record { row< = p; column< = q }) (straight-shut J r c) in
+      record { gone = ap g (out-dart r c p q) ∙ gone; goneBack = ap g (out-back r c p q) ∙ come; come = ap g (in-dart r c p q) ∙ come; comeBack = ap g (in-back r c p q) ∙ gone }
+
+  centre-darts : (r c : ℕ) {m : spot 6 r c % 8 ≡ 6 * 1} {b : 1 < 2} (low : spot 6 r c + 1 < spots)
+      (slots : (k : ℕ) → k < 4 → T (isLinkDart (8 * (spot 6 r c + 1) + k))) → NoStraight g quiet J (spot 6 r c) 1 m b low slots
+  centre-darts r c {m} {b} low slots = centre-straight g quiet J (spot 6 r c) 1 m b low slots refl
+
   -- a chosen pin is never entered
   pin-entered : (r c : ℕ) → T (isChosen J r c) → arrivals f (at pin r c) ≡ 0
   unfolding arrivals total
@@ -205,20 +220,76 @@ module _ (J : Job) (fits : T (arrayFits (J .rows) (J .columns))) (g s : ℕ → 
         load-none (come (leg east) r c) (leg-shut J east r c n),
         load-none (come (leg south) r c) (leg-shut J south r c n),
         load-none (come (leg west) r c) (leg-shut J west r c n),
+        load-none (come direct r c) (straight-shut J r c),
       )
 
   pin-starts : (r c : ℕ) → T (isChosen J r c) → departures f (at pin r c) ≡ s (exit (at pin r c))
-  unfolding exitOf
+  unfolding net exitOf spots sum
   pin-starts r c t =
+      let sums : departures f x + sum 5 (λ k. g (dartOf (turn (stepOf (8 * exit x + k))))) ≡ arrivals f x + sum 5 (λ k. g (8 * exit x + k)) = link-sums x t in
       omega (
         arith,
-        pair-even (at pin r c) t (spot 0 r c) 0 (omega arith) (omega arith) (omega arith) refl,
+        sums,
         pin-entered r c t,
+        pin-out g quiet J u 0 (omega arith) (omega arith) low slots,
+        pin-back g quiet J u 0 (omega arith) (omega arith) low slots,
+        balance,
+        through,
+        ap g (out-back r c p q),
+        dart-none (come direct r c) on (straight-shut J r c),
+        none-enter,
+        ap (λ (v : ℕ). sum 5 (λ k. g (8 * v + k))) at-exit,
         ap s at-exit,
       )
     where
-      at-exit : exit (at pin r c) ≡ spot 0 r c + 1
+      x : Place
+      x = at pin r c
+
+      u : ℕ
+      u = spot 0 r c
+
+      p : r < 40
+      p = chosen-cell J fits r c t .0
+
+      q : c < 40
+      q = chosen-cell J fits r c t .1
+
+      on : {k : LinkKind} {b : Bool} → OnGrid (record { link = link k r c; forth = b })
+      on = record { row< = p; column< = q }
+
+      at-exit : exit (at pin r c) ≡ u + 1
       at-exit = omega arith
+
+      slots : (k : ℕ) → k < 4 → T (isLinkDart (8 * (u + 1) + k))
+      slots k h = subst (λ (v : ℕ). T (isLinkDart (8 * v + k))) at-exit (slot-link J fits x t k (omega arith) .1)
+
+      low : u + 1 < spots
+      low = omega (arith, p, q)
+
+      balance : out (net J) g (u + 1) ≡ out (net J) (back (net J) g) (u + 1) + s (u + 1)
+      balance = F .load .balanced (u + 1) low (kind-inside J fits (u + 1) (λ h k. omega arith) (omega arith))
+
+      n : T (not (isMissing J r c))
+      n = not-T (isMissing J r c) (λ m. missing-chosen J r c m t)
+
+      through : g (8 * u + 4) ≡ 0
+      through =
+          let (l, d, e) = pass-missing r c p q in
+          none (8 * u + 4) l (pass-shut J (8 * u + 4) d (subst (λ (y : Place). T (not (isPlace J y))) (sym e) n))
+
+      enter : (k : ℕ) (y : Step) → getElem? (around x) k ≡ some y → OnGrid (turn y) → T (not (may J (turn y))) → g (dartOf (turn (stepOf (8 * exit x + k)))) ≡ 0
+      enter k y e o m = ap (λ (z : Step). g (dartOf (turn z))) (slot-step J fits x t k y e .2) ∙ dart-none (turn y) o m
+
+      none-enter : sum 5 (λ k. g (dartOf (turn (stepOf (8 * exit x + k))))) ≡ 0
+      none-enter =
+          omega (
+            arith,
+            enter 0 (go (leg north) r c) refl on (leg-shut J north r c n),
+            enter 1 (go (leg east) r c) refl on (leg-shut J east r c n),
+            enter 2 (go (leg south) r c) refl on (leg-shut J south r c n),
+            enter 3 (go (leg west) r c) refl on (leg-shut J west r c n),
+            enter 4 (go direct r c) refl on (straight-shut J r c),
+          )
 
   -- what is wanted nowhere is started nowhere
   unstarted : (u : ℕ) → u < spots → want J u ≡ 0 → s u ≡ 0
@@ -231,11 +302,11 @@ module _ (J : Job) (fits : T (arrayFits (J .rows) (J .columns))) (g s : ℕ → 
   even missing r c t e =
       let (p, q) = missing-cell J fits r c t in
       let z : s (spot 0 r c + 1) ≡ 0 = unstarted (spot 0 r c + 1) (omega arith) (ap (want J) (omega arith) ∙ missing-want J fits r c t) in
-      omega (arith, pair-even (at missing r c) t (spot 0 r c) 0 (omega arith) (omega arith) (omega arith) refl)
+      omega (arith, pair-even (at missing r c) t (spot 0 r c) 0 (omega arith) (omega arith) (omega arith) refl (entry-inside J fits r c t) (missing-darts r c t))
   even centre r c t e =
       let (p, q) = tile-cell J fits r c (open-tile J fits r c t) in
       let z : s (spot 6 r c + 1) ≡ 0 = unstarted (spot 6 r c + 1) (omega arith) (want-kind J fits (spot 6 r c + 1) (omega arith)) in
-      omega (arith, pair-even (at centre r c) t (spot 6 r c) 1 (omega arith) (omega arith) (omega arith) refl)
+      omega (arith, pair-even (at centre r c) t (spot 6 r c) 1 (omega arith) (omega arith) (omega arith) refl (kind-inside J fits (spot 6 r c) (λ h k. omega arith) (omega arith)) (centre-darts r c))
   even PlaceKind.outside r c t e = absurd t
   even nowhere r c t e = absurd t
   even (side d) r c t e = side-even d r c t
@@ -243,8 +314,8 @@ module _ (J : Job) (fits : T (arrayFits (J .rows) (J .columns))) (g s : ℕ → 
   passes : (k : PlaceKind) (r c m : ℕ) → T (isPlace J (at k r c)) → pass J (at k r c) ≡ some m → arrivals f (at k r c) ≤ m
   unfolding net exitOf entryOf isNone
   passes pin r c m t e = absurd (subst (λ (o : Option ℕ). T (isNone o)) e tt)
-  passes missing r c m t e = pair-limit (at missing r c) t (spot 0 r c) 0 (omega arith) (omega arith) (omega arith) refl refl m e
-  passes centre r c m t e = pair-limit (at centre r c) t (spot 6 r c) 1 (omega arith) (omega arith) (omega arith) refl refl m e
+  passes missing r c m t e = pair-limit (at missing r c) t (spot 0 r c) 0 (omega arith) (omega arith) (omega arith) refl (entry-inside J fits r c t) (missing-darts r c t) refl m e
+  passes centre r c m t e = pair-limit (at centre r c) t (spot 6 r c) 1 (omega arith) (omega arith) (omega arith) refl (kind-inside J fits (spot 6 r c) (λ h k. omega arith) (omega arith)) (centre-darts r c) refl m e
   passes PlaceKind.outside r c m t e = absurd t
   passes nowhere r c m t e = absurd t
   passes (side d) r c m t e = absurd (subst (λ (o : Option ℕ). T (isNone o)) e tt)

@@ -1,6 +1,6 @@
 -- Loads that are feasible for a job are a flow of its network, whose starts are the wires of its chosen pins. Assumes nothing.
 use mathlib.Core.Path.{_≡_, refl, sym, ap, ap₂, _∙_}
-use mathlib.Core.Bool.{Bool, true, false, not, _&&_}
+use mathlib.Core.Bool.{Bool, true, false, not, _&&_, _||_}
 use mathlib.Core.List.{List}
 use Prim.Native.Nat.{ℕ, zero, suc, _+_, _*_, _/_, _%_, _≤_, _<_}
 use native.Mathlib.Omega.{arith}
@@ -11,7 +11,7 @@ use Rattle.sums.specs.Sums.{when-le, when-so, sum-cong}
 use Rattle.flow.specs.Balance.{out, back}
 use Rattle.flow.specs.Flow.{Flow}
 use Rattle.flow.specs.Slots.{out-slots}
-use Rattle.model.specs.Job.{Job, inRange, arrayFits, capsFit, isTile, isChosen}
+use Rattle.model.specs.Job.{Job, inRange, arrayFits, capsFit, isTile, isChosen, isMissing}
 use Rattle.model.specs.Links.{Compass, north, east, south, west, compassCode, PlaceKind, pin, missing, centre, nowhere, side, at, holds, isPlace, isPinKind, may, limit, pass}
 use Rattle.model.specs.Near.{spot, size, exitOf, exit}
 use Rattle.model.specs.Loads.{departures, arrivals, Feasible}
@@ -22,9 +22,9 @@ use Rattle.channel.specs.Map.{owners, ownerOf, codeOf}
 use Rattle.channel.specs.Map.{spots, darts, inGrid, rowOf, columnOf, stepOf, isLinkDart, isPassDart, passedOf, cap, free, want, outside, view, isStart, starts}
 use Rattle.channel.specs.Map.Back.{Less, less, most, less?, grid-at}
 use Rattle.channel.specs.Map.Darts.{cell-row, cell-column, grid-cell}
-use Rattle.channel.specs.Map.Spots.{held-grid, places-cong}
+use Rattle.channel.specs.Map.Spots.{held-grid, places-cong, missing-or-chosen}
 use Rattle.channel.specs.Map.Sums.{start-at, sum-starts}
-use Rattle.channel.specs.Map.Carried.{when-at-most, side-even, centre-even, pin-even, passed-le, link-le, step-apart, passed-small, step-small}
+use Rattle.channel.specs.Map.Carried.{when-at-most, side-even, centre-even, pin-even, passed-le, link-le, step-apart, passed-small, step-small, straight-none, missing-straight}
 use Rattle.channel.specs.Map.RowLoads.{goes, comes, view-goes, view-comes, rows-apart, link-or-pass}
 use Rattle.channel.specs.Map.SpotLoads.{side-goes, side-comes, missing-entry-goes, missing-entry-comes, missing-exit-goes, missing-exit-comes, centre-entry-goes, centre-entry-comes, centre-exit-goes, centre-exit-comes, off-goes, off-comes}
 use Rattle.channel.specs.Map.Network.{net}
@@ -82,10 +82,22 @@ module _ (J : Job) (fits : T (arrayFits (J .rows) (J .columns))) (rec : List ℕ
       by true e = let (r, c) = grid-row x (so e) in h (grid-cell x (so e)) r c
       by false e = off-sends q x o e
 
-  missing-entry-sends : (x : ℕ) → Sends 0 x 0
+  -- the cell has a missing pin
+  abbrev onMissing : ℕ → Bool
+  onMissing x = inGrid x && isMissing J (rowOf x) (columnOf x)
+
+  missing-entry-sends : (x : ℕ) → T (onMissing x) → Sends 0 x 0
   unfolding below ownerOf owners
-  missing-entry-sends x =
-      owned-sends 0 x tt (λ e a b. omega (arith, missing-entry-goes rec x _ _ e a b, missing-entry-comes rec x _ _ e a b))
+  missing-entry-sends x t =
+      owned-sends 0 x tt (λ e a b.
+      omega (
+        arith,
+        missing-entry-goes rec x _ _ e a b,
+        missing-entry-comes rec x _ _ e a b,
+        straight-none feasible (rowOf x) (columnOf x),
+        missing-straight feasible (rowOf x) (columnOf x)
+            (missing-or-chosen J (rowOf x) (columnOf x) (and-right (inGrid x) (isMissing J (rowOf x) (columnOf x)) t)),
+      ))
 
   centre-entry-sends : (x : ℕ) → Sends 6 x 0
   unfolding below ownerOf owners
@@ -106,7 +118,7 @@ module _ (J : Job) (fits : T (arrayFits (J .rows) (J .columns))) (rec : List ℕ
       by true g =
           let (a, b) = grid-row x (so g) in
           let e = grid-cell x (so g) in
-          omega (arith, missing-exit-goes rec x _ _ e a b, missing-exit-comes rec x _ _ e a b, pin-even feasible (rowOf x) (columnOf x))
+          omega (arith, missing-exit-goes rec x _ _ e a b, missing-exit-comes rec x _ _ e a b, straight-none feasible (rowOf x) (columnOf x), pin-even feasible (rowOf x) (columnOf x))
       by false g = off-sends 1 x tt g
 
   -- the cell is a tile
@@ -126,14 +138,18 @@ module _ (J : Job) (fits : T (arrayFits (J .rows) (J .columns))) (rec : List ℕ
         side-even feasible d (rowOf x) (columnOf x) (is-true (isTile J (rowOf x) (columnOf x)) u),
       )
 
-  sends : (q x : ℕ) → q < 8 → T (not (ltb 1 q && (ltb q 6 && not (onTile x))))
+  not-or : (a b : Bool) → T (not (a || b)) → T (not a)
+  not-or true b t = t
+  not-or false b t = tt
+
+  sends : (q x : ℕ) → q < 8 → T (not ((ltb 1 q && (ltb q 6 && not (onTile x))) || (eqb q 0 && not (onMissing x))))
       → Sends q x (when (eqb q 1 && (inGrid x && isChosen J (rowOf x) (columnOf x))) (departures (load rec) (at pin (rowOf x) (columnOf x))))
-  sends zero x l t = missing-entry-sends x
+  sends zero x l t = missing-entry-sends x (not-not (onMissing x) t)
   sends (suc zero) x l t = exit-sends x
-  sends (suc (suc zero)) x l t = side-sends north x t
-  sends (suc (suc (suc zero))) x l t = side-sends east x t
-  sends (suc (suc (suc (suc zero)))) x l t = side-sends south x t
-  sends (suc (suc (suc (suc (suc zero))))) x l t = side-sends west x t
+  sends (suc (suc zero)) x l t = side-sends north x (not-or (not (onTile x)) false t)
+  sends (suc (suc (suc zero))) x l t = side-sends east x (not-or (not (onTile x)) false t)
+  sends (suc (suc (suc (suc zero)))) x l t = side-sends south x (not-or (not (onTile x)) false t)
+  sends (suc (suc (suc (suc (suc zero))))) x l t = side-sends west x (not-or (not (onTile x)) false t)
   sends (suc (suc (suc (suc (suc (suc zero)))))) x l t = centre-entry-sends x
   sends (suc (suc (suc (suc (suc (suc (suc zero))))))) x l t = centre-exit-sends x
   sends (suc (suc (suc (suc (suc (suc (suc (suc q)))))))) x l t = absurd (beyond l)

@@ -184,21 +184,51 @@ module _ (g : ℕ → ℕ) (quiet : Quiet g) where
       unfolding darts spots
       exit-still k l t = still-at (8 * (u + 1) + k) _ (exit-row k l) (pair-test (8 + k) still t) (omega arith)
 
-      pub exit-out : out (net J) g (u + 1) ≡ sum 4 (λ k. g (8 * (u + 1) + k))
+      -- nothing goes straight out of the exit, nor straight in
+      pub record NoStraight : Type 0 where
+        pub gone : g (8 * (u + 1) + 4) ≡ 0
+        pub goneBack : g (rev (8 * (u + 1) + 4)) ≡ 0
+        pub come : g (8 * u + 5) ≡ 0
+        pub comeBack : g (rev (8 * u + 5)) ≡ 0
+
+      -- a centre has no such darts
+      pub centre-straight : j ≡ 1 → NoStraight
+      unfolding codeOf codes carries isPassage idle still turnOf turns darts spots
+      centre-straight e =
+          record {
+            gone = idle-at (8 * (u + 1) + 4) 60 (exit-row 4 (omega arith) ∙ omega arith) tt (omega arith);
+            goneBack = still-at (8 * (u + 1) + 4) 60 (exit-row 4 (omega arith) ∙ omega arith) tt (omega arith);
+            come = idle-at (8 * u + 5) 53 (entry-row 5 (omega arith) ∙ omega arith) tt (omega arith);
+            comeBack = still-at (8 * u + 5) 53 (entry-row 5 (omega arith) ∙ omega arith) tt (omega arith);
+          }
+
+      pub exit-out : NoStraight → out (net J) g (u + 1) ≡ sum 4 (λ k. g (8 * (u + 1) + k))
       unfolding sum below codeOf codes carries isPassage idle
-      exit-out =
+      exit-out z =
           omega (
             arith,
             out-eight g (u + 1) low,
-            exit-idle 4 (omega arith) tt,
+            z .gone,
             exit-idle 5 (omega arith) tt,
             exit-idle 6 (omega arith) tt,
             exit-idle 7 (omega arith) tt,
           )
 
-      pub entry-out : out (net J) g u ≡ g (8 * u + 4)
+      -- the five slots of a pin
+      pub pin-out : out (net J) g (u + 1) ≡ sum 5 (λ k. g (8 * (u + 1) + k))
       unfolding sum below codeOf codes carries isPassage idle
-      entry-out =
+      pin-out =
+          omega (
+            arith,
+            out-eight g (u + 1) low,
+            exit-idle 5 (omega arith) tt,
+            exit-idle 6 (omega arith) tt,
+            exit-idle 7 (omega arith) tt,
+          )
+
+      pub entry-out : NoStraight → out (net J) g u ≡ g (8 * u + 4)
+      unfolding sum below codeOf codes carries isPassage idle
+      entry-out z =
           omega (
             arith,
             out-eight g u (omega arith),
@@ -206,23 +236,23 @@ module _ (g : ℕ → ℕ) (quiet : Quiet g) where
             entry-idle 1 (omega arith) tt,
             entry-idle 2 (omega arith) tt,
             entry-idle 3 (omega arith) tt,
-            entry-idle 5 (omega arith) tt,
+            z .come,
             entry-idle 6 (omega arith) tt,
             entry-idle 7 (omega arith) tt,
           )
 
       -- the dart between the two, and its way back
-      between : rev (8 * u + 4) ≡ 8 * (u + 1) + 4
+      between : rev (8 * u + 4) ≡ 8 * (u + 1) + 5
       unfolding below ahead turnOf turns darts spots
       between =
-          rev-over (8 * u + 4) (8 * (u + 1) + 4)
-          (omega (arith, ap turnOf (entry-row 4 (omega arith)), eqb→eq (turnOf (48 * j + 4)) 2696 (pair-test 4 (λ i. eqb (turnOf i) 2696) tt))) (omega arith)
+          rev-over (8 * u + 4) (8 * (u + 1) + 5)
+          (omega (arith, ap turnOf (entry-row 4 (omega arith)), eqb→eq (turnOf (48 * j + 4)) 2697 (pair-test 4 (λ i. eqb (turnOf i) 2697) tt))) (omega arith)
 
-      between-back : rev (8 * (u + 1) + 4) ≡ 8 * u + 4
+      between-back : rev (8 * (u + 1) + 5) ≡ 8 * u + 4
       unfolding below ahead turnOf turns darts spots
       between-back =
-          rev-over (8 * (u + 1) + 4) (8 * u + 4)
-          (omega (arith, ap turnOf (exit-row 4 (omega arith)), eqb→eq (turnOf (48 * j + 12)) 2680 (pair-test 12 (λ i. eqb (turnOf i) 2680) tt))) (omega arith)
+          rev-over (8 * (u + 1) + 5) (8 * u + 4)
+          (omega (arith, ap turnOf (exit-row 5 (omega arith)), eqb→eq (turnOf (48 * j + 13)) 2679 (pair-test 13 (λ i. eqb (turnOf i) 2679) tt))) (omega arith)
 
       exit-quiet : (k : ℕ) → k < 4 → T (below 2 (λ i. idle (backRow (48 * i + (8 + k))))) → g (rev (8 * (u + 1) + k)) ≡ 0
       unfolding darts spots
@@ -236,9 +266,9 @@ module _ (g : ℕ → ℕ) (quiet : Quiet g) where
           mirror-at (8 * (u + 1) + k) (8 * u + k) _ _ (entry-row k (omega arith)) (exit-row k (omega arith)) (omega arith)
           (below-at 2 (λ i. mirrors (48 * i + k) (48 * i + (8 + k))) t j b) (omega arith) (slots k l)
 
-      pub exit-back : out (net J) (back (net J) g) (u + 1) ≡ g (8 * u + 4)
+      pub pin-back : out (net J) (back (net J) g) (u + 1) ≡ g (8 * u + 4) + g (rev (8 * (u + 1) + 4))
       unfolding net sum below still backRow turnOf turns codeOf codes carries isPassage idle
-      exit-back =
+      pin-back =
           omega (
             arith,
             out-eight (back (net J) g) (u + 1) low,
@@ -247,14 +277,16 @@ module _ (g : ℕ → ℕ) (quiet : Quiet g) where
             exit-quiet 2 (omega arith) tt,
             exit-quiet 3 (omega arith) tt,
             ap g between-back,
-            exit-still 5 (omega arith) tt,
             exit-still 6 (omega arith) tt,
             exit-still 7 (omega arith) tt,
           )
 
-      pub entry-back : out (net J) (back (net J) g) u ≡ sum 4 (λ k. g (dartOf (turn (stepOf (8 * (u + 1) + k)))))
+      pub exit-back : NoStraight → out (net J) (back (net J) g) (u + 1) ≡ g (8 * u + 4)
+      exit-back z = omega (arith, pin-back, z .goneBack)
+
+      pub entry-back : NoStraight → out (net J) (back (net J) g) u ≡ sum 4 (λ k. g (dartOf (turn (stepOf (8 * (u + 1) + k)))))
       unfolding net sum below mirrors twin still backRow turnOf turns kindOf links ownerOf owners signOf signs codeOf codes carries isStored isPassage idle
-      entry-back =
+      entry-back z =
           omega (
             arith,
             out-eight (back (net J) g) u (omega arith),
@@ -263,8 +295,8 @@ module _ (g : ℕ → ℕ) (quiet : Quiet g) where
             entry-mirror 2 (omega arith) tt,
             entry-mirror 3 (omega arith) tt,
             ap g between,
-            exit-idle 4 (omega arith) tt,
-            entry-still 5 (omega arith) tt,
+            exit-idle 5 (omega arith) tt,
+            z .comeBack,
             entry-still 6 (omega arith) tt,
             entry-still 7 (omega arith) tt,
           )

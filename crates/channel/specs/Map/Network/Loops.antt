@@ -10,6 +10,7 @@ use native.Mathlib.Omega.{arith}
 use lib.Dec.{T, eqb, eqb→eq}
 use lib.ListN.{getD}
 use Rattle.sums.specs.Counting.{when, total}
+use Rattle.sums.specs.Entries.{entry-below}
 use Rattle.sums.specs.Tests.{and-right}
 use Rattle.sums.specs.Totals.{total-has}
 use Rattle.flow.specs.Network.{Path, here, along}
@@ -19,7 +20,7 @@ use Rattle.model.specs.Links.{Compass, north, east, south, west, compassCode, P
 use Rattle.model.specs.Near.{spot, entryOf, exitOf, entry, exit}
 use Rattle.model.specs.Loads.{arrivals, Feasible, Trail}
 use Rattle.model.specs.Record.{load}
-use Rattle.model.proofs.Listed.{step-listed, may-leaves}
+use Rattle.model.proofs.Listed.{around-five, step-listed, may-leaves}
 use Rattle.channel.specs.Map.{darts, rowOf, columnOf, rev, stepOf, isLinkDart, isPassDart, passedOf, outside, view, codeOf, dartOf}
 use Rattle.channel.specs.Map.Darts.{OnGrid, dart-step, cell-row, cell-column}
 use Rattle.channel.specs.Map.Network.{net}
@@ -27,7 +28,7 @@ use Rattle.channel.specs.Map.Steps.{link-tail, link-head, place-pass, pa
 use Rattle.channel.specs.Map.Stores.{grid?}
 use Rattle.channel.specs.Map.Carry.{view-link, view-pass}
 use Rattle.channel.specs.Map.Network.Pushed.{turn-turn}
-use Rattle.channel.specs.Map.Places.{compass<, tile-cell, chosen-cell, missing-cell, open-tile, kind-inside, tile-inside, pin-by, leg-shut, spoke-shut}
+use Rattle.channel.specs.Map.Places.{compass<, tile-cell, chosen-cell, missing-cell, open-tile, kind-inside, entry-inside, tile-inside, pin-by, leg-shut, spoke-shut}
 
 -- ---- the place of a spot
 
@@ -84,22 +85,22 @@ module _ (J : Job) (fits : T (arrayFits (J .rows) (J .columns))) where
       let (p, q) = chosen-cell J fits r c t in
       let e : J .mark r c ≡ 1 = eqb→eq (J .mark r c) 1 (and-right (isPin J r c) (eqb (J .mark r c) 1) t) in
       let h : placeAt J (spot 1 r c) ≡ at pin r c =
-      spot-place 1 r c (omega arith) q (kind-inside J fits (spot 1 r c) (λ a b. omega arith))
+      spot-place 1 r c (omega arith) q (kind-inside J fits (spot 1 r c) (λ a b. omega arith) (omega arith))
       ∙ pin-by J (λ x. x ≡ at pin r c) r c (λ z. absurd (omega arith)) (λ z. refl) in
       record { atEntry = h; atExit = h }
   kind-home missing r c t =
       let (p, q) = missing-cell J fits r c t in
       let e : J .mark r c ≡ 2 = eqb→eq (J .mark r c) 2 (and-right (isPin J r c) (eqb (J .mark r c) 2) t) in
       record {
-        atEntry = spot-place 0 r c (omega arith) q (kind-inside J fits (spot 0 r c) (λ a b. omega arith));
-        atExit = spot-place 1 r c (omega arith) q (kind-inside J fits (spot 1 r c) (λ a b. omega arith))
+        atEntry = spot-place 0 r c (omega arith) q (entry-inside J fits r c t);
+        atExit = spot-place 1 r c (omega arith) q (kind-inside J fits (spot 1 r c) (λ a b. omega arith) (omega arith))
             ∙ pin-by J (λ x. x ≡ at missing r c) r c (λ z. refl) (λ z. absurd (z e));
       }
   kind-home centre r c t =
       let (p, q) = tile-cell J fits r c (open-tile J fits r c t) in
       record {
-        atEntry = spot-place 6 r c (omega arith) q (kind-inside J fits (spot 6 r c) (λ a b. omega arith));
-        atExit = spot-place 7 r c (omega arith) q (kind-inside J fits (spot 7 r c) (λ a b. omega arith));
+        atEntry = spot-place 6 r c (omega arith) q (kind-inside J fits (spot 6 r c) (λ a b. omega arith) (omega arith));
+        atExit = spot-place 7 r c (omega arith) q (kind-inside J fits (spot 7 r c) (λ a b. omega arith) (omega arith));
       }
   kind-home PlaceKind.outside r c t = absurd t
   kind-home nowhere r c t = absurd t
@@ -108,7 +109,7 @@ module _ (J : Job) (fits : T (arrayFits (J .rows) (J .columns))) where
       let (p, q) = tile-cell J fits r c u in
       let h : placeAt J (spot (2 + compassCode d) r c) ≡ at (side d) r c =
       spot-place (2 + compassCode d) r c (omega (arith, compass< d)) q
-      (tile-inside J fits (spot (2 + compassCode d) r c) r c (omega (arith, compass< d)) u) ∙ side-home d r c in
+      (tile-inside J fits (spot (2 + compassCode d) r c) r c (omega (arith, compass< d)) u (omega (arith, compass< d))) ∙ side-home d r c in
       record { atEntry = h; atExit = h }
 
   home : (x : Place) → T (isPlace J x) → Home x
@@ -127,9 +128,9 @@ pass-next d = by (eqb (codeOf (d % 64)) 5)
 
 -- ---- loaded darts
 
--- every loaded dart from a spot of this rank or more falls, to a spot of this rank or more
+-- Every loaded dart in one of the first five slots of a spot of this rank or more falls, to a spot of this rank or more. Feasible loads have no others.
 pub record FallsFrom (least : ℕ) (rec : List ℕ) (rank : ℕ → ℕ) : Type 0 where
-  pub fall : (d : ℕ) → d < darts → 0 < view rec d → least ≤ rank (d / 8) → (least ≤ rank (rev d / 8)) × (rank (rev d / 8) < rank (d / 8))
+  pub fall : (d : ℕ) → d < darts → d % 8 < 5 → 0 < view rec d → least ≤ rank (d / 8) → (least ≤ rank (rev d / 8)) × (rank (rev d / 8) < rank (d / 8))
 
 module _ (J : Job) (fits : T (arrayFits (J .rows) (J .columns))) (rec : List ℕ) (feasible : Feasible J (load rec)) where
   abbrev f : Step → ℕ
@@ -192,7 +193,7 @@ module _ (J : Job) (fits : T (arrayFits (J .rows) (J .columns))) (rec : List ℕ
         let (m, n) = pass-ends (8 * entry x + 4) l q in
         let w : 0 < view rec (8 * entry x + 4) = omega (arith, view-pass rec (8 * entry x + 4) q, ap (arrivals f) p) in
         let y : rank (entry x) ≡ rank ((8 * entry x + 4) / 8) = ap rank (sym (ap entry p) ∙ m) in
-        omega (arith, falls .fall (8 * entry x + 4) l w (omega arith), ap rank (sym (ap exit p) ∙ n))
+        omega (arith, falls .fall (8 * entry x + 4) l (omega arith) w (omega arith), ap rank (sym (ap exit p) ∙ n))
 
     -- it does not rise through a place that wires pass
     through : (k : PlaceKind) (r c : ℕ) → T (isPlace J (at k r c)) → 0 < arrivals f (at k r c) → Lower (entry (at k r c)) (exit (at k r c))
@@ -221,9 +222,11 @@ module _ (J : Job) (fits : T (arrayFits (J .rows) (J .columns))) (rec : List ℕ
             → (least ≤ rank (exit (head J s))) × (rank (exit (head J s)) < rank (exit (tail J s)))
         by (inr (q, o)) = absurd (subst (λ (x : Place). T (isPlace J x)) q p)
         by (inl (q, e)) =
-            let z : rank (exit (tail J s)) ≡ rank (d / 8) = ap rank (link-tail J fits d l t (loaded-may s h) .0) in
+            let (u, v) = link-tail J fits d l t (loaded-may s h) in
+            let z : rank (exit (tail J s)) ≡ rank (d / 8) = ap rank u in
+            let k : d % 8 < 5 = omega (arith, entry-below (around (tail J s)) (d % 8) s v, around-five (tail J s)) in
             let y : rank (entry (head J s)) ≡ rank (rev d / 8) = ap rank e in
-            let (g, r) = falls .fall d l (omega (arith, view-link rec d t)) (omega arith) in
+            let (g, r) = falls .fall d l k (omega (arith, view-link rec d t)) (omega arith) in
             omega (arith, through (head J s .kind) (head J s .row) (head J s .column) p (omega (arith, step-arrives s p)) (omega arith))
 
     step-falls : (s : Step) → StepFalls s
@@ -244,7 +247,7 @@ module _ (J : Job) (fits : T (arrayFits (J .rows) (J .columns))) (rec : List ℕ
   pub ranked-loops : (rank : ℕ → ℕ) → ((d : ℕ) → d < darts → 0 < view rec d → rank (rev d / 8) < rank (d / 8))
       → (x : Place) (s : Step) (ss : List Step) → Trail J (load rec) x (s ∷ ss) x → ⊥
   ranked-loops rank falls x s ss t =
-      omega (arith, trail-falls 0 rank (record { fall = λ d l w b. omega (arith, falls d l w) }) s ss x x t (trail-place s ss x x t) (omega arith))
+      omega (arith, trail-falls 0 rank (record { fall = λ d l k w b. omega (arith, falls d l w) }) s ss x x t (trail-place s ss x x t) (omega arith))
 
   -- ---- a closed path
 

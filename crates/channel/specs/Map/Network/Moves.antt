@@ -16,7 +16,7 @@ use Rattle.sums.specs.Sums.{when-so, when-some}
 use Rattle.sums.specs.Totals.{total-has}
 use Rattle.flow.specs.Residual.{Residual, undo, room, unlimited, Closed}
 use Rattle.model.specs.Job.{Job, arrayFits, centreLimit}
-use Rattle.model.specs.Links.{Compass, north, east, south, west, pin, missing, Place, at, theOutside, isPlace, LinkKind, northSide, westSide, corner, spoke, leg, link, behindOf, aheadOf, limitOf, Step, turn, head, tail, may, limit, pass, around}
+use Rattle.model.specs.Links.{Compass, north, east, south, west, pin, missing, Place, at, theOutside, isPlace, LinkKind, northSide, westSide, corner, spoke, leg, direct, link, behindOf, aheadOf, limitOf, Step, turn, head, tail, may, limit, pass, around}
 use Rattle.model.specs.Near.{size, entryOf, exitOf, entry, exit}
 use Rattle.model.specs.Loads.{arrivals, departures, Feasible}
 use Rattle.model.specs.Record.{load}
@@ -82,6 +82,7 @@ module _ (J : Job) where
       by (spoke d) r c true n = inr (ends (centreLimit (J .O) (J .D)) refl refl)
       by (spoke d) r c false n = inl (ends (centreLimit (J .O) (J .D)) refl refl)
       by (leg d) r c true n = inr (ends (J .E) (passed (eqb (J .mark r c) 2) r c n) (ahead-plain d r c))
+      by direct r c b n = absurd (n 1 refl)
       by (leg d) r c false n = inl (ends (J .E) (passed (eqb (J .mark r c) 2) r c n) (ahead-plain d r c))
 
   -- ---- loaded darts
