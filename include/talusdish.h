@@ -56,7 +56,8 @@ uint64_t talusdish_shortfall(const uint8_t *record, uint64_t record_len, uint8_t
 
 /* What a chosen pin's wire lists at an index, from 0. 1; 4. The value is kind + 4 * place + 32 * lane + 1,024 * row + 65,536 * column.
  * kind   0 unwired, 1 past the end (all else 0), 2 to, 3 out (row and column 0)
- * place  0 n, 1 e, 2 s, 3 w, 4 c, 5 r; of an out the rim side */
+ * place  0 n, 1 e, 2 s, 3 w, 4 c, 5 r; of an out the rim side, or 6 p for a pin in the first or last row or column that leaves directly, lane 0, at
+ *        index 0 */
 uint64_t talusdish_part(const uint8_t *record, uint64_t record_len, uint64_t row, uint64_t column, uint64_t index);
 
 /* The job of a text, without wires. 1 only for a short record; 6. */

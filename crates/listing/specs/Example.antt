@@ -1,23 +1,26 @@
--- Document 01, "The listing", on its examples: the lines of the four-pin job, and the whole listing of the 64-byte text and of a refusal. Assumes nothing.
-use mathlib.Core.Path.{_≡_, refl, ap, ap₂, _∙_}
-use mathlib.Core.Bool.{Bool, true, false}
+-- Document 01, "The listing", on its examples: the lines of the four-pin job with the wires that document 01 prints, the part of a direct exit, and the whole listing of a short
+-- job and of a refusal. Assumes nothing.
+use mathlib.Core.Path.{_≡_, refl, sym, ap, ap₂, subst, _∙_}
+use mathlib.Core.Logic.{_≢_}
+use mathlib.Core.Bool.{Bool, true, false, not}
 use mathlib.Core.List.{List, [], _∷_, _++_, append-nil}
 use mathlib.Core.Option.{none}
-use Prim.Native.Nat.{ℕ, zero, suc, _≤_}
+use Prim.Native.Nat.{ℕ, zero, suc, _+_, _≤_, _<_}
 use native.Mathlib.Omega.{arith}
-use lib.Dec.{eqb}
-use lib.ListN.{replicate, List·getD-eq-default}
+use lib.Dec.{T, eqb, ltb, ltb→lt, nltb→le}
+use lib.ListN.{length, getD, replicate, length-append, length-replicate, getD-replicate, List·getD-append, List·getD-eq-default}
 use Rattle.sums.specs.Counting.{only, each, those, total}
+use Rattle.sums.specs.Tests.{Same, same, other, same?}
 use Rattle.model.specs.Job.{isOpen, isChosen, isMissing}
-use Rattle.model.specs.Links.{places, behindOf, aheadOf, head}
+use Rattle.model.specs.Links.{pin, places, behindOf, aheadOf, head}
 use Rattle.model.specs.Loads.{departures}
-use Rattle.model.specs.Wires.{fallingEnds, endsOn, arrivalAt, leaving, firstLoaded, hopAt, isWired, wireCount, partAt}
-use Rattle.model.specs.Examples.{job64}
+use Rattle.model.specs.Wires.{fallingEnds, endsOn, arrivalAt, leaving, firstLoaded, hopAt, isWired, wireCount, out, partAt}
+use Rattle.model.specs.Examples.{jobShut}
 use Rattle.model.proofs.FourPins.{job22, loads22, sound22}
 use Rattle.listing.specs.Lines.{decimal, close, line, pairLine, spread, row, column}
 use Rattle.model.specs.Near.{spot}
 use Rattle.listing.specs.Near.{nearWord, pinWord, entryWord, exitWord, shortWord, nearLine, chosenLine, missingLines, sideLines, centreLines, groupLines, shortListing, refusedListing}
-use Rattle.listing.specs.Wires.{wireWord, partsBytes, wireLine, wiresLine}
+use Rattle.listing.specs.Wires.{wireWord, partBytes, partsBytes, wireLine, wiresLine}
 use Rattle.listing.specs.Walked.{parts-end}
 
 -- ---- four pins
@@ -65,23 +68,42 @@ unfolding decimal partsBytes partAt hopAt leaving firstLoaded arrivalAt endsOn f
     isChosen isMissing isOpen head aheadOf behindOf
 lines22 = (refl, two-parts 0 0 line00 refl refl, two-parts 0 1 line01 refl refl, two-parts 1 0 line10 refl refl, two-parts 1 1 line11 refl refl)
 
--- ---- the 64-byte text
+-- ---- a direct exit
 
--- the near bytes: pin (0, 0) alone
-abbrev near64 : List ℕ
-near64 = replicate 329 0 ++ (1 ∷ [])
+-- " (out p 0)"
+pub direct-part : partBytes (out pin 0) ≡ 32 ∷ 40 ∷ 111 ∷ 117 ∷ 116 ∷ 32 ∷ 112 ∷ 32 ∷ 48 ∷ 41 ∷ []
+unfolding decimal
+direct-part = refl
 
--- (short 1), (near pin 0 0)
-abbrev bytes64 : List ℕ
-bytes64 =
-    40 ∷ 115 ∷ 104 ∷ 111 ∷ 114 ∷ 116 ∷ 32 ∷ 49 ∷ 41 ∷ 10 ∷ 40 ∷ 110 ∷ 101 ∷ 97 ∷ 114 ∷ 32 ∷ 112 ∷ 105 ∷ 110 ∷ 32 ∷ 48 ∷ 32 ∷ 48 ∷ 41 ∷ 10 ∷ []
+-- ---- 3 by 3, every tile closed, pin (1, 1) chosen
 
--- no cell but the first has a line
-far : (k : ℕ) (front end : List ℕ) (p : ℕ) → 1 ≤ p → nearLine near64 k front end p ≡ []
-far k front end p h = ap (λ (b : ℕ). only (eqb b 1) (pairLine front (row p) (column p) end)) (List·getD-eq-default near64 0 {n = spot k (row p) (column p)} beyond)
+-- the cell of pin (1, 1), and the near bytes: that pin alone
+abbrev inner : ℕ
+inner = 41
+
+abbrev nearShut : List ℕ
+nearShut = replicate 657 0 ++ (1 ∷ [])
+
+-- (short 1), (near pin 1 1)
+abbrev bytesShut : List ℕ
+bytesShut =
+    40 ∷ 115 ∷ 104 ∷ 111 ∷ 114 ∷ 116 ∷ 32 ∷ 49 ∷ 41 ∷ 10 ∷ 40 ∷ 110 ∷ 101 ∷ 97 ∷ 114 ∷ 32 ∷ 112 ∷ 105 ∷ 110 ∷ 32 ∷ 49 ∷ 32 ∷ 49 ∷ 41 ∷ 10 ∷ []
+
+near-size : length nearShut ≡ 658
+near-size = length-append {A = ℕ} (replicate 657 0) (1 ∷ []) ∙ ap (λ (n : ℕ). n + 1) (length-replicate {A = ℕ} 657 0)
+
+-- every byte but that of the pin is 0
+zero-else : (i : ℕ) → i ≢ 657 → getD nearShut i 0 ≡ 0
+zero-else i h = by (ltb i 657) (ltb→lt i 657) (nltb→le i 657)
   where
-    beyond : 330 ≤ spot k (row p) (column p)
-    beyond = omega (arith, h)
+    by : (t : Bool) → (T t → i < 657) → (T (not t) → 657 ≤ i) → getD nearShut i 0 ≡ 0
+    by true l m = List·getD-append {A = ℕ} (replicate 657 0) (1 ∷ []) 0 i (subst (λ (n : ℕ). i < n) (sym (length-replicate {A = ℕ} 657 0)) (l tt)) ∙ getD-replicate 657 i 0 0 (l tt)
+    by false l m = List·getD-eq-default nearShut 0 {n = i} (subst (λ (n : ℕ). n ≤ i) (sym near-size) (omega (arith, h, m tt)))
+
+-- no cell but that of the pin has a line
+far : (k : ℕ) (front end : List ℕ) (p : ℕ) → k < 8 → p ≢ inner → nearLine nearShut k front end p ≡ []
+far k front end p l h =
+    ap (λ (b : ℕ). only (eqb b 1) (pairLine front (row p) (column p) end)) (zero-else (spot k (row p) (column p)) (λ e. h (omega (arith, e, l))))
 
 abbrev nothing : List ℕ
 nothing = []
@@ -90,31 +112,40 @@ only-none : (b : Bool) → only b nothing ≡ nothing
 only-none true = refl
 only-none false = refl
 
-blank : (g p : ℕ) → 1 ≤ p → groupLines job64 near64 g p ≡ []
+blank : (g p : ℕ) → p ≢ inner → groupLines jobShut nearShut g p ≡ []
 unfolding groupLines chosenLine missingLines sideLines centreLines
-blank zero p h = ap (λ (l : List ℕ). only (isChosen job64 (row p) (column p)) l) (far 1 pinWord close p h) ∙ only-none (isChosen job64 (row p) (column p))
+blank zero p h = ap (λ (l : List ℕ). only (isChosen jobShut (row p) (column p)) l) (far 1 pinWord close p (omega arith) h) ∙ only-none (isChosen jobShut (row p) (column p))
 blank (suc zero) p h =
-    ap₂ (λ (l m : List ℕ). only (isMissing job64 (row p) (column p)) (l ++ m)) (far 0 entryWord close p h) (far 1 exitWord close p h)
-    ∙ only-none (isMissing job64 (row p) (column p))
+    ap₂ (λ (l m : List ℕ). only (isMissing jobShut (row p) (column p)) (l ++ m)) (far 0 entryWord close p (omega arith) h) (far 1 exitWord close p (omega arith) h)
+    ∙ only-none (isMissing jobShut (row p) (column p))
 blank (suc (suc g)) p h =
     ap₂ _++_
-    (ap₂ _++_ (far 2 nearWord (32 ∷ 110 ∷ close) p h)
-    (ap₂ _++_ (far 3 nearWord (32 ∷ 101 ∷ close) p h) (ap₂ _++_ (far 4 nearWord (32 ∷ 115 ∷ close) p h) (far 5 nearWord (32 ∷ 119 ∷ close) p h))))
-    (ap₂ _++_ (far 6 nearWord (32 ∷ 99 ∷ 105 ∷ close) p h) (far 7 nearWord (32 ∷ 99 ∷ 111 ∷ close) p h))
+    (ap₂ _++_ (far 2 nearWord (32 ∷ 110 ∷ close) p (omega arith) h)
+    (ap₂ _++_ (far 3 nearWord (32 ∷ 101 ∷ close) p (omega arith) h) (ap₂ _++_ (far 4 nearWord (32 ∷ 115 ∷ close) p (omega arith) h) (far 5 nearWord (32 ∷ 119 ∷ close) p (omega arith) h))))
+    (ap₂ _++_ (far 6 nearWord (32 ∷ 99 ∷ 105 ∷ close) p (omega arith) h) (far 7 nearWord (32 ∷ 99 ∷ 111 ∷ close) p (omega arith) h))
 
+-- cells of which at most one has lines
 spread-none : (g : ℕ → List ℕ) (n p : ℕ) → ((q : ℕ) → p ≤ q → g q ≡ []) → spread g p n ≡ []
 unfolding spread
 spread-none g zero p h = refl
 spread-none g (suc n) p h = ap₂ _++_ (h p (omega arith)) (spread-none g n (suc p) (λ q l. h q (omega (arith, l))))
 
-first-alone : (g : ℕ) → spread (groupLines job64 near64 g) 0 1600 ≡ groupLines job64 near64 g 0
+spread-one : (g : ℕ → List ℕ) (n p m : ℕ) → p ≤ m → m < p + n → ((q : ℕ) → q ≢ m → g q ≡ []) → spread g p n ≡ g m
 unfolding spread
-first-alone g =
-    ap (λ (l : List ℕ). groupLines job64 near64 g 0 ++ l) (spread-none (groupLines job64 near64 g) 1599 1 (blank g)) ∙ append-nil (groupLines job64 near64 g 0)
+spread-one g zero p m a b h = absurd (omega arith)
+spread-one g (suc n) p m a b h = by (eqb p m) (same? p m) (λ l. spread-one g n (suc p) m l (omega (arith, b)) h)
+  where
+    by : (t : Bool) → Same p m t → (suc p ≤ m → spread g (suc p) n ≡ g m) → g p ++ spread g (suc p) n ≡ g m
+    by true (same e) later =
+        ap₂ (λ (q : ℕ) (l : List ℕ). g q ++ l) e (spread-none g n (suc p) (λ q k. h q (λ (z : q ≡ m). omega (arith, e, k, z)))) ∙ append-nil (g m)
+    by false (other e) later = ap₂ _++_ (h p e) (later (omega (arith, a, e)))
 
-pub listing64 : shortListing job64 near64 1 ≡ bytes64
+only-inner : (g : ℕ) → spread (groupLines jobShut nearShut g) 0 1600 ≡ groupLines jobShut nearShut g inner
+only-inner g = spread-one (groupLines jobShut nearShut g) 1600 0 inner (omega arith) (omega arith) (blank g)
+
+pub listing-shut : shortListing jobShut nearShut 1 ≡ bytesShut
 unfolding shortListing groupLines chosenLine missingLines sideLines centreLines decimal isChosen isMissing
-listing64 = ap₂ (λ (l m : List ℕ). line shortWord 1 ++ (l ++ m)) (first-alone 0) (ap₂ _++_ (first-alone 1) (first-alone 2))
+listing-shut = ap₂ (λ (l m : List ℕ). line shortWord 1 ++ (l ++ m)) (only-inner 0) (ap₂ _++_ (only-inner 1) (only-inner 2))
 
 -- (refused 6 45)
 abbrev refused45 : List ℕ

@@ -32,5 +32,6 @@ pub mod Shorts
 pub mod Wireds
 pub mod BothWays
 pub mod FourPins
+pub mod DirectExit
 pub mod LaneExamples
 pub mod TextExamples

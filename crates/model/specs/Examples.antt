@@ -138,3 +138,18 @@ job33 = closed (closed (closed (marked (marked (marked (fresh 3 3 1 1 0) 0 0 1) 
 
 abbrev pub wireds : List Job
 wireds = job64 ∷ job33 ∷ []
+
+-- ---- direct exits: how many links lead from the pin straight to the outside
+
+pub record Exits : Type 0 where
+  pub job : Job
+  pub row : ℕ
+  pub column : ℕ
+  pub gives : ℕ
+
+abbrev pub exits : Job → ℕ → ℕ → ℕ → Exits
+exits J r c n = record { job = J; row = r; column = c; gives = n }
+
+-- A corner pin has one, "even where all its tiles are closed", and not two; an inner pin, a missing pin and an idle one have none.
+abbrev pub directs : List Exits
+directs = exits job64 0 0 1 ∷ exits job33 0 0 1 ∷ exits job33 1 0 1 ∷ exits job33 1 1 0 ∷ exits jobShut 1 1 0 ∷ exits jobMissing 0 1 0 ∷ exits job64 0 1 0 ∷ []
