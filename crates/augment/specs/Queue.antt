@@ -1,18 +1,21 @@
 -- The laws of the breadth-first search: how it begins, what one more spot in the queue keeps, and what is known at its end. Assumes nothing.
-use mathlib.Core.Path.{_≡_, refl, sym, subst, _∙_}
+use mathlib.Core.Path.{_≡_, refl, sym, ap, ap₂, subst, _∙_}
 use mathlib.Core.Logic.{_≢_, _⊎_, inl, inr, ⊎-elim}
+use mathlib.Core.Bool.{Bool, true, false, not, _&&_}
 use mathlib.Core.List.{List}
 use Prim.Native.Nat.{ℕ, _+_, _*_, _/_, _≤_, _<_}
 use native.Mathlib.Omega.{arith}
 use borrow.Author.Count.{below-more}
+use borrow.Author.Tests.{not-true, not-false}
 use lib.Dec.{T}
 use lib.ListN.{length, getD, set, length-set}
 use lib.Seq.{getD-set-same, getD-set-other}
+use Rattle.sums.specs.Tests.{and-left, and-right}
 use Rattle.model.specs.Job.{Job}
 use Rattle.channel.specs.Map.{spots, rev, outside, moves}
 use Rattle.augment.specs.Marks.{unmarked, unmarked-le, after, mark-less}
 use Rattle.augment.specs.Spread.{Room, Came, Spread, Alike}
-use Rattle.augment.specs.Steps.{Whole, Ready, Fresh, Tried, exit, old, new, Grown, Expanded, more, Front, Searched, out, closed}
+use Rattle.augment.specs.Steps.{Whole, Ready, Fresh, Tried, exit, old, new, Grown, Expanded, more, Front, leaves, Searched, out, closed}
 use Rattle.augment.specs.declared.reach.Step.{Step}
 use Rattle.augment.specs.declared.reach.Step.the-variants.{Exit, More}
 use Rattle.augment.specs.declared.reach.Way.the-variants.{Out, Closed}
@@ -210,6 +213,34 @@ module _ {J : Job} {rec : List ℕ} {u k h : ℕ} {t q f w : List ℕ} {n : ℕ}
     -- the slot led outside
     pub grown-exit : {a b : ℕ} → s ≡ Exit a b → Expanded J rec u h t q f w n t'' q'' f'' w'' (Exit a b)
     grown-exit e = exit-grown (subst (λ (x : Step). Tried J rec u k h t' q' f' w' n' t'' q'' f'' w'' x) e y)
+
+-- ---- a spot that leads outside
+
+-- a slot that is no move
+pub leaves-not : {a : Bool} (J : Job) (rec : List ℕ) (u k : ℕ) → a ≡ moves J rec (8 * u + k) → not a ≡ true → false ≡ leaves J rec u k
+unfolding leaves
+leaves-not {a} J rec u k e h = ap (λ (x : Bool). x && outside J (rev (8 * u + k) / 8)) (sym (not-true a h) ∙ e)
+
+-- a move, by where it leads
+pub leaves-by : {a b : Bool} (J : Job) (rec : List ℕ) (u k : ℕ) {v : ℕ} → a ≡ moves J rec (8 * u + k) → not a ≡ false → v ≡ rev (8 * u + k) / 8
+    → b ≡ outside J v → b ≡ leaves J rec u k
+unfolding leaves
+leaves-by {a} J rec u k e h l o = o ∙ ap₂ (λ (x : Bool) (y : ℕ). x && outside J y) (sym (not-false a h) ∙ e) l
+
+-- the search is over where it begins
+pub first-leaves : {J : Job} {rec t q f w : List ℕ} {start k : ℕ} → Room t q f w → Fresh J t start → k < 8 → T (leaves J rec start k)
+    → Searched J rec start t (set t start 1) (set q 0 start) f w (Out 0 k 1)
+unfolding leaves
+first-leaves {J} {rec} {start = start} {k = k} r s l y =
+    let p = spread-start r s in
+    out {j = 0} {k = k} (record {
+      spread = p;
+      within = omega (arith, s .spot);
+      place = omega arith;
+      slot = l;
+      may = rw (p .first) (and-left (moves J rec (8 * start + k)) (outside J (rev (8 * start + k) / 8)) y);
+      exit = rw (p .first) (and-right (moves J rec (8 * start + k)) (outside J (rev (8 * start + k) / 8)) y);
+    })
 
 -- ---- the whole search
 

@@ -1,6 +1,7 @@
 -- What one slot, one spot and the whole search do to the marks and the queue. Assumes nothing.
 use mathlib.Core.Path.{_≡_}
 use mathlib.Core.Logic.{_≢_}
+use mathlib.Core.Bool.{Bool, _&&_}
 use mathlib.Core.List.{List}
 use Prim.Native.Nat.{ℕ, _+_, _*_, _/_, _≤_, _<_}
 use lib.Dec.{T}
@@ -61,6 +62,10 @@ pub record Front (J : Job) (rec : List ℕ) (start : ℕ) (t₀ t q f w : List �
   pub le : h ≤ n
   pub spread : Spread J rec start t₀ t q f w n
   pub done : Done J rec t q h
+
+-- slot k of u is a move that leads outside
+unfoldable pub leaves : Job → List ℕ → ℕ → ℕ → Bool
+leaves J rec u k = moves J rec (8 * u + k) && outside J (rev (8 * u + k) / 8)
 
 -- slot k of the j-th spot leads outside
 pub record Found (J : Job) (rec : List ℕ) (start : ℕ) (t₀ t q f w : List ℕ) (j k n : ℕ) : Type 0 where

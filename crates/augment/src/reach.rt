@@ -1,4 +1,5 @@
 // The search for a way out: breadth-first from one spot along moves, never entering a marked spot. It works on what is lent to it.
+ghost use mathlib.Core.Path.{_≡_};
 ghost use Prim.Native.Nat.{_+_, _*_, _≤_, _<_};
 ghost use lib.Dec.{T};
 ghost use lib.ListN.{length};
@@ -7,7 +8,8 @@ ghost use Rattle.channel.specs.Map.{spots, moves};
 ghost use Rattle.slots.specs.Ahead.{Bits};
 ghost use Rattle.augment.specs.Slots.{goesOn};
 ghost use Rattle.augment.specs.Spread.{Room};
-ghost use Rattle.augment.specs.Steps.{Whole, Ready, Tried, Expanded, Searched, Fresh};
+ghost use Rattle.augment.specs.Steps.{Whole, Ready, Tried, Expanded, leaves, Searched, Fresh};
+use channel::can_move;
 use channel::head_of;
 use channel::is_outside;
 use channel::lowest;
@@ -103,8 +105,8 @@ fn expand(
     Step::More(m)
 }
 
-// From start to the outside, or to all that moves reach.
-pub fn reach(
+// Spot by spot from start to the outside, or to all that moves reach.
+fn explore(
     job: &[u8],
     loads: &[u8],
     start: usize,
@@ -134,4 +136,38 @@ pub fn reach(
         h += 1;
     }
     Way::Closed(n)
+}
+
+// Whether a search at u is over at once: slot 4 of a chosen pin is its direct exit.
+fn leaves_directly(job: &[u8], loads: &[u8], u: usize) -> bool
+    requires { ⌜ Whole (now job) (now loads) × (u < 13128) ⌝ }
+    ensures { λ b. ⌜ b ≡ leaves (jobOf (now (job .entry))) (now (loads .entry)) u 4 ⌝ }
+{
+    let d = 8 * u + 4;
+    if !can_move(job, loads, d) {
+        return false;
+    }
+    is_outside(job, head_of(d))
+}
+
+// From start to the outside, by the direct exit if it can be; or to all that moves reach.
+pub fn reach(
+    job: &[u8],
+    loads: &[u8],
+    start: usize,
+    marks: &mut [u8],
+    queue: &mut [u16],
+    parent: &mut [u16],
+    slot: &mut [u8],
+) -> Way
+    requires { ⌜ Whole (now job) (now loads) × Room (now marks) (now queue) (now parent) (now slot) × Fresh (jobOf (now job)) (now marks) start ⌝ }
+    ensures { λ y. ⌜ Searched (jobOf (now (job .entry))) (now (loads .entry)) start
+        (now (marks .entry)) (now (marks .exit)) (now (queue .exit)) (now (parent .exit)) (now (slot .exit)) y ⌝ }
+{
+    if leaves_directly(job, loads, start) {
+        marks[start] = 1;
+        queue[0] = start as u16;
+        return Way::Out(0, 4, 1);
+    }
+    explore(job, loads, start, marks, queue, parent, slot)
 }
