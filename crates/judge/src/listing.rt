@@ -130,7 +130,7 @@ fn go_to(m: &mut Sheet, job: &Job, w: Walk, f: Found) -> Walk {
     go(m, w, f.at, v, value(f, 3))
 }
 
-// The `out` of the wire, with which the next pin's turn comes.
+// The `out` of the wire, from a rim side or from the wire's own pin, with which the next pin's turn comes.
 fn go_out(m: &mut Sheet, w: Walk, f: Found) -> Walk {
     if letter_of(w.node) != value(f, 0) {
         return at_fault(w, NO_LINK);

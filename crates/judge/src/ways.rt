@@ -95,26 +95,29 @@ pub fn dart(m: &Sheet, u: usize, v: usize) -> usize {
     }
 }
 
-// What a step from `u` to `v` adds to the length: 10 for a side, 14 for a missing pin.
+// What a step from `u` to `v` adds to the length: 10 for a side, 14 for a missing pin, nothing where a wire leaves its pin.
 pub fn step_length(u: usize, v: usize) -> u64
     ensures { λ r. ⌜ r < 16 ⌝ }
 {
     if v >= FIRST_PIN {
         return 14;
     }
-    if v == OUTSIDE {
-        return 10;
+    if u >= FIRST_PIN {
+        return 0;
     }
-    if u < FIRST_PIN && tile_of(u) != tile_of(v) {
+    if v == OUTSIDE || tile_of(u) != tile_of(v) {
         10
     } else {
         0
     }
 }
 
-// The letter of the side that the node is, 0 where it is none.
+// The letter of the side or the chosen pin that the node is, 0 where it is none of these.
 pub fn letter_of(u: usize) -> usize {
-    if u < 2 || u >= FIRST_PIN {
+    if u >= FIRST_PIN {
+        return if is_entry(u) { 0 } else { 112 };
+    }
+    if u < 2 {
         return 0;
     }
     match u % 6 {

@@ -23,6 +23,7 @@ use oracle_text::job::ROWS;
 use oracle_text::job::SIDE;
 use oracle_text::job::is_open;
 use oracle_text::job::is_pin;
+use oracle_text::job::is_rim;
 use oracle_text::job::mark;
 use oracle_text::job::number;
 ghost use Prim.Native.Nat.{_<_};
@@ -213,7 +214,7 @@ fn tile(m: &mut Sheet, job: &Job, t: usize)
     }
 }
 
-// The arcs of a chosen pin: one wire may start at it, and go to each of the four places round it.
+// The arcs of a chosen pin: one wire may start at it, and go to each of the four places round it, and from the rim to the outside.
 fn chosen(m: &mut Sheet, job: &Job, p: usize)
     requires { ⌜ p < 1600 ⌝ }
 {
@@ -225,6 +226,9 @@ fn chosen(m: &mut Sheet, job: &Job, p: usize)
     one_way(m, o, place(job, r + 1, c, E), 1);
     one_way(m, o, place(job, r, c, S), 1);
     one_way(m, o, place(job, r, c + 1, W), 1);
+    if is_rim(job, r, c) {
+        one_way(m, o, OUTSIDE, 1);
+    }
 }
 
 // The arcs of a missing pin: it passes E wires, to and from the four places round it.

@@ -72,6 +72,18 @@ pub fn is_pin(job: &Job, r: usize, c: usize) -> bool {
     r < number(job, ROWS) && c < number(job, COLUMNS)
 }
 
+// The pin stands in the first or last row or column.
+pub fn is_rim(job: &Job, r: usize, c: usize) -> bool {
+    if r < 40 {
+        if c < 40 {
+            let first = r == 0 || c == 0;
+            let last = r + 1 == number(job, ROWS) || c + 1 == number(job, COLUMNS);
+            return is_pin(job, r, c) && (first || last);
+        }
+    }
+    false
+}
+
 // The tile at row r, column c is one of the array.
 pub fn is_tile(job: &Job, r: usize, c: usize) -> bool {
     if r < 39 {
