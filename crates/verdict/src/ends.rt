@@ -1,6 +1,6 @@
 // The bytes of a record by docs/RECORD.md, and the two ends of each link. Link i is the load byte 3,968 + i: plane i / 1,600 of the loads (0 north sides, 1 west
-// sides, 2 to 5 corners, 6 to 9 spokes, 10 to 13 legs) at the cell i % 1,600. A place is 8 × its cell + its kind: 0 a chosen or missing pin, 2 to 5 n, e, s, w,
-// 6 a centre.
+// sides, 2 to 5 corners, 6 to 9 spokes, 10 to 13 legs, 14 direct exits) at the cell i % 1,600. A place is 8 × its cell + its kind: 0 a chosen or missing pin,
+// 2 to 5 n, e, s, w, 6 a centre.
 use crate::bytes::wide;
 ghost use Prim.Native.Nat.{_<_};
 
@@ -61,7 +61,7 @@ pub fn state(rec: &[u8], p: usize) -> usize
 pub fn load(rec: &[u8], i: usize) -> usize
     ensures { λ r. ⌜ r < 256 ⌝ }
 {
-    if i < 22400 { number(rec, 3968 + i) } else { 0 }
+    if i < 24000 { number(rec, 3968 + i) } else { 0 }
 }
 
 fn spot(r: usize, c: usize, kind: usize) -> usize {
@@ -100,7 +100,19 @@ fn pin_place(rec: &[u8], p: usize) -> usize {
     spot(p / 40, p % 40, 0)
 }
 
-// The place of the plane's tile (r, c) that the plane's link leaves the positive way; legs leave the pin.
+// Where a direct exit of the pin p leads: outside if the pin is chosen and in the first or last row or column, else nowhere.
+fn straight_out(rec: &[u8], p: usize) -> usize {
+    let down = p / 40 + 1;
+    let right = p % 40 + 1;
+    let first = down == 1 || right == 1;
+    let last = down == rows(rec) || right == columns(rec);
+    if mark(rec, p) == 1 && (first || last) {
+        return OUTSIDE;
+    }
+    NOWHERE
+}
+
+// The place of the plane's tile (r, c) that the plane's link leaves the positive way; legs and direct exits leave the pin.
 pub fn behind(rec: &[u8], i: usize) -> usize {
     let down = i % 1600 / 40 + 1;
     let right = i % 40 + 1;
@@ -127,16 +139,17 @@ pub fn ahead(rec: &[u8], i: usize) -> usize {
         1 | 4 | 9 => tile_place(rec, down, right, 5),
         10 => tile_place(rec, down - 1, right, 5),
         12 => tile_place(rec, down, right - 1, 3),
-        _ => tile_place(rec, down - 1, right - 1, 4),
+        13 => tile_place(rec, down - 1, right - 1, 4),
+        _ => straight_out(rec, i % 1600),
     }
 }
 
-// The link exists. A side may have one end outside.
+// The link exists. A side may have one end outside, and a direct exit has.
 pub fn exists(rec: &[u8], i: usize) -> bool {
     let a = behind(rec, i);
     let b = ahead(rec, i);
     if a == NOWHERE || b == NOWHERE || a == OUTSIDE && b == OUTSIDE {
         return false;
     }
-    i / 1600 < 2 || a != OUTSIDE && b != OUTSIDE
+    i / 1600 < 2 || i / 1600 == 14 || a != OUTSIDE && b != OUTSIDE
 }

@@ -83,7 +83,7 @@ fn load_fits(rec: &[u8], i: usize) -> bool {
 
 fn loads_fit(rec: &[u8]) -> bool {
     let mut i = 0;
-    while i < 22400 {
+    while i < 24000 {
         if !load_fits(rec, i) {
             return false;
         }
@@ -104,7 +104,7 @@ fn header_fits(rec: &[u8]) -> bool {
         && in_range(diagonal(rec), o, 2 * o)
         && extra(rec) <= 16
         && all(span(rec, 5, 763), 0)
-        && all(span(rec, 26368, 6400), 0)
+        && all(span(rec, 27968, 4800), 0)
 }
 
 // The mark and the state of the cell p, 40 r + c, are values that may stand there.
@@ -164,7 +164,7 @@ fn tally_load(rec: &[u8], into: &mut Counts, out: &mut Counts, i: usize) {
 
 // How many wires come to each place, and how many leave it.
 fn tally_loads(rec: &[u8], into: &mut Counts, out: &mut Counts) {
-    for i in 0..22400 {
+    for i in 0..24000 {
         tally_load(rec, into, out, i);
     }
 }
@@ -214,7 +214,7 @@ fn lead(rec: &[u8], left: &Counts, next: &mut Counts, i: usize) {
 // The places to which a wire leads from a place that is left.
 fn led(rec: &[u8], left: &Counts) -> Counts {
     let mut next = [0u16; 12802];
-    for i in 0..22400 {
+    for i in 0..24000 {
         lead(rec, left, &mut next, i);
     }
     next
@@ -262,6 +262,14 @@ pub fn is_legal(rec: &[u8]) -> bool {
         && !loops(rec)
 }
 
+// A wire leaves the pin p directly.
+pub fn is_direct(rec: &[u8], p: usize) -> bool {
+    if p < 1600 {
+        return mark(rec, p) == 1 && load(rec, 22400 + p) != 0;
+    }
+    false
+}
+
 // A wire starts at the pin p.
 pub fn is_wired(rec: &[u8], p: usize) -> bool {
     if p >= 1600 || mark(rec, p) != 1 {
@@ -271,7 +279,8 @@ pub fn is_wired(rec: &[u8], p: usize) -> bool {
         return load(rec, 16000 + p) != 0
             || load(rec, 17600 + p) != 0
             || load(rec, 19200 + p) != 0
-            || load(rec, 20800 + p) != 0;
+            || load(rec, 20800 + p) != 0
+            || is_direct(rec, p);
     }
     false
 }

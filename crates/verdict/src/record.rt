@@ -4,6 +4,7 @@ use crate::bytes::all;
 use crate::bytes::hold;
 use crate::bytes::rest;
 use crate::bytes::span;
+use crate::legal::is_direct;
 use crate::legal::is_legal;
 use crate::legal::is_wired;
 use check::same;
@@ -20,7 +21,7 @@ pub fn holds_job(rec: &Record, job: &[u8]) -> bool {
     same(span(rec, 0, 5), span(job, 0, 5))
         && all(span(rec, 5, 763), 0)
         && same(span(rec, 768, 3200), span(job, 5, 3200))
-        && all(span(rec, 26368, 6400), 0)
+        && all(span(rec, 27968, 4800), 0)
         && all(rest(rec, 32768), BEYOND)
 }
 
@@ -30,7 +31,7 @@ pub fn legal(rec: &Record) -> bool {
 
 // The record holds the job without a wire.
 pub fn holds_unwired(rec: &Record, job: &[u8]) -> bool {
-    holds_job(rec, job) && all(span(rec, 3968, 22400), 0)
+    holds_job(rec, job) && all(span(rec, 3968, 24000), 0)
 }
 
 fn wired(rec: &Record, p: usize) -> usize
@@ -46,6 +47,23 @@ pub fn count_wires(rec: &Record) -> usize
     let mut n = 0;
     for p in 0..1600 {
         n += wired(rec, p);
+    }
+    n
+}
+
+fn direct(rec: &Record, p: usize) -> usize
+    ensures { λ r. ⌜ r < 2 ⌝ }
+{
+    if is_direct(rec, p) { 1 } else { 0 }
+}
+
+// How many pins have a wire that leaves directly.
+pub fn count_direct(rec: &Record) -> usize
+    ensures { λ r. ⌜ r < 1601 ⌝ }
+{
+    let mut n = 0;
+    for p in 0..1600 {
+        n += direct(rec, p);
     }
     n
 }

@@ -5,10 +5,10 @@ use Rattle.verdict.proofs.legal.led.Statement.{statement}
 use Rattle.verdict.proofs.legal.led.Tie as tie
 
 abbrev Inv-loop : tie.InvT-loop
-Inv-loop rec left next₀ i₀ next i = i ≤ 22400
+Inv-loop rec left next₀ i₀ next i = i ≤ 24000
 
 abbrev μ-loop : tie.MeasureT-loop
-μ-loop rec left next₀ i₀ next i = 22400 - i
+μ-loop rec left next₀ i₀ next i = 24000 - i
 
 loop-holds : tie.Need-loop-holds Inv-loop μ-loop
 loop-holds c = search needs

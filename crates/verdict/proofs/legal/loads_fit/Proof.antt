@@ -5,10 +5,10 @@ use Rattle.verdict.proofs.legal.loads_fit.Statement.{statement}
 use Rattle.verdict.proofs.legal.loads_fit.Tie as tie
 
 abbrev Inv-loop : tie.InvT-loop
-Inv-loop rec i₀ i = i ≤ 22400
+Inv-loop rec i₀ i = i ≤ 24000
 
 abbrev μ-loop : tie.MeasureT-loop
-μ-loop rec i₀ i = 22400 - i
+μ-loop rec i₀ i = 24000 - i
 
 loop-holds : tie.Need-loop-holds Inv-loop μ-loop
 loop-holds c = search needs

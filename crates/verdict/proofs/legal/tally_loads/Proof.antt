@@ -5,10 +5,10 @@ use Rattle.verdict.proofs.legal.tally_loads.Statement.{statement}
 use Rattle.verdict.proofs.legal.tally_loads.Tie as tie
 
 abbrev Inv-loop : tie.InvT-loop
-Inv-loop rec into₀ out₀ i₀ into out i = i ≤ 22400
+Inv-loop rec into₀ out₀ i₀ into out i = i ≤ 24000
 
 abbrev μ-loop : tie.MeasureT-loop
-μ-loop rec into₀ out₀ i₀ into out i = 22400 - i
+μ-loop rec into₀ out₀ i₀ into out i = 24000 - i
 
 loop-holds : tie.Need-loop-holds Inv-loop μ-loop
 loop-holds c = search needs
