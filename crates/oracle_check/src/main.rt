@@ -1,7 +1,10 @@
 // Runs the oracle on the vectors of data/: NAME.job with NAME.expect, what `escape` is to print for it (of a wired job only
 // the first line), and for a wired job NAME.list, a legal listing. It writes the name of each vector that does not agree
-// and how many do: texts refused, jobs short, jobs wired. Then it changes each byte of two listings, all of which have to be
-// refused, and has random jobs written and read back, and the sum of each near side compared with the greatest number.
+// and how many do: texts refused, jobs short, jobs wired. Then it changes each byte of three listings, all of which have to be
+// refused, has listings with direct exits judged, and random jobs written and read back, and the sum of each near side compared
+// with the greatest number.
+mod direct; // listings with direct exits
+
 use check::same;
 use judge::listing::check_listing;
 use judge::walk::LEGAL;
@@ -151,30 +154,30 @@ fn run(counts: &mut [u64; 4], name: &[u8]) {
     tally(counts, k);
 }
 
-// The vector STEM with the number k, of three digits.
+// The vector STEM with the number k, of two digits.
 fn numbered(counts: &mut [u64; 4], stem: &[u8], k: usize) {
     let mut name = [0u8; 262144];
     let a = word(&mut name, 0, stem);
     let b = if k < 10 { byte(&mut name, a, b'0') } else { a };
-    let c = if k < 100 { byte(&mut name, b, b'0') } else { b };
-    let d = decimal(&mut name, c, k);
-    run(counts, bytes(&name, d));
+    let c = decimal(&mut name, b, k);
+    run(counts, bytes(&name, c));
 }
 
-fn series(counts: &mut [u64; 4], stem: &[u8]) {
-    for k in 0..60 {
+// The first `n` vectors of the stem.
+fn series(counts: &mut [u64; 4], stem: &[u8], n: usize) {
+    for k in 0..n {
         numbered(counts, stem, k);
     }
 }
 
 fn vectors() {
     let mut counts = [0u64; 4];
-    series(&mut counts, b"job");
-    series(&mut counts, b"text");
+    series(&mut counts, b"job0", 60);
+    series(&mut counts, b"text0", 60);
     run(&mut counts, b"empty");
     run(&mut counts, b"four");
-    run(&mut counts, b"short64");
-    run(&mut counts, b"three");
+    series(&mut counts, b"K2/job", 16);
+    series(&mut counts, b"K2/text", 4);
     line(b"refused", counts[0]);
     line(b"short", counts[1]);
     line(b"wired", counts[2]);
@@ -269,9 +272,18 @@ fn random() {
     line(b"random wrong", counts[3]);
 }
 
+fn direct_exits() {
+    let mut counts = [0u64; 2];
+    direct::direct(&mut counts);
+    line(b"direct exits judged", counts[0]);
+    line(b"direct exits misjudged", counts[1]);
+}
+
 fn main() {
     vectors();
     spoil(b"four");
     spoil(b"job000");
+    spoil(b"K2/job05");
+    direct_exits();
     random();
 }

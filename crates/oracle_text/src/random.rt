@@ -103,7 +103,7 @@ pub fn random_job(seed: u32, most: usize, job: &mut Job) -> u32 {
     let rates = Rates {
         chosen: below(f, 1001),
         missing: below(g, 400),
-        closed: below(h, 300),
+        closed: below(h, 700),
     };
     draw_cells(job, h, rates)
 }

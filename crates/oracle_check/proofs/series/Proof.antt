@@ -5,10 +5,10 @@ use Rattle.oracle_check.proofs.series.Statement.{statement}
 use Rattle.oracle_check.proofs.series.Tie as tie
 
 abbrev Inv-loop : tie.InvT-loop
-Inv-loop counts₀ stem k₀ counts k = k ≤ 60
+Inv-loop counts₀ stem n k₀ counts k = k ≤ n
 
 abbrev μ-loop : tie.MeasureT-loop
-μ-loop counts₀ stem k₀ counts k = 60 - k
+μ-loop counts₀ stem n k₀ counts k = n - k
 
 loop-holds : tie.Need-loop-holds Inv-loop μ-loop
 loop-holds c = search needs
