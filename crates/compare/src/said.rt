@@ -62,6 +62,7 @@ pub fn is(a: Answer, kind: usize, number: usize) -> bool {
 fn letter(place: usize) -> u8 {
     match place {
         0 => b'r',
+        1 => b'p',
         2 => b'n',
         3 => b'e',
         4 => b's',

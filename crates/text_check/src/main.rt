@@ -1,4 +1,4 @@
-// Runs the reader and the writer of job text. On the vectors of data/, textNNN.job with textNNN.expect: a wrong text is refused as the expected line says, and
+// Runs the reader and the writer of job text. On the vectors of data/, NAME.job with NAME.expect: a wrong text is refused as the expected line says, and
 // one that reads is written again byte for byte. On the examples of document 01. On the example with one bit changed, where the oracle has to agree, and on
 // the texts of random jobs, which have to come back. It writes the name of each vector that does not agree, and then the counts, with ok if nothing is wrong.
 use check::same;
@@ -156,25 +156,31 @@ fn tally_right(counts: &mut [u64; 5], right: bool, k: usize) {
     tally(counts, if right { k } else { WRONG });
 }
 
-// The vector with the number k, of three digits.
-fn numbered(counts: &mut [u64; 5], k: usize) {
+// The vector STEM with the number k, of two digits.
+fn numbered(counts: &mut [u64; 5], stem: &[u8], k: usize) {
     let mut name = [0u8; 262144];
-    let a = word(&mut name, 0, b"text");
+    let a = word(&mut name, 0, stem);
     let b = if k < 10 { byte(&mut name, a, b'0') } else { a };
-    let c = if k < 100 { byte(&mut name, b, b'0') } else { b };
-    let d = decimal(&mut name, c, k);
-    let came = vector(bytes(&name, d));
+    let c = decimal(&mut name, b, k);
+    let came = vector(bytes(&name, c));
     if came == WRONG {
-        io::write_all(STDOUT_FILENO, bytes(&name, d));
+        io::write_all(STDOUT_FILENO, bytes(&name, c));
         io::write_all(STDOUT_FILENO, b"\n");
     }
     tally(counts, came);
 }
 
-fn vectors(counts: &mut [u64; 5]) {
-    for k in 0..60 {
-        numbered(counts, k);
+// The first `n` vectors of the stem.
+fn series(counts: &mut [u64; 5], stem: &[u8], n: usize) {
+    for k in 0..n {
+        numbered(counts, stem, k);
     }
+}
+
+fn vectors(counts: &mut [u64; 5]) {
+    series(counts, b"text0", 60);
+    series(counts, b"K2/job", 16);
+    series(counts, b"K2/text", 4);
 }
 
 // The examples that document 01 gives, and an output that is too short for the first.

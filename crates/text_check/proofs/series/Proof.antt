@@ -1,14 +1,14 @@
--- `vectors` is safe and ends. The loop's counter is at most its end. Assumes nothing.
+-- `series` is safe and ends. The loop's counter is at most its end. Assumes nothing.
 use Prim.Native.Nat.{_≤_, _-_}
 use borrow.Author.Needs.{needs}
-use Rattle.text_check.proofs.vectors.Statement.{statement}
-use Rattle.text_check.proofs.vectors.Tie as tie
+use Rattle.text_check.proofs.series.Statement.{statement}
+use Rattle.text_check.proofs.series.Tie as tie
 
 abbrev Inv-loop : tie.InvT-loop
-Inv-loop counts₀ k₀ counts k = k ≤ 60
+Inv-loop counts₀ stem n k₀ counts k = k ≤ n
 
 abbrev μ-loop : tie.MeasureT-loop
-μ-loop counts₀ k₀ counts k = 60 - k
+μ-loop counts₀ stem n k₀ counts k = n - k
 
 loop-holds : tie.Need-loop-holds Inv-loop μ-loop
 loop-holds c = search needs
@@ -28,7 +28,7 @@ loop-again c = search needs
 returns : tie.Need-returns Inv-loop μ-loop
 returns c = search needs
 
-pub vectors-spec : {M : Type 1} → statement M
-vectors-spec =
+pub series-spec : {M : Type 1} → statement M
+series-spec =
     tie.close
     (tie.spec Inv-loop μ-loop loop-holds numbered-requires add-k loop-less loop-again returns)
