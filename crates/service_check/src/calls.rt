@@ -46,6 +46,7 @@ use verdict::bytes::line;
 use verdict::bytes::split_at;
 use verdict::record::BEYOND;
 use verdict::record::Record;
+use verdict::record::count_direct;
 use verdict::record::count_wires;
 use verdict::record::hold_added;
 
@@ -187,9 +188,9 @@ fn call(
 fn editing(n: usize) -> usize {
     match n {
         0 => 0,
-        1 => 1,
-        2..=15 => 2,
-        16..=21 => 3,
+        1..=4 => 1,
+        5..=13 => 2,
+        14..=21 => 3,
         22..=24 => 4,
         25 => 5,
         26..=28 => 6,
@@ -215,9 +216,19 @@ fn kind_of(x: u32, k: usize) -> usize {
     if k % 128 < 56 { editing(n) } else { asking(n) }
 }
 
+// Counts the call: whether some wire of the record leaves its pin directly afterwards, or none.
+fn note(direct: &mut Tally, rec: &Record) {
+    if count_direct(rec) > 0 {
+        direct[0] = std::num::wrapping_add_u64(direct[0], 1);
+    } else {
+        direct[1] = std::num::wrapping_add_u64(direct[1], 1);
+    }
+}
+
 // The k-th call; gives the generator's number afterwards.
 fn draw(
     tally: &mut Tally,
+    direct: &mut Tally,
     rec: &mut Record,
     job: &mut Job,
     page: &mut Page,
@@ -230,22 +241,29 @@ fn draw(
     if tally[1] != wrong {
         line(b"in the random call", k as u64);
     }
+    note(direct, rec);
     next
 }
 
-fn draw_all(tally: &mut Tally, rec: &mut Record, job: &mut Job, page: &mut Page) {
+fn draw_all(
+    tally: &mut Tally,
+    direct: &mut Tally,
+    rec: &mut Record,
+    job: &mut Job,
+    page: &mut Page,
+) {
     let mut seed = 88675123;
     for k in 0..6000 {
-        seed = draw(tally, rec, job, page, seed, k);
+        seed = draw(tally, direct, rec, job, page, seed, k);
     }
 }
 
-// A list of calls that starts with an accepted New.
-pub fn calls(tally: &mut Tally) {
+// A list of calls that starts with an accepted New. `direct` counts them: those after which some wire leaves its pin directly, and the others.
+pub fn calls(tally: &mut Tally, direct: &mut Tally) {
     let mut page = [0u8; 1048576];
     let mut rec = [BEYOND; 32800];
     let mut job = fresh(4, 5, 2, 3, 1);
     let answer = service::new(&mut rec, 4, 5, 2, 3, 1);
     hold(tally, compare::said::is(answer, DONE, 0), b"the first new");
-    draw_all(tally, &mut rec, &mut job, &mut page);
+    draw_all(tally, direct, &mut rec, &mut job, &mut page);
 }

@@ -1,5 +1,6 @@
-// The examples of document 01: those of its text, and those settled by hand.
+// The examples of document 01: those of its text, and those settled by hand, with direct exits; and short jobs with inner pins.
 use check::same;
+use compare::listed::held;
 use compare::listed::list_text;
 use compare::listed::shown;
 use compare::said::ADDED;
@@ -13,8 +14,12 @@ use compare::said::WRONG_TEXT;
 use compare::said::agree;
 use compare::said::coded;
 use compare::said::is;
+use compare::said::put_listed;
 use compare::said::say;
+use judge::listing::check_listing;
+use judge::walk::LEGAL;
 use listing::Page;
+use oracle_text::text::read_text;
 use verdict::bytes::Tally;
 use verdict::bytes::first;
 use verdict::bytes::hold;
@@ -41,12 +46,24 @@ const THREE: [u8; 116] =
 // A missing pin, and nothing chosen.
 const MISSING: [u8; 52] = *b"(array (pins 2 2) (caps 1 2 0))\n(missing 0 1)\n(end)\n";
 
-// The listing of the four pins, and that of the three.
-const FOUR_LISTED: [u8; 170] =
-    *b"(wires 4)\n(wire (pin 0 0) (to 0 0 n 0) (out n 0))\n(wire (pin 0 1) (to 0 0 e 0) (out e 0))\n(wire (pin 1 0) (to 0 0 w 0) (out w 0))\n(wire (pin 1 1) (to 0 0 s 0) (out s 0))\n";
+// Every tile closed, the inner pin chosen.
+const SHUT: [u8; 103] =
+    *b"(array (pins 3 3) (caps 1 2 0))\n(chosen 1 1)\n(closed 0 0)\n(closed 0 1)\n(closed 1 0)\n(closed 1 1)\n(end)\n";
 
-const THREE_LISTED: [u8; 135] =
-    *b"(short 1)\n(near pin 0 0)\n(near pin 1 0)\n(near pin 1 1)\n(near 0 0 n)\n(near 0 0 e)\n(near 0 0 s)\n(near 0 0 w)\n(near 0 0 ci)\n(near 0 0 co)\n";
+// Tile 0 1 alone open, both inner pins chosen, and one wire through a centre.
+const NARROW: [u8; 129] =
+    *b"(array (pins 3 4) (caps 1 1 0))\n(chosen 1 1)\n(chosen 1 2)\n(closed 0 0)\n(closed 0 2)\n(closed 1 0)\n(closed 1 1)\n(closed 1 2)\n(end)\n";
+
+// The same with two wires through a centre, and a missing pin on the rim.
+const RIM_MISSING: [u8; 143] =
+    *b"(array (pins 3 4) (caps 1 2 2))\n(chosen 1 1)\n(chosen 1 2)\n(missing 0 1)\n(closed 0 0)\n(closed 0 2)\n(closed 1 0)\n(closed 1 1)\n(closed 1 2)\n(end)\n";
+
+// The listings of the last two.
+const NARROW_LISTED: [u8; 80] =
+    *b"(short 1)\n(near pin 1 1)\n(near pin 1 2)\n(near 0 1 s)\n(near 0 1 w)\n(near 0 1 ci)\n";
+
+const RIM_MISSING_LISTED: [u8; 148] =
+    *b"(short 1)\n(near pin 1 1)\n(near pin 1 2)\n(near ri 0 1)\n(near ro 0 1)\n(near 0 1 n)\n(near 0 1 e)\n(near 0 1 s)\n(near 0 1 w)\n(near 0 1 ci)\n(near 0 1 co)\n";
 
 // Read text answers so, on a record of its own; the text stands for what came out wrong.
 fn reads(tally: &mut Tally, text: &[u8], kind: usize, number: usize) {
@@ -96,16 +113,29 @@ fn lists(tally: &mut Tally, text: &[u8], expected: &[u8], page: &mut Page) {
     hold(tally, same(shown(page, n), expected), expected);
 }
 
+// The router's listing of the text begins so, and is legal.
+fn lists_legally(tally: &mut Tally, text: &[u8], count: &[u8], page: &mut Page) {
+    let mut job = [0u8; 3205];
+    read_text(text, &mut job);
+    let n = list_text(text, page);
+    let w = check_listing(&job, shown(page, n));
+    let begins = same(first(shown(page, n), count.len()), count);
+    hold(tally, begins && w.fault == LEGAL, text);
+}
+
 fn listings(tally: &mut Tally) {
     let mut page = [0u8; 1048576];
-    lists(tally, &FOUR, &FOUR_LISTED, &mut page);
+    lists_legally(tally, &FOUR, b"(wires 4)\n", &mut page);
+    lists_legally(tally, &THREE, b"(wires 3)\n", &mut page);
     lists(
         tally,
         &SIXTY_FOUR,
-        b"(short 1)\n(near pin 0 0)\n",
+        b"(wires 1)\n(wire (pin 0 0) (out p 0))\n",
         &mut page,
     );
-    lists(tally, &THREE, &THREE_LISTED, &mut page);
+    lists(tally, &SHUT, b"(short 1)\n(near pin 1 1)\n", &mut page);
+    lists(tally, &NARROW, &NARROW_LISTED, &mut page);
+    lists(tally, &RIM_MISSING, &RIM_MISSING_LISTED, &mut page);
     lists(tally, &EXCHANGED, b"(refused 6 45)\n", &mut page);
     lists(tally, &MISSING, b"(wires 0)\n", &mut page);
 }
@@ -160,14 +190,24 @@ fn lacks(tally: &mut Tally, rec: &[u8; 32768], number: usize, near: &[u8; 32768]
     hold(tally, same(&mine, near), b"an example's near side");
 }
 
-// The 64 bytes: short 1, only pin 0 0 near.
+// Part answers so of the pin 0 0 at the index.
+fn part_is(tally: &mut Tally, rec: &[u8; 32768], index: usize, expected: &[u8]) {
+    let mut sheet = [0u8; 262144];
+    let n = put_listed(&mut sheet, 0, service::part(rec, 0, 0, index));
+    hold(tally, same(held(&sheet, n), expected), b"an example's part");
+}
+
+// The 64 bytes: one "added", and the pin leaves directly.
 fn sixty_four(tally: &mut Tally) {
     let mut rec = [7u8; 32768];
-    let mut near = [0u8; 32768];
-    near[329] = 1;
     read_into(tally, &mut rec, &SIXTY_FOUR);
-    steps(tally, &mut rec, SHORT);
-    lacks(tally, &rec, 1, &near);
+    part_is(tally, &rec, 0, b"unwired");
+    steps(tally, &mut rec, ADDED);
+    steps(tally, &mut rec, ALL_WIRED);
+    lacks(tally, &rec, 0, &[2u8; 32768]);
+    part_is(tally, &rec, 0, b" (out p 0)");
+    part_is(tally, &rec, 1, b"past");
+    part_is(tally, &rec, 18446744073709551615, b"past");
 }
 
 // Nothing chosen: all wired, never "added", and no near side.
@@ -178,29 +218,40 @@ fn nothing(tally: &mut Tally) {
     lacks(tally, &rec, 0, &[2u8; 32768]);
 }
 
-// The near side of the three pins: they, and the six of tile 0 0.
-fn three_near() -> [u8; 32768] {
-    let mut near = [0u8; 32768];
-    near[329] = 1;
-    near[330] = 1;
-    near[331] = 1;
-    near[332] = 1;
-    near[333] = 1;
-    near[334] = 1;
-    near[335] = 1;
-    near[649] = 1;
-    near[657] = 1;
-    near
-}
-
-// Three pins and one tile: two "added", short 1.
+// Three pins and one tile, two of the pins on the rim: three "added".
 fn three(tally: &mut Tally) {
     let mut rec = [7u8; 32768];
     read_into(tally, &mut rec, &THREE);
     steps(tally, &mut rec, ADDED);
     steps(tally, &mut rec, ADDED);
+    steps(tally, &mut rec, ADDED);
+    steps(tally, &mut rec, ALL_WIRED);
+    lacks(tally, &rec, 0, &[2u8; 32768]);
+}
+
+// Every tile closed: short 1, only the inner pin near.
+fn shut(tally: &mut Tally) {
+    let mut rec = [7u8; 32768];
+    let mut near = [0u8; 32768];
+    near[657] = 1;
+    read_into(tally, &mut rec, &SHUT);
     steps(tally, &mut rec, SHORT);
-    lacks(tally, &rec, 1, &three_near());
+    lacks(tally, &rec, 1, &near);
+}
+
+// One wire through the centre: one "added", short 1; near are both pins and s, w, ci of tile 0 1.
+fn narrow(tally: &mut Tally) {
+    let mut rec = [7u8; 32768];
+    let mut near = [0u8; 32768];
+    near[340] = 1;
+    near[341] = 1;
+    near[342] = 1;
+    near[657] = 1;
+    near[665] = 1;
+    read_into(tally, &mut rec, &NARROW);
+    steps(tally, &mut rec, ADDED);
+    steps(tally, &mut rec, SHORT);
+    lacks(tally, &rec, 1, &near);
 }
 
 pub fn examples(tally: &mut Tally) {
@@ -210,4 +261,6 @@ pub fn examples(tally: &mut Tally) {
     sixty_four(tally);
     nothing(tally);
     three(tally);
+    shut(tally);
+    narrow(tally);
 }

@@ -7,6 +7,7 @@ mod examples; // the examples of document 01
 mod expect; // what a call has to answer
 mod lookup; // a part in a listing
 
+use verdict::bytes::line;
 use verdict::bytes::tell;
 
 fn main() {
@@ -14,6 +15,9 @@ fn main() {
     examples::examples(&mut examples);
     tell(b"examples", &examples);
     let mut calls = [0u64; 2];
-    calls::calls(&mut calls);
+    let mut direct = [0u64; 2];
+    calls::calls(&mut calls, &mut direct);
     tell(b"random calls", &calls);
+    line(b"calls after which a wire leaves directly", direct[0]);
+    line(b"calls after which none does", direct[1]);
 }
