@@ -63,7 +63,7 @@ fn less(x: usize) -> usize
 
 // One wire more on the link of the plane at row r, column c, the positive way or the other.
 fn push(rec: &mut Record, plane: usize, r: usize, c: usize, positive: bool) {
-    if plane < 14 {
+    if plane < 15 {
         if r < 40 {
             if c < 40 {
                 let i = 1600 * plane + 40 * r + c;
@@ -125,7 +125,7 @@ fn spoil_cell(rec: &mut Record, x: u32, y: u32) {
 fn spoil_load(rec: &mut Record, x: u32, y: u32) {
     let r = x as usize % 9;
     let c = x as usize / 16 % 9;
-    let plane = x as usize / 256 % 14;
+    let plane = x as usize / 256 % 15;
     match below(y, 4) {
         0 => push(rec, plane, r, c, true),
         1 => push(rec, plane, r, c, false),
@@ -133,16 +133,52 @@ fn spoil_load(rec: &mut Record, x: u32, y: u32) {
     }
 }
 
+fn set_direct(rec: &mut Record, r: usize, c: usize, v: usize) {
+    if r < 40 {
+        if c < 40 {
+            set(rec, 26368 + 40 * r + c, v);
+        }
+    }
+}
+
+// The direct exit of a north-west cell, mostly of the first row or column: none, one wire, two, or any byte.
+fn spoil_direct(rec: &mut Record, x: u32, y: u32) {
+    let r = if x % 2 == 0 { 0 } else { x as usize / 8 % 9 };
+    let c = if x / 2 % 2 == 0 {
+        0
+    } else {
+        x as usize / 128 % 9
+    };
+    let value = match below(y, 8) {
+        0 | 1 => 0,
+        2 | 3 | 4 => 1,
+        5 => 2,
+        _ => below(y / 8, 256),
+    };
+    set_direct(rec, r, c, value);
+}
+
+// A wire of the pin (0, c) by its leg east and out of the north side of the tile there, beside its direct exit or in place of it.
+fn lead_north(rec: &mut Record, c: usize, beside: bool) {
+    push(rec, 11, 0, c, true);
+    push(rec, 0, 0, c, true);
+    if !beside {
+        set_direct(rec, 0, c, 0);
+    }
+}
+
 fn spoil(rec: &mut Record, x: u32, y: u32, z: u32) {
     let r = below(y, 7);
     let c = below(y / 8, 7);
-    match below(x, 10) {
+    match below(x, 12) {
         0 => spoil_header(rec, y),
         1 => spoil_any(rec, y, z),
         2 | 3 => spoil_cell(rec, y, z),
         4 | 5 | 6 => spoil_load(rec, y, z),
         7 => turn_tile(rec, r, c, z % 2 == 0),
         8 => turn_centre(rec, r, c, z % 2 == 0),
+        9 => spoil_direct(rec, y, z),
+        10 => lead_north(rec, c, z % 2 == 0),
         _ => turn_pin(rec, r, c, z % 2 == 0),
     }
 }

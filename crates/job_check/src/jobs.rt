@@ -1,4 +1,5 @@
 // Random jobs: each is read from the oracle's text, stepped to the end, and held to the oracle's greatest number, near side and listing.
+use crate::legs::lay_north;
 use crate::parts::list_by_parts;
 use check::same;
 use compare::lent::write_on;
@@ -33,6 +34,7 @@ use verdict::bytes::split_at;
 use verdict::legal::is_wired;
 use verdict::record::BEYOND;
 use verdict::record::Record;
+use verdict::record::count_direct;
 use verdict::record::count_wires;
 use verdict::record::hold_added;
 use verdict::record::holds_job;
@@ -152,6 +154,14 @@ fn ask_copy(tally: &mut Tally, rec: &Record, job: &Job, missed: usize, near: &[u
     );
 }
 
+// The same from wires of rim pins that leave by a leg.
+fn ask_legs(tally: &mut Tally, rec: &Record, job: &Job, missed: usize, near: &[u8; 32768]) {
+    let mut laid = *rec;
+    lay_north(&mut laid, job);
+    hold(tally, legal(&laid), b"the wires of legs are legal");
+    ask_copy(tally, &laid, job, missed, near);
+}
+
 // The most steps taken in one job; what is left is then laid at once.
 const MOST: usize = 64;
 
@@ -220,8 +230,16 @@ fn ask_parts(tally: &mut Tally, rec: &Record, job: &Job, list: &[u8]) {
     );
 }
 
+// Counts the wires of the record: those that leave directly, and all others.
+fn count_exits(exits: &mut Tally, rec: &Record) {
+    let n = count_direct(rec);
+    let m = std::num::wrapping_sub_usize(count_wires(rec), n);
+    exits[0] = std::num::wrapping_add_u64(exits[0], n as u64);
+    exits[1] = std::num::wrapping_add_u64(exits[1], m as u64);
+}
+
 // All that is asked of one job; of the parts only where they are few.
-fn judge(tally: &mut Tally, job: &Job, page: &mut Page, parts: bool) {
+fn judge(tally: &mut Tally, exits: &mut Tally, job: &Job, page: &mut Page, parts: bool) {
     let mut sheet = [0u8; 262144];
     let mut near = [0u8; 32768];
     let mut rec = [BEYOND; 32800];
@@ -234,7 +252,9 @@ fn judge(tally: &mut Tally, job: &Job, page: &mut Page, parts: bool) {
     );
     hold(tally, holds_unwired(&rec, job), b"read text gives the job");
     ask_copy(tally, &rec, job, missed, &near);
+    ask_legs(tally, &rec, job, missed, &near);
     step_on(tally, &mut rec, job, missed, &near, page);
+    count_exits(exits, &rec);
     let m = ask_listing(tally, &rec, job, page);
     ask_text(tally, &rec, held(&sheet, n));
     if parts {
@@ -254,22 +274,22 @@ fn size(k: usize) -> usize {
 }
 
 // The k-th job; gives the generator's number afterwards.
-fn draw(tally: &mut Tally, page: &mut Page, seed: u32, k: usize) -> u32 {
+fn draw(tally: &mut Tally, exits: &mut Tally, page: &mut Page, seed: u32, k: usize) -> u32 {
     let mut job = [0u8; 3205];
     let wrong = tally[1];
     let next = random_job(seed, size(k), &mut job);
-    judge(tally, &job, page, k % 32 == 0);
+    judge(tally, exits, &job, page, k % 32 == 0);
     if tally[1] != wrong {
         line(b"in the random job", seed as u64);
     }
     next
 }
 
-// Random jobs, each drawn with the number that the one before left.
-pub fn jobs(tally: &mut Tally) {
+// Random jobs, each drawn with the number that the one before left. `exits` counts the wires at the end: those that leave directly, and the others.
+pub fn jobs(tally: &mut Tally, exits: &mut Tally) {
     let mut page = [0u8; 1048576];
     let mut seed = 2463534242;
     for k in 0..3000 {
-        seed = draw(tally, &mut page, seed, k);
+        seed = draw(tally, exits, &mut page, seed, k);
     }
 }

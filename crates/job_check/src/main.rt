@@ -2,6 +2,7 @@
 // and on damaged records with the verdict. It writes what came out wrong, and how many checks of each part are right and wrong.
 mod damage; // damaged records
 mod jobs; // random jobs
+mod legs; // wires of rim pins that leave by a leg
 mod parts; // the listing by Part
 mod vectors; // the vectors of data/
 
@@ -13,8 +14,11 @@ fn main() {
     vectors::vectors(&mut vectors);
     tell(b"vectors", &vectors);
     let mut jobs = [0u64; 2];
-    jobs::jobs(&mut jobs);
+    let mut exits = [0u64; 2];
+    jobs::jobs(&mut jobs, &mut exits);
     tell(b"random jobs", &jobs);
+    line(b"wires that leave directly", exits[0]);
+    line(b"wires that leave by a side", exits[1]);
     let mut damage = [0u64; 2];
     let mut kept = [0u64; 2];
     damage::damage(&mut damage, &mut kept);

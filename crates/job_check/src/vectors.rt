@@ -59,28 +59,28 @@ fn vector(tally: &mut Tally, page: &mut Page, name: &[u8]) {
     );
 }
 
-// The vector STEM with the number k, of three digits.
+// The vector STEM with the number k, of two digits.
 fn numbered(tally: &mut Tally, page: &mut Page, stem: &[u8], k: usize) {
     let mut name = [0u8; 262144];
     let a = word(&mut name, 0, stem);
     let b = if k < 10 { byte(&mut name, a, b'0') } else { a };
-    let c = if k < 100 { byte(&mut name, b, b'0') } else { b };
-    let d = decimal(&mut name, c, k);
-    vector(tally, page, held(&name, d));
+    let c = decimal(&mut name, b, k);
+    vector(tally, page, held(&name, c));
 }
 
-fn series(tally: &mut Tally, page: &mut Page, stem: &[u8]) {
-    for k in 0..60 {
+// The first `n` vectors of the stem.
+fn series(tally: &mut Tally, page: &mut Page, stem: &[u8], n: usize) {
+    for k in 0..n {
         numbered(tally, page, stem, k);
     }
 }
 
 pub fn vectors(tally: &mut Tally) {
     let mut page = [0u8; 1048576];
-    series(tally, &mut page, b"job");
-    series(tally, &mut page, b"text");
+    series(tally, &mut page, b"job0", 60);
+    series(tally, &mut page, b"text0", 60);
     vector(tally, &mut page, b"empty");
     vector(tally, &mut page, b"four");
-    vector(tally, &mut page, b"short64");
-    vector(tally, &mut page, b"three");
+    series(tally, &mut page, b"K2/job", 16);
+    series(tally, &mut page, b"K2/text", 4);
 }

@@ -5,10 +5,10 @@ use Rattle.job_check.proofs.vectors.series.Statement.{statement}
 use Rattle.job_check.proofs.vectors.series.Tie as tie
 
 abbrev Inv-loop : tie.InvT-loop
-Inv-loop tally₀ page₀ stem k₀ tally page k = k ≤ 60
+Inv-loop tally₀ page₀ stem n k₀ tally page k = k ≤ n
 
 abbrev μ-loop : tie.MeasureT-loop
-μ-loop tally₀ page₀ stem k₀ tally page k = 60 - k
+μ-loop tally₀ page₀ stem n k₀ tally page k = n - k
 
 loop-holds : tie.Need-loop-holds Inv-loop μ-loop
 loop-holds c = search needs
