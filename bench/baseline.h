@@ -150,6 +150,8 @@ inline Answer route(const Job &job) {
             if (mark == 2) net.link(at(entry, r, c), at(leave, r, c), job.e, 0);
             if (mark == 1) {
                 net.link(source, at(leave, r, c), 1, 0);
+                // straight out of the first and last rows and columns
+                if (r == 0 || r == job.rows - 1 || c == 0 || c == job.columns - 1) net.link(at(leave, r, c), outside, 1, 0);
                 chosen++;
             }
         }
