@@ -11,6 +11,7 @@ pub mod Marks
 pub mod Spread
 pub mod Steps
 pub mod Queue
+pub mod Turns
 pub mod Slots
 pub mod Ways
 -- The search over all pins.

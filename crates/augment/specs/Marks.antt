@@ -33,7 +33,7 @@ marked-byte t u m = eqb→eq (getD t u 0) 1 (and-right (ltb u spots) (eqb (getD 
 
 -- ---- a list after a store
 
-same-or : (a b : ℕ) → (a ≡ b) ⊎ (a ≢ b)
+pub same-or : (a b : ℕ) → (a ≡ b) ⊎ (a ≢ b)
 same-or a b = by (ℕ-discrete a b)
   where
     by : Dec (a ≡ b) → (a ≡ b) ⊎ (a ≢ b)

@@ -1,4 +1,4 @@
--- The laws of the breadth-first search: how it begins, what one more spot in the queue keeps, and what is known at its end. Assumes nothing.
+-- The laws of the search: how it begins, what one more spot in the queue keeps, and what is known at its end. Assumes nothing.
 use mathlib.Core.Path.{_≡_, refl, sym, ap, ap₂, subst, _∙_}
 use mathlib.Core.Logic.{_≢_, _⊎_, inl, inr, ⊎-elim}
 use mathlib.Core.Bool.{Bool, true, false, not, _&&_}
@@ -148,6 +148,7 @@ grown-none r c =
       up = omega arith;
       keep = λ i l. refl;
       marks = λ x e. e;
+      early = λ b l p. p;
       done = λ j l. absurd (omega arith);
       spread = λ start t₀ e s. s;
     }
@@ -163,6 +164,7 @@ module _ {J : Job} {rec : List ℕ} {u k h : ℕ} {t q f w : List ℕ} {n : ℕ}
         up = g .up;
         keep = g .keep;
         marks = g .marks;
+        early = g .early;
         done = below-more (λ j. T (moves J rec (8 * u + j)) → getD t' (rev (8 * u + j) / 8) 0 ≡ 1) k (g .done) d;
         spread = g .spread;
       }
@@ -182,6 +184,7 @@ module _ {J : Job} {rec : List ℕ} {u k h : ℕ} {t q f w : List ℕ} {n : ℕ}
         up = omega (arith, g .up);
         keep = λ i l. getD-set-other q' n' i v 0 (λ e. omega (arith, g .up)) ∙ g .keep i l;
         marks = λ x e. marks-keep t' v x lt (g .marks x e);
+        early = λ b l p i z m. parents b l (g .early b l p) i m z;
         done = below-more (λ j. T (moves J rec (8 * u + j)) → getD (set t' v 1) (rev (8 * u + j) / 8) 0 ≡ 1) k
             (λ j l m. marks-keep t' v (rev (8 * u + j) / 8) lt (g .done j l m)) (λ m. rw (← ev) (getD-set-same t' v 1 0 lt));
         spread = λ start t₀ e s.
@@ -195,6 +198,10 @@ module _ {J : Job} {rec : List ℕ} {u k h : ℕ} {t q f w : List ℕ} {n : ℕ}
 
       fewer : unmarked (set t' v 1) + 1 ≡ unmarked t'
       fewer = mark-less t' v lv lt unseen
+
+      parents : (b : ℕ) → h < b → ((i : ℕ) → 0 < i → i < n' → getD f' i 0 < b) → (i : ℕ) → i < n' + 1 → 0 < i → getD (set f' n' h) i 0 < b
+      parents b l p = below-more (λ i. 0 < i → getD (set f' n' h) i 0 < b) n' (λ i m z. rw (getD-set-other f' n' i h 0 (λ e. omega arith)) (p i z m))
+          (λ z. rw (getD-set-same f' n' h 0 (omega (arith, fewer, g .count, g .room .parents))) l)
 
   more-grown : {t'' q'' f'' w'' : List ℕ} {a : ℕ} → Tried J rec u k h t' q' f' w' n' t'' q'' f'' w'' (More a)
       → Grown J rec u (k + 1) h t q f w n t'' q'' f'' w'' a
@@ -252,6 +259,7 @@ front-start {t = t} {start = start} r s =
       count = omega (arith, mark-less t start (s .spot) (omega (arith, r .marks, s .spot)) (s .new), unmarked-le t);
       le = omega arith;
       spread = spread-start r s;
+      early = λ i l m. absurd (omega arith);
       done = λ i l. absurd (omega arith);
     }
 
@@ -270,6 +278,7 @@ module _ {J : Job} {rec : List ℕ} {start : ℕ} {t₀ t q f w : List ℕ} {h n
           count = g .count;
           le = omega (arith, g .up);
           spread = g .spread start t₀ refl (F .spread);
+          early = g .early (h + 1) (omega arith) (λ i p m. omega (arith, F .early i p m));
           done = below-more (λ i. (k : ℕ) → k < 8 → T (moves J rec (8 * getD q' i 0 + k)) → getD t' (rev (8 * getD q' i 0 + k) / 8) 0 ≡ 1) h
               (λ i li. rw (g .keep i (omega arith)) (λ k lk m. g .marks (rev (8 * getD q i 0 + k) / 8) (F .done i li k lk m)))
               (rw (g .keep h l) (λ k lk m. g .done k lk m));

@@ -106,7 +106,7 @@ module _ {f : ℕ → ℕ} {r k left : ℕ} (b : Bits 8 f r) (s : Rest r k left)
 pub grown-past : {J : Job} {rec : List ℕ} {u k k' h : ℕ} {t q f w : List ℕ} {n : ℕ} {t' q' f' w' : List ℕ} {n' : ℕ} → Grown J rec u k h t q f w n t' q' f' w' n'
     → ((j : ℕ) → k ≤ j → j < k' → goesOn J rec t u j ≡ 0) → Grown J rec u k' h t q f w n t' q' f' w' n'
 grown-past {J} {rec} {u} {k} {k'} {t = t} {t' = t'} g z =
-    record { room = g .room; count = g .count; up = g .up; keep = g .keep; marks = g .marks; done = λ j l m. by j l m (ltb j k) refl; spread = g .spread }
+    record { room = g .room; count = g .count; up = g .up; keep = g .keep; marks = g .marks; early = g .early; done = λ j l m. by j l m (ltb j k) refl; spread = g .spread }
   where
     by : (j : ℕ) → j < k' → T (moves J rec (8 * u + j)) → (a : Bool) → ltb j k ≡ a → getD t' (rev (8 * u + j) / 8) 0 ≡ 1
     by j l m true e = g .done j (ltb-true j k e) m

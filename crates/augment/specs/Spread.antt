@@ -1,4 +1,4 @@
--- How a breadth-first search from one spot stands: n spots in the queue, each with the place in the queue of the spot from which it was reached and the
+-- How a search from one spot stands: n spots in the queue, each with the place in the queue of the spot from which it was reached and the
 -- slot that led to it; they were not marked when the search began, and they alone are marked since. Assumes nothing.
 use mathlib.Core.Path.{_≡_}
 use mathlib.Core.Logic.{_≢_, _⊎_}

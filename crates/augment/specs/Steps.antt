@@ -42,6 +42,7 @@ pub record Grown (J : Job) (rec : List ℕ) (u k h : ℕ) (t q f w : List ℕ) (
   pub up : n ≤ n'
   pub keep : (i : ℕ) → i < n → getD q' i 0 ≡ getD q i 0
   pub marks : (x : ℕ) → getD t x 0 ≡ 1 → getD t' x 0 ≡ 1
+  pub early : (b : ℕ) → h < b → ((i : ℕ) → 0 < i → i < n → getD f i 0 < b) → (i : ℕ) → 0 < i → i < n' → getD f' i 0 < b
   pub done : (j : ℕ) → j < k → T (moves J rec (8 * u + j)) → getD t' (rev (8 * u + j) / 8) 0 ≡ 1
   pub spread : (start : ℕ) (t₀ : List ℕ) → getD q h 0 ≡ u → Spread J rec start t₀ t q f w n → Spread J rec start t₀ t' q' f' w' n'
 
@@ -55,12 +56,13 @@ pub data Expanded (J : Job) (rec : List ℕ) (u h : ℕ) (t q f w : List ℕ) (n
 abbrev pub Done : Job → List ℕ → List ℕ → List ℕ → ℕ → Type 0
 Done J rec t q h = (i : ℕ) → i < h → (k : ℕ) → k < 8 → T (moves J rec (8 * getD q i 0 + k)) → getD t (rev (8 * getD q i 0 + k) / 8) 0 ≡ 1
 
--- the state of the search
+-- the state of the search: each spot in the queue was reached from one that is expanded
 pub record Front (J : Job) (rec : List ℕ) (start : ℕ) (t₀ t q f w : List ℕ) (h n : ℕ) : Type 0 where
   pub room : Room t q f w
   pub count : n + unmarked t ≤ spots
   pub le : h ≤ n
   pub spread : Spread J rec start t₀ t q f w n
+  pub early : (i : ℕ) → 0 < i → i < n → getD f i 0 < h
   pub done : Done J rec t q h
 
 -- slot k of u is a move that leads outside

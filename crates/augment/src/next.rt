@@ -109,15 +109,17 @@ fn wire_from(
     queue: &mut [u16],
     parent: &mut [u16],
     slot: &mut [u8],
+    lists: &mut [u16],
 ) -> bool
     requires { ⌜ Whole (now job) (now loads) × Room (now marks) (now queue) (now parent) (now slot)
-        × Held (jobOf (now job)) (now loads) × Dead (jobOf (now job)) (now loads) (now marks) × (u < spots) ⌝ }
+        × Held (jobOf (now job)) (now loads) × Dead (jobOf (now job)) (now loads) (now marks) × (u < spots)
+        × (26384 ≤ length (now lists)) ⌝ }
     ensures { λ b. ⌜ Tested (jobOf (now (job .entry))) (now (loads .entry)) (now (marks .entry)) u (now (loads .exit)) (now (marks .exit)) b ⌝ }
 {
     if !is_open(job, loads, marks, u) {
         return false;
     }
-    match reach(job, loads, u, marks, queue, parent, slot) {
+    match reach(job, loads, u, marks, queue, parent, slot, lists) {
         Way::Out(j, k, n) => {
             lay_way(loads, queue, parent, slot, j, k);
             unmark(marks, queue, n);
@@ -136,16 +138,18 @@ fn line_wire(
     queue: &mut [u16],
     parent: &mut [u16],
     slot: &mut [u8],
+    lists: &mut [u16],
 ) -> Next
     requires { ⌜ Whole (now job) (now loads) × Room (now marks) (now queue) (now parent) (now slot)
-        × Held (jobOf (now job)) (now loads) × Dead (jobOf (now job)) (now loads) (now marks) × (l .number < 40) × (l .pins ≤ 40) ⌝ }
+        × Held (jobOf (now job)) (now loads) × Dead (jobOf (now job)) (now loads) (now marks) × (l .number < 40) × (l .pins ≤ 40)
+        × (26384 ≤ length (now lists)) ⌝ }
     ensures { λ y. ⌜ Answered (jobOf (now (job .entry))) (OnLine l (l .pins))
         (now (loads .entry)) (now (marks .entry)) (now (loads .exit)) (now (marks .exit)) y ⌝ }
 {
     let n = l.pins;
     for i in 0..n {
         let u = spot_on(l, inwards(i, n));
-        if wire_from(job, loads, u, marks, queue, parent, slot) {
+        if wire_from(job, loads, u, marks, queue, parent, slot, lists) {
             return Next::Laid(u);
         }
     }
@@ -160,15 +164,25 @@ pub fn next_wire(
     queue: &mut [u16],
     parent: &mut [u16],
     slot: &mut [u8],
+    lists: &mut [u16],
 ) -> Next
     requires { ⌜ Whole (now job) (now loads) × Room (now marks) (now queue) (now parent) (now slot)
-        × Held (jobOf (now job)) (now loads) × Dead (jobOf (now job)) (now loads) (now marks) ⌝ }
+        × Held (jobOf (now job)) (now loads) × Dead (jobOf (now job)) (now loads) (now marks) × (26384 ≤ length (now lists)) ⌝ }
     ensures { λ y. ⌜ Answered (jobOf (now (job .entry))) AnySpot
         (now (loads .entry)) (now (marks .entry)) (now (loads .exit)) (now (marks .exit)) y ⌝ }
 {
     let n = 2 * rows(job);
     for i in 0..n {
-        match line_wire(job, loads, nth_line(job, i), marks, queue, parent, slot) {
+        match line_wire(
+            job,
+            loads,
+            nth_line(job, i),
+            marks,
+            queue,
+            parent,
+            slot,
+            lists,
+        ) {
             Next::Laid(u) => {
                 return Next::Laid(u);
             }

@@ -1,4 +1,4 @@
-// The search for a way out: breadth-first from one spot along moves, never entering a marked spot. It works on what is lent to it.
+// The search for a way out: from one spot along moves, never entering a marked spot, the spots nearest to the rim first. It works on what is lent to it.
 ghost use mathlib.Core.Path.{_≡_};
 ghost use Prim.Native.Nat.{_+_, _*_, _≤_, _<_};
 ghost use lib.Dec.{T};
@@ -9,6 +9,11 @@ ghost use Rattle.slots.specs.Ahead.{Bits};
 ghost use Rattle.augment.specs.Slots.{goesOn};
 ghost use Rattle.augment.specs.Spread.{Room};
 ghost use Rattle.augment.specs.Steps.{Whole, Ready, Tried, Expanded, leaves, Searched, Fresh};
+use crate::lists::enlist;
+use crate::lists::exchange;
+use crate::lists::first;
+use crate::lists::no_lists;
+use crate::lists::take;
 use channel::can_move;
 use channel::head_of;
 use channel::is_outside;
@@ -105,7 +110,7 @@ fn expand(
     Step::More(m)
 }
 
-// Spot by spot from start to the outside, or to all that moves reach.
+// Spot by spot from start to the outside, or to all that moves reach. The first h spots in the queue of n are expanded; those behind them wait on the lists.
 fn explore(
     job: &[u8],
     loads: &[u8],
@@ -114,22 +119,30 @@ fn explore(
     queue: &mut [u16],
     parent: &mut [u16],
     slot: &mut [u8],
+    lists: &mut [u16],
 ) -> Way
-    requires { ⌜ Whole (now job) (now loads) × Room (now marks) (now queue) (now parent) (now slot) × Fresh (jobOf (now job)) (now marks) start ⌝ }
+    requires { ⌜ Whole (now job) (now loads) × Room (now marks) (now queue) (now parent) (now slot) × Fresh (jobOf (now job)) (now marks) start
+        × (26384 ≤ length (now lists)) ⌝ }
     ensures { λ y. ⌜ Searched (jobOf (now (job .entry))) (now (loads .entry)) start
         (now (marks .entry)) (now (marks .exit)) (now (queue .exit)) (now (parent .exit)) (now (slot .exit)) y ⌝ }
 {
     marks[start] = 1;
     queue[0] = start as u16;
+    no_lists(lists);
     let mut n = 1;
     let mut h = 0;
+    let mut low = 128;
     while h < n {
+        low = first(lists, low);
+        let i = take(lists, low, h, n);
+        exchange(queue, parent, slot, lists, h, i);
         let u = queue[h] as usize;
         match expand(job, loads, u, h, marks, queue, parent, slot, n) {
             Step::Exit(k, a) => {
                 return Way::Out(h, k, a);
             }
             Step::More(a) => {
+                low = enlist(job, queue, lists, n, a, low);
                 n = a;
             }
         }
@@ -159,8 +172,10 @@ pub fn reach(
     queue: &mut [u16],
     parent: &mut [u16],
     slot: &mut [u8],
+    lists: &mut [u16],
 ) -> Way
-    requires { ⌜ Whole (now job) (now loads) × Room (now marks) (now queue) (now parent) (now slot) × Fresh (jobOf (now job)) (now marks) start ⌝ }
+    requires { ⌜ Whole (now job) (now loads) × Room (now marks) (now queue) (now parent) (now slot) × Fresh (jobOf (now job)) (now marks) start
+        × (26384 ≤ length (now lists)) ⌝ }
     ensures { λ y. ⌜ Searched (jobOf (now (job .entry))) (now (loads .entry)) start
         (now (marks .entry)) (now (marks .exit)) (now (queue .exit)) (now (parent .exit)) (now (slot .exit)) y ⌝ }
 {
@@ -169,5 +184,5 @@ pub fn reach(
         queue[0] = start as u16;
         return Way::Out(0, 4, 1);
     }
-    explore(job, loads, start, marks, queue, parent, slot)
+    explore(job, loads, start, marks, queue, parent, slot, lists)
 }

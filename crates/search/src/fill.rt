@@ -29,14 +29,16 @@ pub fn fill(
     queue: &mut [u16],
     parent: &mut [u16],
     slot: &mut [u8],
+    lists: &mut [u16],
 )
-    requires { ⌜ Whole (now job) (now loads) × Room (now marks) (now queue) (now parent) (now slot) × Held (jobOf (now job)) (now loads) ⌝ }
+    requires { ⌜ Whole (now job) (now loads) × Room (now marks) (now queue) (now parent) (now slot) × Held (jobOf (now job)) (now loads)
+        × (26384 ≤ length (now lists)) ⌝ }
     ensures { λ _. ⌜ Filled (jobOf (now (job .entry))) (now (loads .entry)) (now (loads .exit)) (now (marks .exit)) ⌝ }
 {
     clear(marks);
     let mut fresh = true;
     loop {
-        match next_wire(job, loads, marks, queue, parent, slot) {
+        match next_wire(job, loads, marks, queue, parent, slot, lists) {
             Next::Laid(_) => {
                 fresh = false;
             }

@@ -85,7 +85,16 @@ fn fill_copy(rec: &[u8], loads: &mut [u8], near: &mut [u8]) -> usize
     let mut queue = [0u16; 13128];
     let mut parent = [0u16; 13128];
     let mut slot = [0u8; 13128];
-    fill(rec, loads, &mut marks, &mut queue, &mut parent, &mut slot);
+    let mut lists = [0u16; 26384];
+    fill(
+        rec,
+        loads,
+        &mut marks,
+        &mut queue,
+        &mut parent,
+        &mut slot,
+        &mut lists,
+    );
     untangle(rec, loads, &mut queue, &mut parent, &mut slot);
     let k = unwired(rec, loads);
     if k == 0 {

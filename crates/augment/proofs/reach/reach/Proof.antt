@@ -27,7 +27,7 @@ same-length-2 c = search needs
 
 returns : tie.Need-returns
 returns c =
-    let p = c .before .before .before .before .before .before .before .before .pre in
+    let p = c .before .before .before .before .before .before .before .before .before .pre in
     first-leaves (p .1) (p .2) (omega arith) (yes (c .before .leaves-directly .ensures) (c .if1 .taken))
 
 explore-requires : tie.Need-explore-requires
@@ -44,6 +44,9 @@ same-length-5 c = search needs
 
 same-length-6 : tie.Need-same-length-6
 same-length-6 c = search needs
+
+same-length-7 : tie.Need-same-length-7
+same-length-7 c = search needs
 
 returns-2 : tie.Need-returns-2
 returns-2 c = search needs
@@ -64,4 +67,5 @@ reach-spec =
     same-length-4
     same-length-5
     same-length-6
+    same-length-7
     returns-2)

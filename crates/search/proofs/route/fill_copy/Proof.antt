@@ -22,13 +22,18 @@ slice-aggregate-fill-3 c = search needs
 slice-aggregate-fill-4 : tie.Need-slice-aggregate-fill-4
 slice-aggregate-fill-4 c = search needs
 
+slice-aggregate-fill-5 : tie.Need-slice-aggregate-fill-5
+slice-aggregate-fill-5 c = search needs
+
 fill-requires : tie.Need-fill-requires
 fill-requires c κs =
-    let c7 = c .before .before .before .before .before .before .before in
-    let p = c7 .before .before .before .before .before .pre in (
+    let c8 = c .before .before .before .before .before .before .before .before in
+    let c13 = c8 .before .before .before .before .before in
+    let p = c13 .pre in (
       record { asked = search needs; loads = search needs },
       record { marks = search (needs, spots-is); queue = search (needs, spots-is); parents = search (needs, spots-is); slots = search (needs, spots-is) },
-      copy-held (p .0) (copied-front (p .0) _ (p .1) (c7 .copy .ensures)),
+      copy-held (p .0) (copied-front (p .0) _ (p .1) (c8 .copy .ensures)),
+      search needs,
     )
 
 slice-aggregate-untangle : tie.Need-slice-aggregate-untangle
@@ -42,7 +47,7 @@ slice-aggregate-untangle-3 c = search needs
 
 untangle-requires : tie.Need-untangle-requires
 untangle-requires c κs =
-    let H = c .before .before .before .before .before .before .before .before .before .before .fill .ensures .more .held in
+    let H = c .before .before .before .before .before .before .before .before .before .before .before .fill .ensures .more .held in
     record {
       before = search needs;
       room = record { whole = H .long; marks = search (needs, spots-is); stack = search (needs, spots-is); slots = search (needs, spots-is) };
@@ -59,21 +64,18 @@ same-length c = search needs
 returns : tie.Need-returns
 returns c =
     let c8 = c .before .before .before .before .before .before .before .before in
-    let c19 = c8 .before .before .before .before .before .before .before .before .before .before .before in
-    let c27 = c19 .before .before .before .before .before .before .before .before in
-    let p = c27 .before .before .before .before .before .pre in
-    routed-whole (p .0) (copied-front (p .0) _ (p .1) (c27 .copy .ensures)) (c19 .fill .ensures) (c8 .untangle .ensures) (c .before .unwired .ensures) refl
+    let c20 = c8 .before .before .before .before .before .before .before .before .before .before .before .before in
+    let c29 = c20 .before .before .before .before .before .before .before .before .before in
+    let c34 = c29 .before .before .before .before .before in
+    let p = c34 .pre in
+    routed-whole (p .0) (copied-front (p .0) _ (p .1) (c29 .copy .ensures)) (c20 .fill .ensures) (c8 .untangle .ensures) (c .before .unwired .ensures) refl
     (c .if1 .taken)
 
 slice-aggregate-show : tie.Need-slice-aggregate-show
 slice-aggregate-show c = search needs
 
 show-requires : tie.Need-show-requires
-show-requires c κs =
-    let c10 = c .before .before .before .before .before .before .before .before .before .before in
-    let c21 = c10 .before .before .before .before .before .before .before .before .before .before .before in
-    let c29 = c21 .before .before .before .before .before .before .before .before in
-    (search (needs, spots-is), c29 .before .before .before .before .before .pre .2)
+show-requires c κs = (search (needs, spots-is), c .before .before .before .before .before .before .before .before .before .before .before .before .before .before .before .before .before .before .before .before .before .before .before .before .before .before .before .before .before .before .before .before .before .before .before .before .pre .2)
 
 same-length-2 : tie.Need-same-length-2
 same-length-2 c = search needs
@@ -84,11 +86,13 @@ same-length-3 c = search needs
 returns-2 : tie.Need-returns-2
 returns-2 c =
     let c5 = c .before .before .before .before .before in
-    let c13 = c5 .before .before .before .before .before .before .before .before in
-    let c24 = c13 .before .before .before .before .before .before .before .before .before .before .before in
-    let c32 = c24 .before .before .before .before .before .before .before .before in
-    let p = c32 .before .before .before .before .before .pre in
-    routed-short (p .0) (copied-front (p .0) _ (p .1) (c32 .copy .ensures)) (c24 .fill .ensures) (c13 .untangle .ensures) (c5 .before .unwired .ensures) refl
+    let c6 = c5 .before in
+    let c13 = c6 .before .before .before .before .before .before .before in
+    let c25 = c13 .before .before .before .before .before .before .before .before .before .before .before .before in
+    let c34 = c25 .before .before .before .before .before .before .before .before .before in
+    let c39 = c34 .before .before .before .before .before in
+    let p = c39 .pre in
+    routed-short (p .0) (copied-front (p .0) _ (p .1) (c34 .copy .ensures)) (c25 .fill .ensures) (c13 .untangle .ensures) (c6 .unwired .ensures) refl
     (c5 .if1 .left) (c .before .before .show .ensures)
 
 pub fill-copy-spec : {M : Type 1} → statement M
@@ -100,6 +104,7 @@ fill-copy-spec =
     slice-aggregate-fill-2
     slice-aggregate-fill-3
     slice-aggregate-fill-4
+    slice-aggregate-fill-5
     fill-requires
     slice-aggregate-untangle
     slice-aggregate-untangle-2

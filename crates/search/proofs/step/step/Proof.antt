@@ -28,13 +28,17 @@ slice-aggregate-next-wire-4 c = search needs
 slice-aggregate-next-wire-5 : tie.Need-slice-aggregate-next-wire-5
 slice-aggregate-next-wire-5 c = search needs
 
+slice-aggregate-next-wire-6 : tie.Need-slice-aggregate-next-wire-6
+slice-aggregate-next-wire-6 c = search needs
+
 next-wire-requires : tie.Need-next-wire-requires
 next-wire-requires c κs =
-    let c7 = c .before .before .before .before .before .before .before in (
+    let c8 = c .before .before .before .before .before .before .before .before in (
       record { asked = search needs; loads = search needs },
       record { marks = search (needs, spots-is); queue = search (needs, spots-is); parents = search (needs, spots-is); slots = search (needs, spots-is) },
-      copied-held (c7 .before .before .before .before .pre) (c7 .copy .ensures),
+      copied-held (c8 .before .before .before .before .pre) (c8 .copy .ensures),
       cleared-dead (zeros-cleared 13128),
+      search needs,
     )
 
 enum-told : tie.Need-enum-told
@@ -55,13 +59,13 @@ slice-aggregate-untangle-4 c = search needs
 untangle-requires : tie.Need-untangle-requires
 untangle-requires c κs =
     let c5 = c .before .before .before .before .before in
-    let c12 = c5 .before .before .before .before .before .before .before in
-    let c20 = c12 .before .before .before .before .before .before .before .before in
+    let c13 = c5 .before .before .before .before .before .before .before .before in
+    let c22 = c13 .before .before .before .before .before .before .before .before .before in
     record {
       before = search needs;
       room = record { whole = search needs; marks = search (needs, spots-is); stack = search (needs, spots-is); slots = search (needs, spots-is) };
       job = _;
-      held = laid-held (c20 .before .before .before .before .pre) (c20 .copy .ensures) (c12 .next-wire .ensures) (c5 .enum-told .given .1);
+      held = laid-held (c22 .before .before .before .before .pre) (c22 .copy .ensures) (c13 .next-wire .ensures) (c5 .enum-told .given .1);
     }
 
 slice-aggregate-copy-2 : tie.Need-slice-aggregate-copy-2
@@ -80,9 +84,9 @@ returns : tie.Need-returns
 returns c =
     let c9 = c .before .before .before .before .before .before .before .before .before in
     let c15 = c9 .before .before .before .before .before .before in
-    let c22 = c15 .before .before .before .before .before .before .before in
-    let c30 = c22 .before .before .before .before .before .before .before .before in
-    step-added (c30 .before .before .before .before .pre) (c30 .copy .ensures) (c22 .next-wire .ensures) (c15 .enum-told .given .1) (c9 .untangle .ensures)
+    let c23 = c15 .before .before .before .before .before .before .before .before in
+    let c32 = c23 .before .before .before .before .before .before .before .before .before in
+    step-added (c32 .before .before .before .before .pre) (c32 .copy .ensures) (c23 .next-wire .ensures) (c15 .enum-told .given .1) (c9 .untangle .ensures)
     (c .before .before .copy2 .ensures)
 
 same-length-2 : tie.Need-same-length-2
@@ -90,9 +94,9 @@ same-length-2 c = search needs
 
 returns-2 : tie.Need-returns-2
 returns-2 c =
-    let c7 = c .before .before .before .before .before .before .before in
-    let c15 = c7 .before .before .before .before .before .before .before .before in
-    step-full (c15 .before .before .before .before .pre) (c15 .copy .ensures) (c7 .next-wire .ensures) (zeros-cleared 13128) (c .enum-told2 .given .1)
+    let c8 = c .before .before .before .before .before .before .before .before in
+    let c17 = c8 .before .before .before .before .before .before .before .before .before in
+    step-full (c17 .before .before .before .before .pre) (c17 .copy .ensures) (c8 .next-wire .ensures) (zeros-cleared 13128) (c .enum-told2 .given .1)
 
 pub step-spec : {M : Type 1} → statement M
 step-spec =
@@ -105,6 +109,7 @@ step-spec =
     slice-aggregate-next-wire-3
     slice-aggregate-next-wire-4
     slice-aggregate-next-wire-5
+    slice-aggregate-next-wire-6
     next-wire-requires
     enum-told
     slice-aggregate-untangle

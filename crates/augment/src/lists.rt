@@ -1,0 +1,172 @@
+// The spots in the queue that wait to be expanded, in 128 lists by how far they are from the rim. What stands on the lists decides which spot is taken and
+// nothing else: whatever they hold, a spot that waits is taken. Behind the heads of the lists each spot has the next on its list and its place in the queue.
+ghost use mathlib.Core.Path.{_≡_};
+ghost use Prim.Native.Nat.{ℕ, _≤_, _<_};
+ghost use lib.ListN.{length, getD};
+ghost use Rattle.augment.specs.Turns.{swapped};
+use channel::columns;
+use channel::rows;
+
+// An entry as a number.
+fn wide(x: u16) -> usize
+    ensures { λ r. ⌜ (r ≡ x) × (r < 65536) ⌝ }
+{
+    x as usize
+}
+
+// The smaller of two.
+fn least(a: usize, b: usize) -> usize
+    ensures { λ r. ⌜ (r ≤ a) × (r ≤ b) ⌝ }
+{
+    if a < b { a } else { b }
+}
+
+// How many of n follow the r-th.
+fn beyond(n: usize, r: usize) -> usize {
+    if r < n { n - 1 - r } else { 0 }
+}
+
+// 0 for a place that faces the nearest rim, 2 for one that faces away from it, else 1.
+fn facing(near: bool, far: bool) -> usize
+    ensures { λ r. ⌜ r < 3 ⌝ }
+{
+    if near {
+        return 0;
+    }
+    if far {
+        return 2;
+    }
+    1
+}
+
+// How far the spot u is from the rim of n rows and m columns of pins: three levels for each ring.
+fn level(n: usize, m: usize, u: usize) -> usize
+    requires { ⌜ u < 13128 ⌝ }
+    ensures { λ l. ⌜ l < 128 ⌝ }
+{
+    if u < 328 {
+        return 0;
+    }
+    let r = (u - 328) / 320;
+    let c = (u - 328) % 320 / 8;
+    let k = u % 8;
+    if k < 2 {
+        return 3 * least(r, least(c, least(beyond(n, r), beyond(m, c)))) + 1 - k;
+    }
+    let y = beyond(n, r + 1);
+    let z = beyond(m, c + 1);
+    let g = least(r, least(c, least(y, z)));
+    match k {
+        2 => 3 * g + facing(r == g, y == g),
+        3 => 3 * g + facing(z == g, c == g),
+        4 => 3 * g + facing(y == g, r == g),
+        5 => 3 * g + facing(c == g, z == g),
+        6 => 3 * g + 2,
+        _ => 3 * g + 1,
+    }
+}
+
+// Every list is empty.
+pub fn no_lists(lists: &mut [u16])
+    requires { ⌜ 26384 ≤ length (now lists) ⌝ }
+{
+    for l in 0..128 {
+        lists[l] = 0;
+    }
+}
+
+// An entry, at x.
+fn store(lists: &mut [u16], x: usize, entry: usize)
+    requires { ⌜ (x < length (now lists)) × (entry < 65536) ⌝ }
+{
+    lists[x] = entry as u16;
+}
+
+// The spot u, which is the i-th in the queue, on the list l.
+fn put(lists: &mut [u16], l: usize, u: usize, i: usize)
+    requires { ⌜ (26384 ≤ length (now lists)) × (l < 128) × (u < 13128) × (i < 13128) ⌝ }
+{
+    let next = wide(lists[l]);
+    store(lists, 128 + 2 * u, next);
+    store(lists, 129 + 2 * u, i);
+    store(lists, l, u);
+}
+
+// The spots from the a-th to before the n-th in the queue on their lists; the lowest of these lists and low.
+pub fn enlist(job: &[u8], queue: &[u16], lists: &mut [u16], a: usize, n: usize, low: usize) -> usize
+    requires { ⌜ (32768 ≤ length (now job)) × (26384 ≤ length (now lists)) × (n ≤ 13128) × (n ≤ length (now queue))
+        × ((i : ℕ) → i < n → getD (now queue) i 0 < 13128) ⌝ }
+{
+    let r = rows(job);
+    let c = columns(job);
+    let mut b = low;
+    for i in a..n {
+        let u = wide(queue[i]);
+        let l = level(r, c, u);
+        put(lists, l, u, i);
+        b = least(b, l);
+    }
+    b
+}
+
+// The first list from low on that is not empty, or 128.
+pub fn first(lists: &[u16], low: usize) -> usize
+    requires { ⌜ 26384 ≤ length (now lists) ⌝ }
+{
+    for l in low..128 {
+        if lists[l] != 0 {
+            return l;
+        }
+    }
+    128
+}
+
+// The place in the queue of the first spot of the list l, which leaves the list; the h-th where that is none of those that wait.
+pub fn take(lists: &mut [u16], l: usize, h: usize, n: usize) -> usize
+    requires { ⌜ (26384 ≤ length (now lists)) × (h < n) ⌝ }
+    ensures { λ i. ⌜ (h ≤ i) × (i < n) ⌝ }
+{
+    if 128 <= l {
+        return h;
+    }
+    let u = wide(lists[l]);
+    if 13128 <= u {
+        return h;
+    }
+    let i = wide(lists[129 + 2 * u]);
+    lists[l] = lists[128 + 2 * u];
+    if i < h {
+        return h;
+    }
+    if n <= i {
+        return h;
+    }
+    i
+}
+
+// The h-th and the i-th in the queue change places.
+pub fn exchange(
+    queue: &mut [u16],
+    parent: &mut [u16],
+    slot: &mut [u8],
+    lists: &mut [u16],
+    h: usize,
+    i: usize,
+)
+    requires { ⌜ (h < length (now queue)) × (h < length (now parent)) × (h < length (now slot))
+        × (i < length (now queue)) × (i < length (now parent)) × (i < length (now slot))
+        × (26384 ≤ length (now lists)) × (getD (now queue) h 0 < 13128) × (i < 13128) ⌝ }
+    ensures { λ _. ⌜ (now (queue .exit) ≡ swapped (now (queue .entry)) h i) × (now (parent .exit) ≡ swapped (now (parent .entry)) h i)
+        × (now (slot .exit) ≡ swapped (now (slot .entry)) h i) ⌝ }
+{
+    let u = queue[h];
+    let p = parent[h];
+    let k = slot[h];
+    queue[h] = queue[i];
+    queue[i] = u;
+    parent[h] = parent[i];
+    parent[i] = p;
+    slot[h] = slot[i];
+    slot[i] = k;
+    lists[129 + 2 * wide(u)] = i as u16;
+}
