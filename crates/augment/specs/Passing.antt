@@ -53,13 +53,13 @@ passed-line {l = l} {m = m} p q s =
     (last-or (w .turn) m (w .early)))
 
 -- one line more
-pub passed-lines : {J : Job} {rec t t₁ t₂ : List ℕ} {l : Line} {m : ℕ} → Passed J (InRows J m) rec t t₁ → Nth J m l
-    → Passed J (OnLine l (l .pins)) rec t₁ t₂ → Passed J (InRows J (m + 1)) rec t t₂
+pub passed-lines : {J : Job} {rec t t₁ t₂ : List ℕ} {l : Line} {a m : ℕ} → Passed J (InRows J a m) rec t t₁ → Nth J m l
+    → Passed J (OnLine l (l .pins)) rec t₁ t₂ → Passed J (InRows J a (m + 1)) rec t t₂
 passed-lines {l = l} {m = m} p n s =
     passed-then p s
     (λ x w. ⊎-elim
     (λ i. inr (subst (λ (y : Line). OnLine y (y .pins) x) (sym (n .even (w .turn) (sym i))) (w .there)))
-    (λ h. inl (record { turn = w .turn; early = h; there = w .there }))
+    (λ h. inl (record { turn = w .turn; late = w .late; early = h; there = w .there }))
     (last-or (2 * w .turn) m (w .early)))
 
 -- ---- the order of rows and columns
@@ -106,10 +106,17 @@ chosen-within J r c t =
     let p = and-left (isPin J r c) (eqb (J .mark r c) 1) t in
     (ltb→lt r (J .rows) (and-left (ltb r (J .rows)) (ltb c (J .columns)) p), ltb→lt c (J .columns) (and-right (ltb r (J .rows)) (ltb c (J .columns)) p))
 
--- every row
-pub passed-all : {J : Job} {rec t t′ : List ℕ} → Passed J (InRows J (2 * J .rows)) rec t t′ → Passed J AnySpot rec t t′
-passed-all {J} {rec} {t} {t′} p = record { dead = p .dead; grown = p .grown; shut = λ u l h. everywhere u h; reached = p .reached }
+-- every row, those before a line last
+pub passed-all : {J : Job} {rec t t₁ t′ : List ℕ} {a : ℕ} → Passed J (InRows J a (2 * J .rows)) rec t t₁ → Passed J (InRows J 0 a) rec t₁ t′ → Passed J AnySpot rec t t′
+passed-all {J} {rec} {t} {t′ = t′} {a = a} q s = record { dead = p .dead; grown = p .grown; shut = λ u l h. everywhere u h; reached = p .reached }
   where
+    p : Passed J (InRows J 0 (2 * J .rows)) rec t t′
+    p = passed-then q s
+        (λ u w. ⊎-elim
+        (λ l. inr (record { turn = w .turn; late = w .late; early = l; there = w .there }))
+        (λ l. inl (record { turn = w .turn; late = l; early = w .early; there = w .there }))
+        (below-or (2 * w .turn) a))
+
     everywhere : (u : ℕ) → Unwired J rec u → T (marked t′ u)
     everywhere u h =
         let (r, c, t, e) = wanted-pin J u (omega arith) in
@@ -117,7 +124,7 @@ passed-all {J} {rec} {t} {t′} p = record { dead = p .dead; grown = p .grown; s
         let (i, li, ei) = inward-all (J .rows) r a in
         let (j, lj, ej) = inward-all (J .columns) c b in
         let q : u ≡ exit (at pin (inward i (J .rows)) (inward j (J .columns))) = rw (ei, ej) e in
-        p .shut u (record { turn = i; early = omega arith; there = record { turn = j; early = lj; spot = q ∙ spot-level (row J i) _ refl } }) h
+        p .shut u (record { turn = i; late = omega arith; early = omega arith; there = record { turn = j; early = lj; spot = q ∙ spot-level (row J i) _ refl } }) h
 
 -- ---- what a caller reads off the answers
 
@@ -173,3 +180,12 @@ laid-from r e l = let (h, m, d) = tested-wired r e in laid l h m d
 pub laid-on-line : {J : Job} {P Q : ℕ → Type 0} {rec t t₁ rec₂ t₂ : List ℕ} {u : ℕ} {y : Next} → Answered J P rec t₁ rec₂ t₂ y → y ≡ Laid u
     → Answered J Q rec t rec₂ t₂ (Laid u)
 laid-on-line r e = let (l, h, m, d) = was-laid r e in laid l h m d
+
+-- no line from a on has a pin with a way out; so the answer about those before it is one about all
+pub answered-all : {J : Job} {rec rec₁ t t₁ rec₂ t₂ : List ℕ} {a n m : ℕ} {y : Next} → m ≡ J .rows → n ≡ 2 * m → (rec₁ ≡ rec) × Passed J (InRows J a n) rec t t₁
+    → Answered J (InRows J 0 a) rec₁ t₁ rec₂ t₂ y → Answered J AnySpot rec t rec₂ t₂ y
+answered-all {J} {rec} {t = t} {t₁ = t₁} {a = a} {n = n} em en (q, p) r = by (answered-still q r)
+  where
+    by : {rec₂ t₂ : List ℕ} {y : Next} → Answered J (InRows J 0 a) rec t₁ rec₂ t₂ y → Answered J AnySpot rec t rec₂ t₂ y
+    by (laid l h m d) = laid l h m d
+    by (nothing e s) = let w : n ≡ 2 * J .rows = omega (arith, em, en) in nothing e (passed-all (rw w at p) s)

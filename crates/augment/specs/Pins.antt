@@ -100,9 +100,10 @@ pub record Nth (J : Job) (i : ℕ) (l : Line) : Type 0 where
   pub pins : l .pins ≤ 40
   pub even : (t : ℕ) → i ≡ 2 * t → l ≡ row J t
 
--- u is the spot of a pin of a row among the first m lines; any spot
-pub record InRows (J : Job) (m u : ℕ) : Type 0 where
+-- u is the spot of a pin of a row among the lines from a to before m; any spot
+pub record InRows (J : Job) (a m u : ℕ) : Type 0 where
   pub turn : ℕ
+  pub late : a ≤ 2 * turn
   pub early : 2 * turn < m
   pub there : OnLine (row J turn) (J .columns) u
 

@@ -1,5 +1,9 @@
-// The spots in the queue that wait to be expanded, in 128 lists by how far they are from the rim. What stands on the lists decides which spot is taken and
-// nothing else: whatever they hold, a spot that waits is taken. Behind the heads of the lists each spot has the next on its list and its place in the queue.
+// Advice on which spot and which pin is next. The spots in the queue that wait to be expanded stand on 128 lists by how far they are from the rim, first in,
+// first out. Nothing is proved of what stands here: whatever it is, a spot that waits is taken, and no pin is left out.
+//     0 to 127          the first spot of each list, 0 for none
+//     128 to 255        the last spot of each list that has one
+//     256 to 26,511     for each spot the next on its list and its place in the queue
+//     26,512            the line from which the last wire was laid
 ghost use mathlib.Core.Path.{_≡_};
 ghost use Prim.Native.Nat.{ℕ, _≤_, _<_};
 ghost use lib.ListN.{length, getD};
@@ -68,7 +72,7 @@ fn level(n: usize, m: usize, u: usize) -> usize
 
 // Every list is empty.
 pub fn no_lists(lists: &mut [u16])
-    requires { ⌜ 26384 ≤ length (now lists) ⌝ }
+    requires { ⌜ 26513 ≤ length (now lists) ⌝ }
 {
     for l in 0..128 {
         lists[l] = 0;
@@ -82,21 +86,37 @@ fn store(lists: &mut [u16], x: usize, entry: usize)
     lists[x] = entry as u16;
 }
 
-// The spot u, which is the i-th in the queue, on the list l.
-fn put(lists: &mut [u16], l: usize, u: usize, i: usize)
-    requires { ⌜ (26384 ≤ length (now lists)) × (l < 128) × (u < 13128) × (i < 13128) ⌝ }
+// Where the next spot of the list l is to be put: at its head if it has none, else behind its last.
+fn end(lists: &[u16], l: usize) -> usize
+    requires { ⌜ (26513 ≤ length (now lists)) × (l < 128) ⌝ }
+    ensures { λ x. ⌜ x < 26513 ⌝ }
 {
-    let next = wide(lists[l]);
-    store(lists, 128 + 2 * u, next);
-    store(lists, 129 + 2 * u, i);
-    store(lists, l, u);
+    if lists[l] == 0 {
+        return l;
+    }
+    256 + 2 * least(wide(lists[128 + l]), 13127)
 }
 
-// The spots from the a-th to before the n-th in the queue on their lists; the lowest of these lists and low.
+// The spot u, which is the i-th in the queue, on the list l.
+fn put(lists: &mut [u16], l: usize, u: usize, i: usize)
+    requires { ⌜ (26513 ≤ length (now lists)) × (l < 128) × (u < 13128) × (i < 13128) ⌝ }
+{
+    let x = end(lists, l);
+    store(lists, x, u);
+    store(lists, 128 + l, u);
+    store(lists, 256 + 2 * u, 0);
+    store(lists, 257 + 2 * u, i);
+}
+
+// The spots from the a-th to before the n-th in the queue on their lists; the lowest of these lists and low. A search with so many spots is likely to come
+// to all that it can reach, so that their order does not matter: it keeps no lists any more.
 pub fn enlist(job: &[u8], queue: &[u16], lists: &mut [u16], a: usize, n: usize, low: usize) -> usize
-    requires { ⌜ (32768 ≤ length (now job)) × (26384 ≤ length (now lists)) × (n ≤ 13128) × (n ≤ length (now queue))
+    requires { ⌜ (32768 ≤ length (now job)) × (26513 ≤ length (now lists)) × (n ≤ 13128) × (n ≤ length (now queue))
         × ((i : ℕ) → i < n → getD (now queue) i 0 < 13128) ⌝ }
 {
+    if 6144 <= a {
+        return 128;
+    }
     let r = rows(job);
     let c = columns(job);
     let mut b = low;
@@ -111,7 +131,7 @@ pub fn enlist(job: &[u8], queue: &[u16], lists: &mut [u16], a: usize, n: usize, 
 
 // The first list from low on that is not empty, or 128.
 pub fn first(lists: &[u16], low: usize) -> usize
-    requires { ⌜ 26384 ≤ length (now lists) ⌝ }
+    requires { ⌜ 26513 ≤ length (now lists) ⌝ }
 {
     for l in low..128 {
         if lists[l] != 0 {
@@ -123,7 +143,7 @@ pub fn first(lists: &[u16], low: usize) -> usize
 
 // The place in the queue of the first spot of the list l, which leaves the list; the h-th where that is none of those that wait.
 pub fn take(lists: &mut [u16], l: usize, h: usize, n: usize) -> usize
-    requires { ⌜ (26384 ≤ length (now lists)) × (h < n) ⌝ }
+    requires { ⌜ (26513 ≤ length (now lists)) × (h < n) ⌝ }
     ensures { λ i. ⌜ (h ≤ i) × (i < n) ⌝ }
 {
     if 128 <= l {
@@ -133,8 +153,8 @@ pub fn take(lists: &mut [u16], l: usize, h: usize, n: usize) -> usize
     if 13128 <= u {
         return h;
     }
-    let i = wide(lists[129 + 2 * u]);
-    lists[l] = lists[128 + 2 * u];
+    let i = wide(lists[257 + 2 * u]);
+    lists[l] = lists[256 + 2 * u];
     if i < h {
         return h;
     }
@@ -155,7 +175,7 @@ pub fn exchange(
 )
     requires { ⌜ (h < length (now queue)) × (h < length (now parent)) × (h < length (now slot))
         × (i < length (now queue)) × (i < length (now parent)) × (i < length (now slot))
-        × (26384 ≤ length (now lists)) × (getD (now queue) h 0 < 13128) × (i < 13128) ⌝ }
+        × (26513 ≤ length (now lists)) × (getD (now queue) h 0 < 13128) × (i < 13128) ⌝ }
     ensures { λ _. ⌜ (now (queue .exit) ≡ swapped (now (queue .entry)) h i) × (now (parent .exit) ≡ swapped (now (parent .entry)) h i)
         × (now (slot .exit) ≡ swapped (now (slot .entry)) h i) ⌝ }
 {
@@ -168,5 +188,20 @@ pub fn exchange(
     parent[i] = p;
     slot[h] = slot[i];
     slot[i] = k;
-    lists[129 + 2 * wide(u)] = i as u16;
+    lists[257 + 2 * wide(u)] = i as u16;
+}
+
+// The line from which the last wire was laid, or n if that is less.
+pub fn last_line(lists: &[u16], n: usize) -> usize
+    requires { ⌜ 26513 ≤ length (now lists) ⌝ }
+    ensures { λ i. ⌜ i ≤ n ⌝ }
+{
+    least(wide(lists[26512]), n)
+}
+
+// A wire is laid from the i-th line.
+pub fn note_line(lists: &mut [u16], i: usize)
+    requires { ⌜ (26513 ≤ length (now lists)) × (i < 65536) ⌝ }
+{
+    store(lists, 26512, i);
 }

@@ -9,7 +9,9 @@ ghost use Rattle.model.specs.Record.{jobOf};
 ghost use Rattle.channel.specs.Map.{spots};
 ghost use Rattle.augment.specs.Spread.{Room};
 ghost use Rattle.augment.specs.Steps.{Whole};
-ghost use Rattle.augment.specs.Pins.{Held, Dead, Open, Tested, inward, spotOn, Nth, OnLine, AnySpot, Answered};
+ghost use Rattle.augment.specs.Pins.{Held, Dead, Open, Tested, inward, spotOn, Nth, OnLine, InRows, AnySpot, Answered};
+use crate::lists::last_line;
+use crate::lists::note_line;
 use crate::reach::Way;
 use crate::reach::reach;
 use crate::ways::lay_way;
@@ -113,7 +115,7 @@ fn wire_from(
 ) -> bool
     requires { ⌜ Whole (now job) (now loads) × Room (now marks) (now queue) (now parent) (now slot)
         × Held (jobOf (now job)) (now loads) × Dead (jobOf (now job)) (now loads) (now marks) × (u < spots)
-        × (26384 ≤ length (now lists)) ⌝ }
+        × (26513 ≤ length (now lists)) ⌝ }
     ensures { λ b. ⌜ Tested (jobOf (now (job .entry))) (now (loads .entry)) (now (marks .entry)) u (now (loads .exit)) (now (marks .exit)) b ⌝ }
 {
     if !is_open(job, loads, marks, u) {
@@ -142,7 +144,7 @@ fn line_wire(
 ) -> Next
     requires { ⌜ Whole (now job) (now loads) × Room (now marks) (now queue) (now parent) (now slot)
         × Held (jobOf (now job)) (now loads) × Dead (jobOf (now job)) (now loads) (now marks) × (l .number < 40) × (l .pins ≤ 40)
-        × (26384 ≤ length (now lists)) ⌝ }
+        × (26513 ≤ length (now lists)) ⌝ }
     ensures { λ y. ⌜ Answered (jobOf (now (job .entry))) (OnLine l (l .pins))
         (now (loads .entry)) (now (marks .entry)) (now (loads .exit)) (now (marks .exit)) y ⌝ }
 {
@@ -156,7 +158,38 @@ fn line_wire(
     Next::Nothing
 }
 
-// Lays the next wire.
+// Lays a wire from the first pin that is to have one and has a way out, of the lines from a to before b.
+fn lines_wire(
+    job: &[u8],
+    loads: &mut [u8],
+    a: usize,
+    b: usize,
+    marks: &mut [u8],
+    queue: &mut [u16],
+    parent: &mut [u16],
+    slot: &mut [u8],
+    lists: &mut [u16],
+) -> Next
+    requires { ⌜ Whole (now job) (now loads) × Room (now marks) (now queue) (now parent) (now slot)
+        × Held (jobOf (now job)) (now loads) × Dead (jobOf (now job)) (now loads) (now marks)
+        × (26513 ≤ length (now lists)) × (a ≤ b) × (b ≤ 2 * jobOf (now job) .rows) ⌝ }
+    ensures { λ y. ⌜ Answered (jobOf (now (job .entry))) (InRows (jobOf (now (job .entry))) a b)
+        (now (loads .entry)) (now (marks .entry)) (now (loads .exit)) (now (marks .exit)) y ⌝ }
+{
+    for i in a..b {
+        let l = nth_line(job, i);
+        match line_wire(job, loads, l, marks, queue, parent, slot, lists) {
+            Next::Laid(u) => {
+                note_line(lists, i);
+                return Next::Laid(u);
+            }
+            Next::Nothing => {}
+        }
+    }
+    Next::Nothing
+}
+
+// Lays the next wire. The lines before that of the last wire come last: their pins are wired, or have no way out.
 pub fn next_wire(
     job: &[u8],
     loads: &mut [u8],
@@ -167,27 +200,14 @@ pub fn next_wire(
     lists: &mut [u16],
 ) -> Next
     requires { ⌜ Whole (now job) (now loads) × Room (now marks) (now queue) (now parent) (now slot)
-        × Held (jobOf (now job)) (now loads) × Dead (jobOf (now job)) (now loads) (now marks) × (26384 ≤ length (now lists)) ⌝ }
+        × Held (jobOf (now job)) (now loads) × Dead (jobOf (now job)) (now loads) (now marks) × (26513 ≤ length (now lists)) ⌝ }
     ensures { λ y. ⌜ Answered (jobOf (now (job .entry))) AnySpot
         (now (loads .entry)) (now (marks .entry)) (now (loads .exit)) (now (marks .exit)) y ⌝ }
 {
     let n = 2 * rows(job);
-    for i in 0..n {
-        match line_wire(
-            job,
-            loads,
-            nth_line(job, i),
-            marks,
-            queue,
-            parent,
-            slot,
-            lists,
-        ) {
-            Next::Laid(u) => {
-                return Next::Laid(u);
-            }
-            Next::Nothing => {}
-        }
+    let a = last_line(lists, n);
+    match lines_wire(job, loads, a, n, marks, queue, parent, slot, lists) {
+        Next::Laid(u) => Next::Laid(u),
+        Next::Nothing => lines_wire(job, loads, 0, a, marks, queue, parent, slot, lists),
     }
-    Next::Nothing
 }

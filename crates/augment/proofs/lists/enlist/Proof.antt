@@ -13,6 +13,9 @@ Inv-loop job queue lists₀ a n low r c b₀ i₀ lists b i = length lists ≡ l
 abbrev μ-loop : tie.MeasureT-loop
 μ-loop job queue lists₀ a n low r c b₀ i₀ lists b i = n - i
 
+returns : tie.Need-returns Inv-loop μ-loop
+returns c = tt
+
 rows-requires : tie.Need-rows-requires Inv-loop μ-loop
 rows-requires c κs = search needs
 
@@ -32,16 +35,16 @@ wide-requires : tie.Need-wide-requires Inv-loop μ-loop
 wide-requires c κs = search needs
 
 level-requires : tie.Need-level-requires Inv-loop μ-loop
-level-requires c κs = omega (arith, c .wide .ensures .0, c .before .before .before .before .before .before .before .before .before .pre .4 (c .before .before .before .loop .i) (c .before .before .loop-test .taken))
+level-requires c κs = omega (arith, c .wide .ensures .0, c .before .before .before .before .before .before .before .before .before .before .pre .4 (c .before .before .before .loop .i) (c .before .before .loop-test .taken))
 
 put-requires : tie.Need-put-requires Inv-loop μ-loop
 put-requires c κs =
-    let c11 = c .before .before .before .before .before .before .before .before .before .before .before in
+    let c12 = c .before .before .before .before .before .before .before .before .before .before .before .before in
     let w = c .before .before .wide .ensures .0 in (
-      omega (arith, c11 .pre .1, c .before .before .before .before .before .loop .inv),
+      omega (arith, c12 .pre .1, c .before .before .before .before .before .loop .inv),
       c .before .level .ensures,
-      omega (arith, w, c11 .pre .4 (c .before .before .before .before .before .loop .i) (c .before .before .before .before .loop-test .taken)),
-      omega (arith, c11 .pre .2, c .before .before .before .before .loop-test .taken),
+      omega (arith, w, c12 .pre .4 (c .before .before .before .before .before .loop .i) (c .before .before .before .before .loop-test .taken)),
+      omega (arith, c12 .pre .2, c .before .before .before .before .loop-test .taken),
     )
 
 least-requires : tie.Need-least-requires Inv-loop μ-loop
@@ -59,8 +62,8 @@ loop-again c = c .before .before .before .put .kept .0 ∙ c .before .before .be
 same-length : tie.Need-same-length Inv-loop μ-loop
 same-length c = c .before .loop .inv
 
-returns : tie.Need-returns Inv-loop μ-loop
-returns c = tt
+returns-2 : tie.Need-returns-2 Inv-loop μ-loop
+returns-2 c = tt
 
 pub enlist-spec : {M : Type 1} → statement M
 enlist-spec =
@@ -68,6 +71,7 @@ enlist-spec =
     (tie.spec
     Inv-loop
     μ-loop
+    returns
     rows-requires
     columns-requires
     loop-holds
@@ -81,4 +85,4 @@ enlist-spec =
     loop-less
     loop-again
     same-length
-    returns)
+    returns-2)
