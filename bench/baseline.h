@@ -112,10 +112,11 @@ struct Answer {
     int chosen, greatest;
 };
 
-inline Answer route(const Job &job) {
+constexpr int source = 8 * 1600, outside = source + 1, nodes = outside + 1;
+
+// The links of a job, each handed to `link` with its two nodes, its limit and the limit of the way back; how many pins are chosen.
+template <class Link> int links(const Job &job, const Link &link) {
     enum { entry, leave, north, east, south, west, centreIn, centreOut };
-    const int source = 8 * 1600, outside = source + 1;
-    Network net(outside + 1);
     auto at = [](int kind, int r, int c) { return 8 * (40 * r + c) + kind; };
     auto inside = [&](int r, int c) { return 0 <= r && r < job.rows - 1 && 0 <= c && c < job.columns - 1; };
     auto open = [&](int r, int c) { return inside(r, c) && job.state[40 * r + c] == 0; };
@@ -123,16 +124,16 @@ inline Answer route(const Job &job) {
     for (int r = 0; r < job.rows - 1; r++) {
         for (int c = 0; c < job.columns - 1; c++) {
             if (!open(r, c)) continue;
-            for (int k = 0; k < 4; k++) net.link(at(north + k, r, c), at(north + (k + 1) % 4, r, c), half, half);
-            for (int k = 0; k < 4; k++) net.link(at(north + k, r, c), at(centreIn, r, c), unlimited, 0);
-            for (int k = 0; k < 4; k++) net.link(at(centreOut, r, c), at(north + k, r, c), unlimited, 0);
-            net.link(at(centreIn, r, c), at(centreOut, r, c), job.d - 2 * half, 0);
-            if (open(r + 1, c)) net.link(at(south, r, c), at(north, r + 1, c), job.o, job.o);
-            if (open(r, c + 1)) net.link(at(east, r, c), at(west, r, c + 1), job.o, job.o);
-            if (!inside(r - 1, c)) net.link(at(north, r, c), outside, job.o, 0);
-            if (!inside(r + 1, c)) net.link(at(south, r, c), outside, job.o, 0);
-            if (!inside(r, c - 1)) net.link(at(west, r, c), outside, job.o, 0);
-            if (!inside(r, c + 1)) net.link(at(east, r, c), outside, job.o, 0);
+            for (int k = 0; k < 4; k++) link(at(north + k, r, c), at(north + (k + 1) % 4, r, c), half, half);
+            for (int k = 0; k < 4; k++) link(at(north + k, r, c), at(centreIn, r, c), unlimited, 0);
+            for (int k = 0; k < 4; k++) link(at(centreOut, r, c), at(north + k, r, c), unlimited, 0);
+            link(at(centreIn, r, c), at(centreOut, r, c), job.d - 2 * half, 0);
+            if (open(r + 1, c)) link(at(south, r, c), at(north, r + 1, c), job.o, job.o);
+            if (open(r, c + 1)) link(at(east, r, c), at(west, r, c + 1), job.o, job.o);
+            if (!inside(r - 1, c)) link(at(north, r, c), outside, job.o, 0);
+            if (!inside(r + 1, c)) link(at(south, r, c), outside, job.o, 0);
+            if (!inside(r, c - 1)) link(at(west, r, c), outside, job.o, 0);
+            if (!inside(r, c + 1)) link(at(east, r, c), outside, job.o, 0);
         }
     }
     int chosen = 0;
@@ -142,20 +143,26 @@ inline Answer route(const Job &job) {
             if (mark == 0) continue;
             // n of the tile whose NW corner the pin is, e where it is NE, s where SE, w where SW
             const int tiles[4][3] = {{r, c, north}, {r, c - 1, east}, {r - 1, c - 1, south}, {r - 1, c, west}};
-            for (auto [tr, tc, k] : tiles) {
+            for (const auto &[tr, tc, k] : tiles) {
                 if (!open(tr, tc)) continue;
-                net.link(at(leave, r, c), at(k, tr, tc), mark == 1 ? 1 : unlimited, 0);
-                if (mark == 2) net.link(at(k, tr, tc), at(entry, r, c), unlimited, 0);
+                link(at(leave, r, c), at(k, tr, tc), mark == 1 ? 1 : unlimited, 0);
+                if (mark == 2) link(at(k, tr, tc), at(entry, r, c), unlimited, 0);
             }
-            if (mark == 2) net.link(at(entry, r, c), at(leave, r, c), job.e, 0);
+            if (mark == 2) link(at(entry, r, c), at(leave, r, c), job.e, 0);
             if (mark == 1) {
-                net.link(source, at(leave, r, c), 1, 0);
+                link(source, at(leave, r, c), 1, 0);
                 // straight out of the first and last rows and columns
-                if (r == 0 || r == job.rows - 1 || c == 0 || c == job.columns - 1) net.link(at(leave, r, c), outside, 1, 0);
+                if (r == 0 || r == job.rows - 1 || c == 0 || c == job.columns - 1) link(at(leave, r, c), outside, 1, 0);
                 chosen++;
             }
         }
     }
+    return chosen;
+}
+
+inline Answer route(const Job &job) {
+    Network net(nodes);
+    const int chosen = links(job, [&](int a, int b, int forth, int back) { net.link(a, b, forth, back); });
     return {chosen, net.greatest(source, outside)};
 }
 

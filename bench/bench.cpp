@@ -1,6 +1,8 @@
-// bench JOB..: the library and the plain router on the same jobs, and each operation on full and idle records, as tables in Markdown. Times are those of the
-// processor, so that other work on the machine counts little. Ends with status 1 where the library's wires are not the plain router's greatest number.
+// bench ESCAPE EMPTY JOB..: the library and the plain router on the same jobs, the program ESCAPE less the empty program EMPTY beside the libraries of
+// peers.h, and each operation on full and idle records, as tables in Markdown. Times are those of the processor, so that other work on the machine counts
+// little. Ends with status 1 where two greatest numbers differ.
 #include "baseline.h"
+#include "peers.h"
 #include "talusdish.h"
 
 #include <cstdint>
@@ -9,6 +11,11 @@
 #include <fstream>
 #include <functional>
 #include <iterator>
+
+#include <fcntl.h>
+#include <sys/resource.h>
+#include <sys/wait.h>
+#include <unistd.h>
 
 namespace {
 
@@ -99,6 +106,52 @@ bool compare(const std::string &name, const std::string &text) {
     return agree;
 }
 
+// Microseconds of a program that reads a file.
+double process(const char *program, const std::string &input) {
+    const pid_t child = fork();
+    if (child == 0) {
+        if (dup2(open(input.c_str(), O_RDONLY), 0) == 0 && dup2(open("/dev/null", O_WRONLY), 1) == 1) execl(program, program, nullptr);
+        _exit(127);
+    }
+    int status = 0;
+    rusage used{};
+    if (child < 0 || wait4(child, &status, 0, &used) != child || !WIFEXITED(status) || WEXITSTATUS(status) != 0) {
+        std::fprintf(stderr, "%s failed\n", program);
+        std::exit(1);
+    }
+    const auto micros = [](const timeval &t) { return 1e6 * static_cast<double>(t.tv_sec) + static_cast<double>(t.tv_usec); };
+    return micros(used.ru_utime) + micros(used.ru_stime);
+}
+
+// The least of so many times in which all were measured in turn.
+constexpr int turns = 25;
+
+// One row of the table of the program; whether all agree.
+bool beside(const char *escape, const char *empty, const std::vector<peers::Peer> &others, const std::string &name, const std::string &path,
+            const std::string &text) {
+    baseline::Job job;
+    baseline::read(text, job);
+    const int greatest = baseline::route(job).greatest;
+    double own = 1e12, nothing = 1e12;
+    std::vector<double> least(others.size(), 1e12);
+    bool agree = true;
+    for (int i = 0; i < turns; i++) {
+        own = std::min(own, process(escape, path));
+        nothing = std::min(nothing, process(empty, path));
+        for (std::size_t k = 0; k < others.size(); k++) {
+            const double start = now();
+            agree = others[k].greatest(job) == greatest && agree;
+            least[k] = std::min(least[k], now() - start);
+        }
+    }
+    std::printf("| %s | %.2f |", name.c_str(), (own - nothing) / 1e3);
+    for (double t : least) std::printf(" %.2f |", t / 1e3);
+    if (!least.empty()) std::printf(" %.2f |", (own - nothing) / *std::min_element(least.begin(), least.end()));
+    std::printf("\n");
+    if (!agree) std::fprintf(stderr, "%s: a library finds another number\n", name.c_str());
+    return agree;
+}
+
 // Microseconds of a call on a host, which `prepare` makes ready outside the time.
 double each(const std::function<void()> &prepare, const std::function<uint64_t()> &call) {
     std::vector<double> times;
@@ -171,17 +224,28 @@ std::string contents(const std::string &name) {
 
 } // namespace
 
-int main(int count, char **names) {
+int main(int count, char **words) {
+    if (count < 4) return 2;
+    const char *escape = words[1], *empty = words[2];
+    const std::vector<std::string> paths(words + 3, words + count);
+    const std::string folder = paths[0].substr(0, paths[0].rfind('/') + 1);
+    const auto name = [&](const std::string &path) { return path.substr(folder.size(), path.rfind('.') - folder.size()); };
     bool agree = true;
     std::printf("Milliseconds, the median of up to five runs; ratio: the whole by the plain router.\n\n");
     std::printf("| job | array | chosen | wires | Read text | all Steps | µs a Step | Shortfall | whole | plain router | ratio |\n");
     std::printf("|---|---|---|---|---|---|---|---|---|---|---|\n");
-    std::string folder;
-    for (int i = 1; i < count; i++) {
-        const std::string path = names[i];
-        const std::size_t slash = path.rfind('/') + 1;
-        folder = path.substr(0, slash);
-        agree = compare(path.substr(slash, path.rfind('.') - slash), contents(path)) && agree;
+    for (const std::string &path : paths) {
+        agree = compare(name(path), contents(path)) && agree;
+        std::fflush(stdout);
+    }
+    const std::vector<peers::Peer> others = peers::installed();
+    std::printf("\nMilliseconds of the program `escape` less those of an empty program, beside libraries that are handed the job (the greatest number alone), the least of %d turns; ratio: by the least of the libraries.\n\n| job | `escape` |", turns);
+    for (const peers::Peer &p : others) std::printf(" %s |", p.name);
+    std::printf(others.empty() ? "\n|---|---|" : " ratio |\n|---|---|---|");
+    for (std::size_t i = 0; i < others.size(); i++) std::printf("---|");
+    std::printf("\n");
+    for (const std::string &path : paths) {
+        agree = beside(escape, empty, others, name(path), path, contents(path)) && agree;
         std::fflush(stdout);
     }
     std::printf("\nMicroseconds for a call on a record of 40 by 40 pins, the median: idle; full_wired stepped to \"all wired\"; full_short stepped to \"short\".\n\n");
