@@ -1,6 +1,7 @@
 -- What the loop finder answers: that behind fresh links every loaded dart falls along an order of the spots, so that no chain of loaded darts is closed there;
 -- or a closed path of loaded darts, by its spots and slots. Assumes nothing.
 pub mod Dfs
+pub mod Answers
 pub mod Slots
 pub mod Marks
 pub mod Stack
@@ -25,8 +26,6 @@ use Rattle.channel.specs.Map.Fresh.{isFresh}
 use Rattle.channel.specs.Map.Network.Loops.{FallsFrom}
 use Rattle.channel.specs.Map.Network.{net}
 use Rattle.channel.specs.Map.Origins.{originOf}
-use Rattle.audit.specs.declared.loops.Found.{Found}
-use Rattle.audit.specs.declared.loops.Found.the-variants.{Free, Ring}
 
 -- what is lent to the finder is long enough: the record, the marks, the stack's spots and its slots
 pub record Room (rec fin st sl : List ℕ) : Type 0 where
@@ -51,10 +50,6 @@ pub record Closed (rec st sl : List ℕ) (j n : ℕ) : Type 0 where
 pub record Settled (old rec fin : List ℕ) : Type 0 where
   pub falls : FallsFrom 2 rec (λ u. getD fin u 0)
   pub fresh : (i : ℕ) → i < 24000 → T (isFresh old rec i) → originOf rec i < spots → 2 ≤ getD fin (originOf rec i) 0
-
-pub data Answer (old rec fin st sl : List ℕ) : Found → Type 0 where
-  free : Settled old rec fin → Answer old rec fin st sl Free
-  ring : {j n : ℕ} → Closed rec st sl j n → Answer old rec fin st sl (Ring j n)
 
 -- b says whether a loop stands, for every job with feasible loads
 pub record LoopStands (rec : List ℕ) (b : Bool) : Type 0 where

@@ -1,19 +1,20 @@
 // Closed chains of loaded links. A depth-first search with its own stack, from the spots that the wires of fresh links leave, says that there is none behind
 // them, with an order along which loaded darts fall, or gives one. A link is fresh that has the first wire of a direction, beside old loads. The search works
 // on what is lent to it.
-ghost use Prim.Native.Nat.{_+_, _*_, _≤_, _<_};
-ghost use lib.ListN.{length, set};
+ghost use Prim.Native.Nat.{ℕ, _+_, _*_, _≤_, _<_};
+ghost use lib.ListN.{length, getD, set};
 ghost use Rattle.channel.specs.Map.{spots};
-ghost use Rattle.audit.specs.Loops.{Room, Answer, LoopStands};
-ghost use Rattle.audit.specs.Loops.Dfs.{Cleared, Rest, Picked, Placed, Bared, Dfs, Aimed, Entered, Turned, Resumed, Searched, Traced, FreshTraced};
+ghost use Rattle.audit.specs.Loops.{Room, LoopStands};
+ghost use Rattle.audit.specs.Loops.Answers.{Answer};
+ghost use Rattle.audit.specs.Loops.Dfs.{Cleared, Rest, Picked, Placed, Bared, Forgotten, Dfs, Aimed, Entered, Turned, Resumed, Searched, Traced, FreshTraced};
 use channel::columns;
 use channel::rows;
 use outward::lead_outward;
 
-// No closed chain; or the spots of one in st, and its slots in sl, from the first number to before the second.
+// No closed chain; or the spots of one in st, and its slots in sl, from the first number to before the second, and how many spots are done.
 pub enum Found {
     Free,
-    Ring(usize, usize),
+    Ring(usize, usize, usize),
 }
 
 // What one turn leads to: a spot that is not seen; or another height of the stack, and how many spots are done; or a spot that is on the stack.
@@ -24,17 +25,17 @@ enum Turn {
 }
 
 // What the turns up to a new spot lead to: the height of the stack, how many spots are done, and the spot; or how many are done, with nothing on the stack;
-// or the height, and a spot that is on the stack.
+// or the height, how many are done, and a spot that is on the stack.
 enum Way {
     Down(usize, usize, usize),
     Up(usize),
-    Back(usize, usize),
+    Back(usize, usize, usize),
 }
 
-// What the search from one spot leads to: how many spots are done; or a ring.
+// What the search from one spot leads to: how many spots are done; or a ring, and how many are done.
 enum Search {
     Over(usize),
-    Ring(usize, usize),
+    Ring(usize, usize, usize),
 }
 
 // No spot is seen.
@@ -109,7 +110,7 @@ fn resume(rec: &[u8], fin: &mut [u16], st: &mut [u16], sl: &mut [u8], n0: usize,
                 m = b;
             }
             Turn::Hit(v) => {
-                return Way::Back(n, v);
+                return Way::Back(n, m, v);
             }
         }
     }
@@ -151,6 +152,17 @@ fn bare(sl: &mut [u8], n: usize)
     }
 }
 
+// The first n spots of st are not seen any more.
+fn forget(fin: &mut [u16], st: &[u16], n: usize)
+    requires { ⌜ (spots ≤ length (now fin)) × (n ≤ length (now st)) × ((i : ℕ) → i < n → getD (now st) i 0 < spots) ⌝ }
+    ensures { λ _. ⌜ Forgotten (now (st .entry)) n (now (fin .entry)) (now (fin .exit)) ⌝ }
+{
+    for i in 0..n {
+        let u = st[i] as usize;
+        fin[u] = 0;
+    }
+}
+
 // All that r leads to, which is not seen, with m0 done.
 fn descend(
     rec: &[u8],
@@ -177,9 +189,10 @@ fn descend(
             Way::Up(a) => {
                 return Search::Over(a);
             }
-            Way::Back(a, w) => {
+            Way::Back(a, b, w) => {
                 bare(sl, a);
-                return Search::Ring(place(st, a, w), a);
+                forget(fin, st, a);
+                return Search::Ring(place(st, a, w), a, b);
             }
         }
     }
@@ -249,8 +262,8 @@ fn trace_run(
             Search::Over(a) => {
                 m = a;
             }
-            Search::Ring(a, b) => {
-                return Search::Ring(a, b);
+            Search::Ring(a, b, c) => {
+                return Search::Ring(a, b, c);
             }
         }
     }
@@ -258,19 +271,26 @@ fn trace_run(
 }
 
 // Says that no chain of loaded darts behind the fresh links is closed, with fin as the order along which they fall; or gives one. With no closed chain in
-// the old loads there is then none at all. The last bytes come first: they are those of the direct exits and the legs, so that whole wires are followed.
-pub fn find(rec: &[u8], old: &[u8], fin: &mut [u16], st: &mut [u16], sl: &mut [u8]) -> Found
-    requires { ⌜ Room (now rec) (now fin) (now st) (now sl) × (32768 ≤ length (now old)) × Cleared (now fin) ⌝ }
+// the old loads there is then none at all. m0 spots are done as it begins. The last bytes come first: they are those of the direct exits and the legs, so that whole wires are followed.
+pub fn find(
+    rec: &[u8],
+    old: &[u8],
+    fin: &mut [u16],
+    st: &mut [u16],
+    sl: &mut [u8],
+    m0: usize,
+) -> Found
+    requires { ⌜ Dfs (now rec) (now fin) (now st) (now sl) 0 m0 × (32768 ≤ length (now old)) ⌝ }
     ensures { λ f. ⌜ Answer (now (old .entry)) (now (rec .entry)) (now (fin .exit)) (now (st .exit)) (now (sl .exit)) f ⌝ }
 {
-    let mut m = 0;
+    let mut m = m0;
     for k in 0..1500 {
         match trace_run(rec, old, fin, st, sl, 1499 - k, m) {
             Search::Over(a) => {
                 m = a;
             }
-            Search::Ring(a, b) => {
-                return Found::Ring(a, b);
+            Search::Ring(a, b, c) => {
+                return Found::Ring(a, b, c);
             }
         }
     }
@@ -287,8 +307,8 @@ pub fn stands(rec: &[u8]) -> bool
     let mut fin = [0u16; 13128];
     let mut st = [0u16; 13128];
     let mut sl = [0u8; 13128];
-    match find(rec, &old, &mut fin, &mut st, &mut sl) {
+    match find(rec, &old, &mut fin, &mut st, &mut sl, 0) {
         Found::Free => false,
-        Found::Ring(_, _) => true,
+        Found::Ring(_, _, _) => true,
     }
 }

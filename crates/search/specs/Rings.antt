@@ -17,7 +17,9 @@ use Rattle.channel.specs.Map.Network.Flows.{starts-count}
 use Rattle.channel.specs.Map.Fresh.{fresh-loops}
 use Rattle.augment.specs.Laid.{laidAll, laid-last}
 use Rattle.search.specs.Unlooped.{Lighter, takes-out}
-use Rattle.audit.specs.Loops.{ringDarts, Closed, Settled, Answer, free, ring}
+use Rattle.audit.specs.Loops.{ringDarts, Closed, Settled}
+use Rattle.audit.specs.Loops.Answers.{Answer, free, ring}
+use Rattle.audit.specs.Loops.Dfs.{Dfs}
 use Rattle.augment.specs.Pins.{Held}
 use Rattle.search.specs.Loose.{Loosened, Freed}
 use Rattle.audit.specs.declared.loops.Found.{Found}
@@ -128,8 +130,8 @@ module _ {old rec fin st sl : List ℕ} {a : Found} (r : Answer old rec fin st s
       by : Answer old rec fin st sl Free → Settled old rec fin
       by (free f) = f
 
-  pub found-ring : {j n : ℕ} → a ≡ Ring j n → Closed rec st sl j n
-  found-ring {j} {n} e = by (subst (λ (x : Found). Answer old rec fin st sl x) e r)
+  pub found-ring : {j n m : ℕ} → a ≡ Ring j n m → Closed rec st sl j n × Dfs rec fin st sl 0 m
+  found-ring {j} {n} {m} e = by (subst (λ (x : Found). Answer old rec fin st sl x) e r)
     where
-      by : Answer old rec fin st sl (Ring j n) → Closed rec st sl j n
-      by (ring c) = c
+      by : Answer old rec fin st sl (Ring j n m) → Closed rec st sl j n × Dfs rec fin st sl 0 m
+      by (ring c s) = (c, s)

@@ -27,19 +27,21 @@ fn take_out(loads: &mut [u8], st: &[u16], sl: &[u8], j: usize, n: usize)
     }
 }
 
-// No loop stands any more, if none stands in the old loads. It works on what is lent to it.
+// No loop stands any more, if none stands in the old loads. It works on what is lent to it. Spots that are done stay so as loads are taken out.
 pub fn untangle(old: &[u8], loads: &mut [u8], fin: &mut [u16], st: &mut [u16], sl: &mut [u8])
     requires { ⌜ Tangled (now old) (now loads) (now fin) (now st) (now sl) ⌝ }
     ensures { λ _. ⌜ Freed (now (old .entry)) (now (loads .entry)) (now (loads .exit)) ⌝ }
 {
+    clear(fin);
+    let mut m = 0;
     loop {
-        clear(fin);
-        match find(loads, old, fin, st, sl) {
+        match find(loads, old, fin, st, sl, m) {
             Found::Free => {
                 return;
             }
-            Found::Ring(j, n) => {
+            Found::Ring(j, n, k) => {
                 take_out(loads, st, sl, j, n);
+                m = k;
             }
         }
     }

@@ -1,7 +1,7 @@
 -- The state of the loop finder. fin has 0 for a spot that is not seen, 1 for one on the stack, and 2 more than the number of those done before it for one
 -- that is done; st has the spots on the stack, and sl the slots at which they stand, each with 8 times the loaded slots from it on, as bits. Assumes nothing.
 use mathlib.Core.Path.{_≡_}
-use mathlib.Core.Logic.{_≢_}
+use mathlib.Core.Logic.{_≢_, _⊎_}
 use mathlib.Core.List.{List}
 use Prim.Native.Nat.{ℕ, _+_, _-_, _*_, _/_, _%_, _≤_, _<_}
 use lib.Dec.{T, eqb}
@@ -60,6 +60,13 @@ pub record Placed (st : List ℕ) (n v i : ℕ) : Type 0 where
 abbrev pub unseen : List ℕ → ℕ
 unseen fin = sum spots (λ u. when (eqb (getD fin u 0) 0) 1)
 
+-- the first n spots of st are not seen any more
+pub record Forgotten (st : List ℕ) (n : ℕ) (fin fin' : List ℕ) : Type 0 where
+  pub gone : (i : ℕ) → i < n → getD fin' (getD st i 0) 0 ≡ 0
+  pub each : (u : ℕ) → (getD fin' u 0 ≡ 0) ⊎ (getD fin' u 0 ≡ getD fin u 0)
+  pub same : (u : ℕ) → ((i : ℕ) → i < n → getD st i 0 ≢ u) → getD fin' u 0 ≡ getD fin u 0
+  pub count : unseen fin' ≤ unseen fin + n
+
 -- n spots on the stack, and m done
 pub record Dfs (rec fin st sl : List ℕ) (n m : ℕ) : Type 0 where
   pub room : Room rec fin st sl
@@ -99,7 +106,7 @@ pub record Entered (rec fin st sl : List ℕ) (n v : ℕ) (fin' st' sl' : List �
 pub data Turned (rec fin : List ℕ) (n m : ℕ) (fin' st' sl' : List ℕ) : Turn → Type 0 where
   new : {v : ℕ} → Aimed rec fin' st' sl' n m v → Still fin fin' → Turned rec fin n m fin' st' sl' (New v)
   more : {n' m' : ℕ} → Dfs rec fin' st' sl' n' m' → Still fin fin' → n' < n → Turned rec fin n m fin' st' sl' (More n' m')
-  hit : {v m' : ℕ} → Dfs rec fin' st' sl' n m' → Edge rec (getD st' (n - 1) 0) (getD sl' (n - 1) 0 % 8) v → getD fin' v 0 ≡ 1
+  hit : {v : ℕ} → Dfs rec fin' st' sl' n m → Edge rec (getD st' (n - 1) 0) (getD sl' (n - 1) 0 % 8) v → getD fin' v 0 ≡ 1
       → Turned rec fin n m fin' st' sl' (Hit v)
 
 -- the turns up to a new spot: the top leads to it; or nothing is left on the stack; or the top leads to v, which is on the stack
@@ -107,12 +114,12 @@ pub data Resumed (rec fin fin' st' sl' : List ℕ) : Way → Type 0 where
   down : {n' m' v : ℕ} → Aimed rec fin' st' sl' n' m' v → Still fin fin' → Resumed rec fin fin' st' sl' (Down n' m' v)
   up : {m' : ℕ} → Dfs rec fin' st' sl' 0 m' → Kept fin fin' → Resumed rec fin fin' st' sl' (Up m')
   back : {n' m' v : ℕ} → Dfs rec fin' st' sl' n' m' → Edge rec (getD st' (n' - 1) 0) (getD sl' (n' - 1) 0 % 8) v → getD fin' v 0 ≡ 1
-      → Resumed rec fin fin' st' sl' (Back n' v)
+      → Resumed rec fin fin' st' sl' (Back n' m' v)
 
--- the search from one spot: all that was seen is done; or a ring stands
+-- the search from one spot: all that was seen is done; or a ring stands, and nothing is left on the stack
 pub data Searched (rec fin fin' st' sl' : List ℕ) : Search → Type 0 where
   over : {m' : ℕ} → Dfs rec fin' st' sl' 0 m' → Kept fin fin' → Searched rec fin fin' st' sl' (Over m')
-  ring : {j n : ℕ} → Closed rec st' sl' j n → Searched rec fin fin' st' sl' (Ring j n)
+  ring : {j n m' : ℕ} → Closed rec st' sl' j n → Dfs rec fin' st' sl' 0 m' → Searched rec fin fin' st' sl' (Ring j n m')
 
 -- the search from the spot of the i-th load byte: where there is one, it is seen
 pub record Traced (rec : List ℕ) (i : ℕ) (fin fin' st' sl' : List ℕ) (s : Search) : Type 0 where

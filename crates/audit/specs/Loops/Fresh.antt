@@ -25,8 +25,8 @@ module _ {old rec fin fin' st' sl' : List ℕ} (a b : ℕ) where
       → FreshTraced old rec a b fin fin' st' sl' (Over m')
   fresh-over d k all = record { search = over d k; seen = λ e. all }
 
-  pub fresh-ring : {j n : ℕ} → Closed rec st' sl' j n → FreshTraced old rec a b fin fin' st' sl' (Ring j n)
-  fresh-ring c = record { search = ring c; seen = λ e. absurd (let z : _≡_ {A = ℕ} 0 1 = cc in omega arith) }
+  pub fresh-ring : {j n m' : ℕ} → Closed rec st' sl' j n × Dfs rec fin' st' sl' 0 m' → FreshTraced old rec a b fin fin' st' sl' (Ring j n m')
+  fresh-ring (c, s) = record { search = ring c s; seen = λ e. absurd (let z : _≡_ {A = ℕ} 0 1 = cc in omega arith) }
 
 -- none of them is fresh
 pub fresh-none : {old rec fin st sl : List ℕ} {m : ℕ} (a b : ℕ) → Dfs rec fin st sl 0 m → ((i : ℕ) → a ≤ i → i < b → T (isFresh old rec i) → ⊥)

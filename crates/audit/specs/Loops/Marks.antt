@@ -1,5 +1,5 @@
 -- Counting the spots that are not seen, and reading a list after a store. Assumes nothing.
-use mathlib.Core.Path.{_≡_, sym, ap, _∙_}
+use mathlib.Core.Path.{_≡_, refl, sym, ap, _∙_}
 use mathlib.Core.Logic.{_≢_, _⊎_, inl, inr, ⊎-elim}
 use mathlib.Core.Bool.{Bool, true, false}
 use mathlib.Core.List.{List}
@@ -12,7 +12,8 @@ use lib.Seq.{getD-set-same, getD-set-other}
 use Rattle.sums.specs.Counting.{when, sum}
 use Rattle.sums.specs.Sums.{when-same, when-other, sum-cong, sum-add, sum-pick}
 use Rattle.channel.specs.Map.{spots}
-use Rattle.audit.specs.Loops.Dfs.{unseen, Kept}
+use borrow.Author.Count.{below-more}
+use Rattle.audit.specs.Loops.Dfs.{unseen, Kept, Forgotten}
 
 pub same-or : (a b : ℕ) → (a ≡ b) ⊎ (a ≢ b)
 same-or a b = by (ℕ-discrete a b)
@@ -85,3 +86,20 @@ module _ (t : List ℕ) (v : ℕ) (lv : v < spots) (lt : v < length t) where
 -- a mark keeps what was seen
 pub kept-set : (fin : List ℕ) (v a : ℕ) → v < length fin → Kept fin (set fin v (suc a))
 kept-set fin v a l u n e = ⊎-elim (λ w. omega (arith, w .1)) (λ w. n (sym (w .1) ∙ e)) (after fin v (suc a) u l)
+
+-- ---- forgetting
+
+pub forgot-none : (st fin : List ℕ) → Forgotten st 0 fin fin
+forgot-none st fin = record { gone = λ i l. absurd (omega arith); each = λ u. inr refl; same = λ u n. refl; count = omega arith }
+
+pub forgot-more : {st fin fin' : List ℕ} {n : ℕ} → getD st n 0 < spots → getD st n 0 < length fin' → Forgotten st n fin fin'
+    → Forgotten st (n + 1) fin (set fin' (getD st n 0) 0)
+forgot-more {st} {fin} {fin'} {n} lv lt f =
+    let v = getD st n 0 in
+    record {
+      gone = below-more (λ i. getD (set fin' v 0) (getD st i 0) 0 ≡ 0) n
+          (λ i h. ⊎-elim (λ w. w .1) (λ w. w .1 ∙ f .gone i h) (after fin' v 0 (getD st i 0) lt)) (getD-set-same fin' v 0 0 lt);
+      each = λ u. ⊎-elim (λ w. inl (w .1)) (λ w. ⊎-elim (λ e. inl (w .1 ∙ e)) (λ e. inr (w .1 ∙ e)) (f .each u)) (after fin' v 0 u lt);
+      same = λ u m. getD-set-other fin' v u 0 0 (λ e. m n (omega arith) (sym e)) ∙ f .same u (λ i h. m i (omega arith));
+      count = omega (arith, f .count, blank-set fin' v lv lt 0, blank-le 0);
+    }

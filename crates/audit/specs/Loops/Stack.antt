@@ -10,10 +10,10 @@ use native.Mathlib.Omega.{arith}
 use borrow.Author.Count.{below-more}
 use lib.ListN.{length, getD, set, length-set}
 use lib.Seq.{getD-set-same, getD-set-other}
-use Rattle.channel.specs.Map.{spots}
+use Rattle.channel.specs.Map.{spots, darts, view}
 use Rattle.channel.specs.Map.Numbers.{slot-dart, head-spot}
 use Rattle.audit.specs.Loops.{Room}
-use Rattle.audit.specs.Loops.Dfs.{Edge, Cleared, Rest, unseen, Dfs}
+use Rattle.audit.specs.Loops.Dfs.{Edge, Cleared, Rest, unseen, Forgotten, Dfs}
 use Rattle.audit.specs.Loops.Marks.{same-or, after, blanks-le, unseen-less, unseen-same}
 
 -- an edge leads to a spot
@@ -54,6 +54,34 @@ module _ {rec fin st sl : List ℕ} {n m : ℕ} (d : Dfs rec fin st sl n m) wher
 
   pub dfs-empty : n ≤ 0 → Dfs rec fin st sl 0 m
   dfs-empty l = let e : n ≡ 0 = omega arith in subst (λ (x : ℕ). Dfs rec fin st sl x m) e d
+
+  -- what is on the stack is forgotten: what is done leads to what is done
+  pub dfs-forget : {fin' sl' : List ℕ} → length fin' ≡ length fin → length sl' ≡ length sl → Forgotten st n fin fin' → Dfs rec fin' st sl' 0 m
+  dfs-forget {fin'} {sl'} ef es f =
+      record {
+        room = record { whole = d .room .whole; marks = omega (arith, d .room .marks, ef); stack = d .room .stack; slots = omega (arith, d .room .slots, es) };
+        count = omega (arith, d .count, f .count);
+        small = λ u l. ⊎-elim (λ e. omega (arith, e)) (λ e. omega (arith, e, d .small u l)) (f .each u);
+        on = λ i l. absurd (omega arith);
+        off = λ u l e. absurd (none u l e);
+        apart = λ i j a b. absurd (omega arith);
+        link = λ i l. absurd (omega arith);
+        past = λ i l. absurd (omega arith);
+        rest = λ i l. absurd (omega arith);
+        falls = λ u l h k v g.
+            let eu : getD fin' u 0 ≡ getD fin u 0 = ⊎-elim (λ e. absurd (omega (arith, h, e))) (λ e. e) (f .each u) in
+            let (a, b) = d .falls u l (omega (arith, h, eu)) k v g in
+            (omega (arith, a, still v a), omega (arith, b, eu, still v a));
+      }
+    where
+      still : (v : ℕ) → 2 ≤ getD fin v 0 → getD fin' v 0 ≡ getD fin v 0
+      still v h = f .same v (λ i l e. omega (arith, h, d .on i l .1, ap (λ (x : ℕ). getD fin x 0) e))
+
+      none : (u : ℕ) → u < spots → getD fin' u 0 ≡ 1 → ⊥
+      none u l e = ⊎-elim
+          (λ z. omega (arith, e, z))
+          (λ s. let (i, li, q) = d .off u l (sym s ∙ e) in omega (arith, f .gone i li, ap (λ (x : ℕ). getD fin' x 0) q, e))
+          (f .each u)
 
   -- the slot of the top moves on
   pub dfs-slot : (i s : ℕ) → n ≡ i + 1 → Below rec fin (getD st i 0) (s % 8) → Rest rec (getD st i 0) s → Dfs rec fin st (set sl i s) n m
@@ -171,3 +199,25 @@ module _ {rec fin st sl : List ℕ} {n m : ℕ} (d : Dfs rec fin st sl n m) wher
     where
       below : (j : ℕ) → j < n → getD st j 0 ≢ getD st i 0 → j < i
       below j l ne = ⊎-elim (λ q. absurd (ne (ap (λ (y : ℕ). getD st y 0) q))) (λ h. h) (eq-or-lt-of-le (omega arith))
+
+-- what is done stays so as loads are taken out
+pub dfs-lighter : {rec rec' fin st sl : List ℕ} {m : ℕ} → Dfs rec fin st sl 0 m → 32768 ≤ length rec' → ((d : ℕ) → d < darts → view rec' d ≤ view rec d)
+    → Dfs rec' fin st sl 0 m
+dfs-lighter {rec} {rec'} s w less =
+    record {
+      room = record { whole = w; marks = s .room .marks; stack = s .room .stack; slots = s .room .slots };
+      count = s .count;
+      small = s .small;
+      on = s .on;
+      off = s .off;
+      apart = s .apart;
+      link = λ i l. absurd (omega arith);
+      past = λ i l. absurd (omega arith);
+      rest = λ i l. absurd (omega arith);
+      falls = λ u l h k v g. s .falls u l h k v (heavier u k v g);
+    }
+  where
+    heavier : (u k v : ℕ) → Edge rec' u k v → Edge rec u k v
+    heavier u k v g =
+        let l = less (8 * u + k) (slot-dart u k (g .spot) (omega (arith, g .slot))) in
+        record { spot = g .spot; slot = g .slot; laden = omega (arith, l, g .laden); leads = g .leads }

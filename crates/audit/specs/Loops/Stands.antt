@@ -20,7 +20,8 @@ use Rattle.channel.specs.Map.Network.Loops.{loaded-may, path-loop}
 use Rattle.channel.specs.Map.Network.{net}
 use Rattle.outward.specs.Outward.{Parts, Outward}
 use Rattle.outward.specs.Outward.Falling.{outward-loops}
-use Rattle.audit.specs.Loops.{ringDarts, Closed, Answer, free, ring, LoopStands}
+use Rattle.audit.specs.Loops.{ringDarts, Closed, LoopStands}
+use Rattle.audit.specs.Loops.Answers.{Answer, free, ring}
 use Rattle.audit.specs.declared.loops.Found.{Found}
 use Rattle.audit.specs.declared.loops.Found.the-variants.{Free, Ring}
 
@@ -48,8 +49,8 @@ module _ {old rec fin st sl : List ℕ} {f : Found} (d : Answer old rec fin st s
       by zero l p = absurd (omega arith)
       by (suc k) l p = path-loop J fits rec feasible (getD st j 0) (8 * getD st j 0 + getD sl j 0) (ringDarts st sl (suc j) k) p
 
-  pub a-loop : {j n : ℕ} → f ≡ Ring j n → LoopStands rec true
-  a-loop {j} {n} e = by (subst (λ (x : Found). Answer old rec fin st sl x) e d)
+  pub a-loop : {j n m : ℕ} → f ≡ Ring j n m → LoopStands rec true
+  a-loop {j} {n} {m} e = by (subst (λ (x : Found). Answer old rec fin st sl x) e d)
     where
-      by : Answer old rec fin st sl (Ring j n) → LoopStands rec true
-      by (ring c) = record { yes = λ p. ring-loop j n c; no = λ p. absurd (so-not p) }
+      by : Answer old rec fin st sl (Ring j n m) → LoopStands rec true
+      by (ring c s) = record { yes = λ p. ring-loop j n c; no = λ p. absurd (so-not p) }

@@ -148,12 +148,12 @@ module _ {rec fin : List ℕ} {n m : ℕ} {fin' st' sl' : List ℕ} {t : Turn} (
       by : Turned rec fin n m fin' st' sl' (More n' m') → Dfs rec fin' st' sl' n' m' × Still fin fin' × (n' < n)
       by (more s k l) = (s, k, l)
 
-  pub took-hit : {v : ℕ} → t ≡ Hit v → (m' : ℕ) × Dfs rec fin' st' sl' n m' × Edge rec (getD st' (n - 1) 0) (getD sl' (n - 1) 0 % 8) v × (getD fin' v 0 ≡ 1)
+  pub took-hit : {v : ℕ} → t ≡ Hit v → Dfs rec fin' st' sl' n m × Edge rec (getD st' (n - 1) 0) (getD sl' (n - 1) 0 % 8) v × (getD fin' v 0 ≡ 1)
   took-hit {v} e = by (subst (λ (x : Turn). Turned rec fin n m fin' st' sl' x) e d)
     where
       by : Turned rec fin n m fin' st' sl' (Hit v)
-          → (m' : ℕ) × Dfs rec fin' st' sl' n m' × Edge rec (getD st' (n - 1) 0) (getD sl' (n - 1) 0 % 8) v × (getD fin' v 0 ≡ 1)
-      by (hit {m' = m'} s a b) = (m', s, a, b)
+          → Dfs rec fin' st' sl' n m × Edge rec (getD st' (n - 1) 0) (getD sl' (n - 1) 0 % 8) v × (getD fin' v 0 ≡ 1)
+      by (hit s a b) = (s, a, b)
 
 module _ {rec fin fin' st' sl' : List ℕ} {y : Way} (d : Resumed rec fin fin' st' sl' y) where
   pub went-down : {n' m' v : ℕ} → y ≡ Down n' m' v → Aimed rec fin' st' sl' n' m' v × Still fin fin'
@@ -168,13 +168,13 @@ module _ {rec fin fin' st' sl' : List ℕ} {y : Way} (d : Resumed rec fin fin' s
       by : Resumed rec fin fin' st' sl' (Up m') → Dfs rec fin' st' sl' 0 m' × Kept fin fin'
       by (up s k) = (s, k)
 
-  pub went-back : {n' v : ℕ} → y ≡ Back n' v
-      → (m' : ℕ) × Dfs rec fin' st' sl' n' m' × Edge rec (getD st' (n' - 1) 0) (getD sl' (n' - 1) 0 % 8) v × (getD fin' v 0 ≡ 1)
-  went-back {n'} {v} e = by (subst (λ (x : Way). Resumed rec fin fin' st' sl' x) e d)
+  pub went-back : {n' m' v : ℕ} → y ≡ Back n' m' v
+      → Dfs rec fin' st' sl' n' m' × Edge rec (getD st' (n' - 1) 0) (getD sl' (n' - 1) 0 % 8) v × (getD fin' v 0 ≡ 1)
+  went-back {n'} {m'} {v} e = by (subst (λ (x : Way). Resumed rec fin fin' st' sl' x) e d)
     where
-      by : Resumed rec fin fin' st' sl' (Back n' v)
-          → (m' : ℕ) × Dfs rec fin' st' sl' n' m' × Edge rec (getD st' (n' - 1) 0) (getD sl' (n' - 1) 0 % 8) v × (getD fin' v 0 ≡ 1)
-      by (back {m' = m'} s a b) = (m', s, a, b)
+      by : Resumed rec fin fin' st' sl' (Back n' m' v)
+          → Dfs rec fin' st' sl' n' m' × Edge rec (getD st' (n' - 1) 0) (getD sl' (n' - 1) 0 % 8) v × (getD fin' v 0 ≡ 1)
+      by (back s a b) = (s, a, b)
 
 module _ {rec fin fin' st' sl' : List ℕ} {a : Search} (d : Searched rec fin fin' st' sl' a) where
   pub was-over : {m' : ℕ} → a ≡ Over m' → Dfs rec fin' st' sl' 0 m' × Kept fin fin'
@@ -183,11 +183,11 @@ module _ {rec fin fin' st' sl' : List ℕ} {a : Search} (d : Searched rec fin fi
       by : Searched rec fin fin' st' sl' (Over m') → Dfs rec fin' st' sl' 0 m' × Kept fin fin'
       by (over s k) = (s, k)
 
-  pub was-ring : {j n : ℕ} → a ≡ Ring j n → Closed rec st' sl' j n
-  was-ring {j} {n} e = by (subst (λ (x : Search). Searched rec fin fin' st' sl' x) e d)
+  pub was-ring : {j n m' : ℕ} → a ≡ Ring j n m' → Closed rec st' sl' j n × Dfs rec fin' st' sl' 0 m'
+  was-ring {j} {n} {m'} e = by (subst (λ (x : Search). Searched rec fin fin' st' sl' x) e d)
     where
-      by : Searched rec fin fin' st' sl' (Ring j n) → Closed rec st' sl' j n
-      by (ring c) = c
+      by : Searched rec fin fin' st' sl' (Ring j n m') → Closed rec st' sl' j n × Dfs rec fin' st' sl' 0 m'
+      by (ring c s) = (c, s)
 
 -- ---- the search from one spot
 
@@ -211,4 +211,4 @@ module _ {rec fin st sl : List ℕ} {m : ℕ} (d : Dfs rec fin st sl 0 m) where
           search = over s (λ u n. k u (kept-set fin r 0 lf u n));
           seen = λ q h. rw (← e) (k r (λ z. omega (arith, getD-set-same fin r 1 0 lf)));
         }
-    trace-from e l (ring c) = record { search = ring c; seen = λ q h. absurd (let z : _≡_ {A = ℕ} 0 1 = cc in omega arith) }
+    trace-from e l (ring c s) = record { search = ring c s; seen = λ q h. absurd (let z : _≡_ {A = ℕ} 0 1 = cc in omega arith) }

@@ -6,6 +6,7 @@ use lib.ListN.{length, set}
 use Rattle.channel.specs.Map.Numbers.{spots-is}
 use Rattle.audit.specs.Loops.Dfs.{unseen, Kept, Aimed, over, ring}
 use Rattle.audit.specs.Loops.Rings.{hit-closed}
+use Rattle.audit.specs.Loops.Stack.{dfs-forget}
 use Rattle.audit.specs.Loops.Turns.{aimed-space, aimed-kept, entered-dfs, entered-less, entered-kept, went-down, went-up, went-back}
 use Rattle.audit.proofs.loops.descend.Statement.{statement}
 use Rattle.audit.proofs.loops.descend.Tie as tie
@@ -78,27 +79,34 @@ enum-known-a-3 : tie.Need-enum-known-a-3 Inv-loop μ-loop
 enum-known-a-3 c = search needs
 
 bare-requires : tie.Need-bare-requires Inv-loop μ-loop
-bare-requires c κs = let (m, s, e, h) = went-back (c .before .before .before .before .before .before .before .before .before .before .resume .ensures) (c .before .before .a3 .given .1) in omega (arith, s .count, s .room .slots)
+bare-requires c κs = let (s, e, h) = went-back (c .before .before .before .before .before .before .before .before .before .before .resume .ensures) (c .before .before .a3 .given .1) in omega (arith, s .count, s .room .slots)
+
+forget-requires : tie.Need-forget-requires Inv-loop μ-loop
+forget-requires c κs =
+    let (s, e, h) = went-back (c .before .before .before .before .before .before .before .before .before .before .before .before .before .before .before .resume .ensures) (c .before .before .before .before .before .before .before .a3 .given .1) in
+    (s .room .marks, omega (arith, s .count, s .room .stack), λ i l. s .on i l .0)
 
 place-requires : tie.Need-place-requires Inv-loop μ-loop
-place-requires c κs = let (m, s, e, h) = went-back (c .before .before .before .before .before .before .before .before .before .before .before .before .before .before .resume .ensures) (c .before .before .before .before .before .before .a3 .given .1) in omega (arith, s .count, s .room .stack)
+place-requires c κs = let (s, e, h) = went-back (c .before .before .before .before .before .before .before .before .before .before .before .before .before .before .before .before .before .before .before .resume .ensures) (c .before .before .before .before .before .before .before .before .before .before .before .a3 .given .1) in omega (arith, s .count, s .room .stack)
 
 same-length-4 : tie.Need-same-length-4 Inv-loop μ-loop
-same-length-4 c = let r = c .before .before .before .before .before .before .before .before .before .before .before .before .before .before .before in let e = r .before .before .before .before .before .before .before .before .before .before in r .resume .kept .1 .0 ∙ e .enter .kept .1 .0 ∙ e .before .before .before .before .loop .inv .0
+same-length-4 c = let r = c .before .before .before .before .before .before .before .before .before .before .before .before .before .before .before .before .before .before .before .before in let e = r .before .before .before .before .before .before .before .before .before .before in c .before .before .before .before .forget .kept .0 ∙ r .resume .kept .1 .0 ∙ e .enter .kept .1 .0 ∙ e .before .before .before .before .loop .inv .0
 
 same-length-5 : tie.Need-same-length-5 Inv-loop μ-loop
-same-length-5 c = let r = c .before .before .before .before .before .before .before .before .before .before .before .before .before .before .before in let e = r .before .before .before .before .before .before .before .before .before .before in r .resume .kept .1 .1 .0 ∙ e .enter .kept .1 .1 .0 ∙ e .before .before .before .before .loop .inv .1
+same-length-5 c = let r = c .before .before .before .before .before .before .before .before .before .before .before .before .before .before .before .before .before .before .before .before in let e = r .before .before .before .before .before .before .before .before .before .before in r .resume .kept .1 .1 .0 ∙ e .enter .kept .1 .1 .0 ∙ e .before .before .before .before .loop .inv .1
 
 same-length-6 : tie.Need-same-length-6 Inv-loop μ-loop
 same-length-6 c =
-    let r = c .before .before .before .before .before .before .before .before .before .before .before .before .before .before .before in
+    let r = c .before .before .before .before .before .before .before .before .before .before .before .before .before .before .before .before .before .before .before .before in
     let e = r .before .before .before .before .before .before .before .before .before .before in
-    c .before .before .before .before .bare .kept .0 ∙ r .resume .kept .1 .1 .1 .0 ∙ e .enter .kept .1 .1 .1 .0 ∙ e .before .before .before .before .loop .inv .2
+    c .before .before .before .before .before .before .before .before .before .bare .kept .0 ∙ r .resume .kept .1 .1 .1 .0 ∙ e .enter .kept .1 .1 .1 .0 ∙ e .before .before .before .before .loop .inv .2
 
 returns-2 : tie.Need-returns-2 Inv-loop μ-loop
 returns-2 c =
-    let (m, s, e, h) = went-back (c .before .before .before .before .before .before .before .before .before .before .before .before .before .before .before .resume .ensures) (c .before .before .before .before .before .before .before .a3 .given .1) in
-    ring (hit-closed s (c .before .before .before .before .bare .ensures) e _ h (c .place .ensures))
+    let f = c .before .before .before .before .forget in
+    let b = c .before .before .before .before .before .before .before .before .before .bare in
+    let (s, e, h) = went-back (c .before .before .before .before .before .before .before .before .before .before .before .before .before .before .before .before .before .before .before .before .resume .ensures) (c .before .before .before .before .before .before .before .before .before .before .before .before .a3 .given .1) in
+    ring (hit-closed s (b .ensures) e _ h (c .place .ensures)) (dfs-forget s (f .kept .0) (b .kept .0) (f .ensures))
 
 pub descend-spec : {M : Type 1} → statement M
 descend-spec =
@@ -120,6 +128,7 @@ descend-spec =
     returns
     enum-known-a-3
     bare-requires
+    forget-requires
     place-requires
     same-length-4
     same-length-5

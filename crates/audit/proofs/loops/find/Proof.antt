@@ -4,26 +4,25 @@ use Prim.Native.Nat.{ℕ, _-_, _*_, _≤_, _<_}
 use mathlib.Core.Path.{_≡_, refl, _∙_}
 use native.Mathlib.Omega.{arith}
 use lib.ListN.{length}
-use Rattle.audit.specs.Loops.{free, ring}
+use Rattle.audit.specs.Loops.Answers.{free, ring}
 use Rattle.audit.specs.Loops.Dfs.{Dfs, Begun}
 use Rattle.audit.specs.Loops.Fresh.{fresh-before, fresh-settled}
-use Rattle.audit.specs.Loops.Stack.{dfs-start}
 use Rattle.audit.specs.Loops.Turns.{was-over, was-ring}
 use Rattle.audit.proofs.loops.find.Statement.{statement}
 use Rattle.audit.proofs.loops.find.Tie as tie
 
 abbrev Inv-loop : tie.InvT-loop
-Inv-loop rec old fin₀ st₀ sl₀ m₀ k₀ fin st sl m k =
+Inv-loop rec old fin₀ st₀ sl₀ m0 m₀ k₀ fin st sl m k =
     (length fin ≡ length fin₀) × (length st ≡ length st₀) × (length sl ≡ length sl₀) × (k ≤ 1500) × Dfs rec fin st sl 0 m
     × ((i : ℕ) → 16 * (1500 - k) ≤ i → i < 24000 → Begun old rec fin i)
 
 abbrev μ-loop : tie.MeasureT-loop
-μ-loop rec old fin₀ st₀ sl₀ m₀ k₀ fin st sl m k = 1500 - k
+μ-loop rec old fin₀ st₀ sl₀ m0 m₀ k₀ fin st sl m k = 1500 - k
 
 loop-holds : tie.Need-loop-holds Inv-loop μ-loop
 loop-holds c =
     let p = c .before .before .before .before .before .pre in
-    (refl, refl, refl, omega arith, dfs-start (p .0) (p .2), λ i l h. absurd (omega arith))
+    (refl, refl, refl, omega arith, p .0, λ i l h. absurd (omega arith))
 
 sub-trace-run : tie.Need-sub-trace-run Inv-loop μ-loop
 sub-trace-run c = omega (arith, c .before .before .before .loop-test .taken)
@@ -47,7 +46,7 @@ same-length-3 : tie.Need-same-length-3 Inv-loop μ-loop
 same-length-3 c = let t = c .before .before .before .before .before .before .before .before .before in t .trace-run .kept .1 .1 .1 .1 .0 ∙ t .before .before .before .before .before .loop .inv .2
 
 returns : tie.Need-returns Inv-loop μ-loop
-returns c = ring (was-ring (c .before .before .before .before .before .before .before .before .before .trace-run .ensures .search) (c .before .a2 .given .1))
+returns c = let (r, s) = was-ring (c .before .before .before .before .before .before .before .before .before .trace-run .ensures .search) (c .before .a2 .given .1) in ring r s
 
 add-k : tie.Need-add-k Inv-loop μ-loop
 add-k c = search needs

@@ -68,7 +68,7 @@ same-length-6 c = let t = c .before .before .before .before .before .before .bef
 
 returns-2 : tie.Need-returns-2 Inv-loop μ-loop
 returns-2 c =
-    let (m, s, e, h) = took-hit (c .before .before .before .before .before .before .before .before .before .advance .ensures) (c .before .v2 .given .1) in
+    let (s, e, h) = took-hit (c .before .before .before .before .before .before .before .before .before .advance .ensures) (c .before .v2 .given .1) in
     back s e h
 
 same-length-7 : tie.Need-same-length-7 Inv-loop μ-loop
