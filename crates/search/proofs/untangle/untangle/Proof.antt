@@ -6,6 +6,8 @@ use native.Mathlib.Omega.{arith}
 use lib.ListN.{length}
 use Rattle.model.specs.Job.{Job}
 use Rattle.search.specs.Unlooped.{totalLoad}
+use Rattle.audit.specs.Loops.Dfs.{Dfs}
+use Rattle.audit.specs.Loops.Stack.{dfs-start, dfs-lighter}
 use Rattle.augment.specs.Pins.{Held}
 use Rattle.search.specs.Loose.{Loosened}
 use Rattle.search.specs.Rings.{ring-out, loose-none, loose-held, loose-more, settled-freed, found-free, found-ring}
@@ -13,55 +15,42 @@ use Rattle.search.proofs.untangle.untangle.Statement.{statement}
 use Rattle.search.proofs.untangle.untangle.Tie as tie
 
 abbrev Inv-loop : tie.InvT-loop
-Inv-loop old loads₀ fin₀ st₀ sl₀ loads fin st sl =
+Inv-loop old loads₀ fin₀ st₀ sl₀ m₀ loads fin st sl m =
     (length loads ≡ length loads₀) × (length fin ≡ length fin₀) × (length st ≡ length st₀) × (length sl ≡ length sl₀)
-    × ((J : Job) → Held J loads₀ → Loosened J loads₀ loads)
+    × ((J : Job) → Held J loads₀ → Loosened J loads₀ loads) × Dfs loads fin st sl 0 m
 
 abbrev μ-loop : tie.MeasureT-loop
-μ-loop old loads₀ fin₀ st₀ sl₀ loads fin st sl = totalLoad loads
-
-loop-holds : tie.Need-loop-holds Inv-loop μ-loop
-loop-holds c = (refl, refl, refl, refl, λ J H. loose-none H)
+μ-loop old loads₀ fin₀ st₀ sl₀ m₀ loads fin st sl m = totalLoad loads
 
 clear-requires : tie.Need-clear-requires Inv-loop μ-loop
-clear-requires c κs = omega (arith, c .before .loop .inv .1, c .before .before .before .before .before .before .before .pre .room .marks)
+clear-requires c κs = search needs
+
+loop-holds : tie.Need-loop-holds Inv-loop μ-loop
+loop-holds c =
+    let r = c .before .before .before .before .before .before .before .before .before .pre .room in
+    let k = c .before .before .clear in
+    (refl, refl, refl, refl, λ J H. loose-none H, dfs-start (record { whole = r .whole; marks = omega (arith, k .kept .0, r .marks); stack = r .stack; slots = r .slots }) (k .ensures))
 
 find-requires : tie.Need-find-requires Inv-loop μ-loop
-find-requires c κs =
-    let o = c .before .before .before .before .before .before .before .before in
-    let l = o .loop .inv in
-    let p = o .before .before .before .before .before .before .pre in
-    let r = p .room in
-    let k = c .before .before .before .before .before .before .clear in (
-      record {
-        whole = omega (arith, l .0, r .whole);
-        marks = omega (arith, k .kept .0, l .1, r .marks);
-        stack = omega (arith, l .2, r .stack);
-        slots = omega (arith, l .3, r .slots);
-      },
-      p .before,
-      k .ensures,
-    )
+find-requires c κs = (c .before .before .before .before .loop .inv .5, c .before .before .before .before .before .before .before .before .before .before .before .before .before .before .pre .before)
 
 enum-told : tie.Need-enum-told Inv-loop μ-loop
 enum-told c = search needs
 
 same-length : tie.Need-same-length Inv-loop μ-loop
-same-length c = c .before .before .before .before .before .before .before .before .before .before .before .before .before .before .before .before .before .loop .inv .0
+same-length c = c .before .before .before .before .before .before .before .before .before .before .before .before .before .loop .inv .0
 
 same-length-2 : tie.Need-same-length-2 Inv-loop μ-loop
-same-length-2 c = c .before .before .before .before .before .before .before .before .find .kept .1 .1 .0 ∙ c .before .before .before .before .before .before .before .before .before .before .before .before .before .before .before .clear .kept .0 ∙ c .before .before .before .before .before .before .before .before .before .before .before .before .before .before .before .before .before .loop .inv .1
+same-length-2 c = let f = c .before .before .before .before .before .before .before .before in let o = f .before .before .before .before .before in f .find .kept .1 .1 .0 ∙ o .loop .inv .1 ∙ o .before .before .before .clear .kept .0
 
 same-length-3 : tie.Need-same-length-3 Inv-loop μ-loop
-same-length-3 c = c .before .before .before .before .before .before .before .before .find .kept .1 .1 .1 .0 ∙ c .before .before .before .before .before .before .before .before .before .before .before .before .before .before .before .before .before .loop .inv .2
+same-length-3 c = let f = c .before .before .before .before .before .before .before .before in f .find .kept .1 .1 .1 .0 ∙ f .before .before .before .before .before .loop .inv .2
 
 same-length-4 : tie.Need-same-length-4 Inv-loop μ-loop
-same-length-4 c = c .before .before .before .before .before .before .before .before .find .kept .1 .1 .1 .1 .0 ∙ c .before .before .before .before .before .before .before .before .before .before .before .before .before .before .before .before .before .loop .inv .3
+same-length-4 c = let f = c .before .before .before .before .before .before .before .before in f .find .kept .1 .1 .1 .1 .0 ∙ f .before .before .before .before .before .loop .inv .3
 
 returns : tie.Need-returns Inv-loop μ-loop
-returns c =
-    let f = c .before .before .before .before .before .before .before .before in
-    settled-freed (f .before .before .before .before .before .before .before .before .before .loop .inv .4) (found-free (f .find .ensures) (c .enum-told .given .1))
+returns c = let f = c .before .before .before .before .before .before .before .before in settled-freed (f .before .before .before .before .before .loop .inv .4) (found-free (f .find .ensures) (c .enum-told .given .1))
 
 enum-known-j : tie.Need-enum-known-j Inv-loop μ-loop
 enum-known-j c = search needs
@@ -69,11 +58,11 @@ enum-known-j c = search needs
 take-out-requires : tie.Need-take-out-requires Inv-loop μ-loop
 take-out-requires c κs =
     let f = c .before .before .before .before .before .before .before .before .before .before .before .before in
-    let o = f .before .before .before .before .before .before .before .before .before in
-    let C = found-ring (f .find .ensures) (c .before .before .before .before .j .given .1) in
+    let o = f .before .before .before .before .before in
+    let (C, D) = found-ring (f .find .ensures) (c .before .before .before .before .j .given .1) in
     let l = o .loop .inv in
     let k = f .find .kept .1 .1 .1 in
-    let r = o .before .before .before .before .before .before .pre .room in (
+    let r = o .before .before .before .before .before .before .before .before .before .before .pre .room in (
       record {
         whole = omega (arith, l .0, r .whole);
         stack = omega (arith, C .within, k .0, l .2, r .stack);
@@ -86,22 +75,27 @@ take-out-requires c κs =
 loop-less : tie.Need-loop-less Inv-loop μ-loop
 loop-less c =
     let f = c .before .before .before .before .before .before .before .before .before .before .before .before .before .before .before in
-    let o = f .before .before .before .before .before .before .before .before .before in
-    let p = o .before .before .before .before .before .before .pre in
-    let C = found-ring (f .find .ensures) (c .before .before .before .before .before .before .before .j .given .1) in
+    let o = f .before .before .before .before .before in
+    let p = o .before .before .before .before .before .before .before .before .before .before .pre in
+    let (C, D) = found-ring (f .find .ensures) (c .before .before .before .before .before .before .before .j .given .1) in
     ring-out (loose-held (p .held) (o .loop .inv .4 (p .job) (p .held))) C (c .before .before .take-out .ensures) .falls
 
 loop-again : tie.Need-loop-again Inv-loop μ-loop
 loop-again c =
     let f = c .before .before .before .before .before .before .before .before .before .before .before .before .before .before .before in
-    let l = f .before .before .before .before .before .before .before .before .before .loop .inv in
+    let o = f .before .before .before .before .before in
+    let p = o .before .before .before .before .before .before .before .before .before .before .pre in
+    let l = o .loop .inv in
     let k = f .find .kept .1 .1 in
-    let C = found-ring (f .find .ensures) (c .before .before .before .before .before .before .before .j .given .1) in (
-      c .before .before .take-out .kept .0 ∙ l .0,
-      k .0 ∙ f .before .before .before .before .before .before .before .clear .kept .0 ∙ l .1,
+    let t = c .before .before .take-out in
+    let (C, D) = found-ring (f .find .ensures) (c .before .before .before .before .before .before .before .j .given .1) in
+    let M = ring-out (loose-held (p .held) (l .4 (p .job) (p .held))) C (t .ensures) in (
+      t .kept .0 ∙ l .0,
+      k .0 ∙ l .1,
       k .1 .0 ∙ l .2,
       k .1 .1 .0 ∙ l .3,
-      λ J H. let L = l .4 J H in loose-more L (ring-out (loose-held H L) C (c .before .before .take-out .ensures)),
+      λ J H. let L = l .4 J H in loose-more L (ring-out (loose-held H L) C (t .ensures)),
+      dfs-lighter D (omega (arith, t .kept .0, l .0, p .room .whole)) (M .less),
     )
 
 pub untangle-spec : {M : Type 1} → statement M
@@ -110,8 +104,8 @@ untangle-spec =
     (tie.spec
     Inv-loop
     μ-loop
-    loop-holds
     clear-requires
+    loop-holds
     find-requires
     enum-told
     same-length
