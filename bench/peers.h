@@ -9,6 +9,7 @@
 #define HAS_LEMON 1
 #include <lemon/preflow.h>
 #include <lemon/smart_graph.h>
+#pragma GCC diagnostic ignored "-Wmaybe-uninitialized" // LEMON adds an arc and then fills it in
 #endif
 
 #if __has_include(<boost/graph/boykov_kolmogorov_max_flow.hpp>)
