@@ -1,7 +1,7 @@
 -- What the audit decides: a record whose values, loads and unused bytes are in order, loops apart; and how a program's answer decides a statement.
 -- Assumes nothing.
-use mathlib.Core.Path.{_≡_, sym, subst}
-use mathlib.Core.Bool.{Bool, true, false, not}
+use mathlib.Core.Path.{_≡_, refl, sym, subst}
+use mathlib.Core.Bool.{Bool, true, false, not, _&&_}
 use mathlib.Core.List.{List}
 use Prim.Native.Nat.{ℕ, _+_, _≤_, _<_}
 use native.Mathlib.Omega.{arith}
@@ -41,9 +41,20 @@ test-holds true u e n = subst T e tt
 test-holds false u e n = absurd (subst T n tt)
 
 -- what holds below n, and at n
-pub one-more : (P : ℕ → Type 0) (n : ℕ) → ((i : ℕ) → i < n → P i) → P n → (i : ℕ) → i < n + 1 → P i
+one-more : (P : ℕ → Type 0) (n : ℕ) → ((i : ℕ) → i < n → P i) → P n → (i : ℕ) → i < n + 1 → P i
 one-more P n f p i l = by (eqb i n) (same? i n)
   where
     by : (b : Bool) → Same i n b → P i
     by true (same e) = subst P (sym e) p
     by false (other e) = f i (omega arith)
+
+-- tested below n, and at n
+pub decides-more : (P : ℕ → Type 0) (n : ℕ) (b t : Bool) → Decides ((i : ℕ) → i < n → P i) b → Decides (P n) t → Decides ((i : ℕ) → i < n + 1 → P i) (b && t)
+decides-more P n true true d e = decides-yes (one-more P n (d .yes refl) (e .yes refl))
+decides-more P n true false d e = decides-no (λ f. e .no refl (f n (omega arith)))
+decides-more P n false t d e = decides-no (λ f. d .no refl (λ i l. f i (omega arith)))
+
+-- a test asked where A holds, which does
+pub decides-here : (A : Type 0) (t u : Bool) → t ≡ u → A → Decides (A → T u) t
+decides-here A true u e a = decides-yes (λ b. subst T e tt)
+decides-here A false u e a = decides-no (λ f. subst T (sym e) (f a))

@@ -1,16 +1,17 @@
 -- The tests of all cells, with those of the header and of the unused bytes, say exactly that the record is feasible. Assumes nothing.
-use mathlib.Core.Path.{_≡_, refl, sym, subst}
-use mathlib.Core.Bool.{Bool, true, false, not, _&&_}
+use mathlib.Core.Path.{_≡_, refl}
+use mathlib.Core.Bool.{Bool, _&&_}
 use mathlib.Core.List.{List}
 use Prim.Native.Nat.{ℕ, _≤_, _<_}
-use borrow.Author.Tests.{not-false}
+use native.Mathlib.Omega.{arith}
 use lib.Dec.{T}
 use lib.ListN.{length}
 use Rattle.sums.specs.Tests.{and-left, and-right, and-both}
 use Rattle.model.specs.Job.{Job, arrayFits, capsFit}
 use Rattle.model.specs.Record.{recordSize, jobOf}
 use Rattle.cell.specs.Cell.{valuesFit, linksFit, placesEven}
-use Rattle.cell.specs.Cell.Calm.{Calm, calm-links, calm-places}
+use Rattle.channel.specs.Map.{rowOf, columnOf}
+use Rattle.cell.specs.Cell.Grid.{by-number, by-row}
 use Rattle.cell.specs.Cell.Links.{LoadsFit, links-all, links-pass}
 use Rattle.cell.specs.Cell.Places.{LoadsEven, places-all, places-pass}
 use Rattle.cell.specs.Cell.Values.{Values, values-all, values-pass}
@@ -29,28 +30,15 @@ module _ (rec : List ℕ) where
   unfoldable pub cellFits : ℕ → ℕ → Bool
   cellFits r c = valuesFit rec r c && (linksFit rec r c && placesEven rec r c)
 
-  -- as a program reads it: the values first, and no more for a calm cell
-  pub values-fail : (r c : ℕ) (v : Bool) → v ≡ valuesFit rec r c → not v ≡ true → false ≡ cellFits r c
+  pub cell-is : (r c : ℕ) → (valuesFit rec r c && (linksFit rec r c && placesEven rec r c)) ≡ cellFits r c
   unfolding cellFits
-  values-fail r c v e n = rw (sym e) (by v n)
-    where
-      by : (v : Bool) → not v ≡ true → false ≡ (v && (linksFit rec r c && placesEven rec r c))
-      by true h = absurd (subst T (sym h) tt)
-      by false h = refl
-
-  pub calm-fits : (r c : ℕ) (v : Bool) → v ≡ valuesFit rec r c → not v ≡ false → Calm rec r c → true ≡ cellFits r c
-  unfolding cellFits
-  calm-fits r c v e n k = rw (sym e, not-false v n, sym (calm-links rec r c k), sym (calm-places rec r c k)) refl
-
-  pub loads-left : (r c : ℕ) (v : Bool) → v ≡ valuesFit rec r c → not v ≡ false → (linksFit rec r c && placesEven rec r c) ≡ cellFits r c
-  unfolding cellFits
-  loads-left r c v e n = rw (sym e, not-false v n) refl
+  cell-is r c = refl
 
   pub array-fits : T numbersFit → T (arrayFits (J .rows) (J .columns))
   unfolding numbersFit
   array-fits = and-left (arrayFits (J .rows) (J .columns)) (capsFit (J .O) (J .D) (J .E))
 
-  caps-fit : T numbersFit → T (capsFit (J .O) (J .D) (J .E))
+  pub caps-fit : T numbersFit → T (capsFit (J .O) (J .D) (J .E))
   unfolding numbersFit
   caps-fit = and-right (arrayFits (J .rows) (J .columns)) (capsFit (J .O) (J .D) (J .E))
 
@@ -126,6 +114,15 @@ module _ (rec : List ℕ) where
         })
         r c)
         (places-pass rec (record { passing = g .feasible .passing; starts = g .feasible .starts; balance = g .feasible .balance }) r c))
+
+  -- the cells by number, n being the number behind the last
+  pub cells-decided : (n : ℕ) (t : Bool) → n ≡ 1641 → Decides ((i : ℕ) → i < n → 41 ≤ i → T (cellFits (rowOf i) (columnOf i))) t
+      → Decides ((r c : ℕ) → r < 40 → c < 40 → T (cellFits r c)) t
+  cells-decided n t e d =
+      record {
+        yes = λ y. by-row (λ r c. T (cellFits r c)) (λ x l h. d .yes y x (omega arith) l);
+        no = λ y f. d .no y (λ i h l. by-number (λ r c. T (cellFits r c)) f i l (omega arith));
+      }
 
   -- once the rest is tested, the cells decide
   pub cells-decide : (t : Bool) → recordSize ≤ length rec → T numbersFit → T (unusedClear rec)

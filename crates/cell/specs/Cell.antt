@@ -6,7 +6,7 @@ pub mod Links
 pub mod Rooms
 pub mod Sums
 pub mod Places
-pub mod Calm
+pub mod Grid
 use mathlib.Core.Bool.{Bool, true, false, not, _&&_, _||_}
 use mathlib.Core.List.{List}
 use mathlib.Core.Option.{Option, none, some}

@@ -1,23 +1,23 @@
-// The tests of a record's cells, each in constant time: a cell's values, the bytes of its links, and the loads at its places. The test of the bytes that
-// nothing uses stands beside them.
-mod calm; // cells where nothing goes on
+// The tests of a record's cells, by the numbers of the cells: a cell's values, the bytes of its links, and the loads at its places. No test has a way out
+// and none divides, so that a loop over the cells can be made one of vectors. The test of the bytes that nothing uses stands beside them.
+mod grid; // the pins and the tiles by number
 mod links; // the bytes of a cell's links
 mod places; // the loads at a cell's places
 mod unused; // the bytes that nothing uses
 
-pub use calm::calm_cells;
+pub use grid::pins_of;
+pub use grid::tiles_of;
 pub use unused::unused_clear;
 ghost use mathlib.Core.Path.{_≡_};
 ghost use Prim.Native.Nat.{_≤_, _<_};
 ghost use lib.Dec.{T};
 ghost use lib.ListN.{length};
-ghost use Rattle.model.specs.Job.{arrayFits};
+ghost use Rattle.model.specs.Job.{capsFit};
 ghost use Rattle.model.specs.Record.{jobOf};
+ghost use Rattle.channel.specs.Map.{rowOf, columnOf};
 ghost use Rattle.cell.specs.Cell.{valuesFit, linksFit, placesEven};
-use channel::is_tile;
-use channel::mark_of;
-use channel::pin_at;
-use channel::state_of;
+ghost use Rattle.cell.specs.Cell.Grid.{Pins, Tiles};
+use grid::byte;
 use links::corners;
 use links::direct;
 use links::held;
@@ -26,34 +26,33 @@ use links::sides;
 use links::spokes;
 use places::centre;
 use places::pins;
-use places::tile;
+use places::tile_even;
 
 // Whether the mark of the pin and the state of the tile are in range, and 0 where there is none.
-pub fn values_fit(rec: &[u8], r: usize, c: usize) -> bool
-    requires { ⌜ 32768 ≤ length (now rec) ⌝ }
-    ensures { λ t. ⌜ t ≡ valuesFit (now (rec .entry)) r c ⌝ }
+pub fn values_fit(rec: &[u8], pin: &[bool; 1641], tile: &[bool; 1641], x: usize) -> bool
+    requires { ⌜ (32768 ≤ length (now rec)) × (41 ≤ x) × (x < 1641) × Pins (now rec) (now pin) × Tiles (now rec) (now tile) ⌝ }
+    ensures { λ t. ⌜ t ≡ valuesFit (now (rec .entry)) (rowOf x) (columnOf x) ⌝ }
 {
-    let mark = mark_of(rec, r, c);
-    let state = state_of(rec, r, c);
-    if (mark == 0) & (state == 0) {
-        return true;
-    }
-    (mark <= held(pin_at(rec, r, c), 2)) & (state <= held(is_tile(rec, r, c), 1))
+    let mark = byte(rec, 0, x) <= held(pin[x], 2);
+    let state = byte(rec, 1, x) <= held(tile[x], 1);
+    mark & state
 }
 
 // Whether the bytes of its links are in order: in range, and with no more wires each way than there is room.
-pub fn links_fit(rec: &[u8], r: usize, c: usize) -> bool
-    requires { ⌜ (32768 ≤ length (now rec)) × (r < 40) × (c < 40) ⌝ }
-    ensures { λ t. ⌜ t ≡ linksFit (now (rec .entry)) r c ⌝ }
+pub fn links_fit(rec: &[u8], pin: &[bool; 1641], tile: &[bool; 1641], x: usize) -> bool
+    requires { ⌜ (32768 ≤ length (now rec)) × (41 ≤ x) × (x < 1641) × Pins (now rec) (now pin) × Tiles (now rec) (now tile) ⌝ }
+    requires { ⌜ T (capsFit (jobOf (now rec) .O) (jobOf (now rec) .D) (jobOf (now rec) .E)) ⌝ }
+    ensures { λ t. ⌜ t ≡ linksFit (now (rec .entry)) (rowOf x) (columnOf x) ⌝ }
 {
-    sides(rec, r, c)
-        & (corners(rec, r, c) & (spokes(rec, r, c) & (legs(rec, r, c) & direct(rec, r, c))))
+    let ends = legs(rec, tile, x) & direct(rec, pin, tile, x);
+    sides(rec, tile, x) & (corners(rec, tile, x) & (spokes(rec, tile, x) & ends))
 }
 
 // Whether the loads at its places are: as many wires come as leave, and no more than may pass.
-pub fn places_even(rec: &[u8], r: usize, c: usize) -> bool
-    requires { ⌜ (32768 ≤ length (now rec)) × (r < 40) × (c < 40) × T (arrayFits (jobOf (now rec) .rows) (jobOf (now rec) .columns)) ⌝ }
-    ensures { λ t. ⌜ t ≡ placesEven (now (rec .entry)) r c ⌝ }
+pub fn places_even(rec: &[u8], pin: &[bool; 1641], tile: &[bool; 1641], x: usize) -> bool
+    requires { ⌜ (32768 ≤ length (now rec)) × (41 ≤ x) × (x < 1641) × Pins (now rec) (now pin) × Tiles (now rec) (now tile) ⌝ }
+    requires { ⌜ T (capsFit (jobOf (now rec) .O) (jobOf (now rec) .D) (jobOf (now rec) .E)) ⌝ }
+    ensures { λ t. ⌜ t ≡ placesEven (now (rec .entry)) (rowOf x) (columnOf x) ⌝ }
 {
-    tile(rec, r, c) & (centre(rec, r, c) & pins(rec, r, c))
+    tile_even(rec, tile, x) & (centre(rec, tile, x) & pins(rec, pin, x))
 }

@@ -5,7 +5,7 @@ ghost use Prim.Native.Nat.{_/_, _%_, _≤_, _<_};
 ghost use lib.Dec.{T, eqb};
 ghost use lib.ListN.{length, getD};
 ghost use Rattle.model.specs.Job.{centreLimit};
-ghost use Rattle.model.specs.Links.{isPlace, northSide, westSide, direct, go, come, aheadOf, may};
+ghost use Rattle.model.specs.Links.{isPlace, northSide, direct, go, aheadOf, may};
 ghost use Rattle.model.specs.Record.{kinds, jobOf};
 ghost use Rattle.channel.specs.Map.{cap, free, kindOf, codeOf, mayTake, reaches, ownerMark};
 use crate::header::clear_in;
@@ -22,50 +22,6 @@ use crate::header::rows;
 use crate::table::code_of;
 use crate::table::kind_of;
 use crate::table::owner_of;
-
-// Whether a wire may go north over the north side of (r, c).
-pub fn may_north(job: &[u8], r: usize, c: usize) -> bool
-    requires { ⌜ (32768 ≤ length (now job)) × (r < 40) × (c < 40) ⌝ }
-    ensures { λ b. ⌜ b ≡ may (jobOf (now (job .entry))) (go northSide r c) ⌝ }
-{
-    if r == 0 {
-        return open_in(job, r, c);
-    }
-    open_in(job, r, c) & open_in(job, r - 1, c)
-}
-
-// Whether one may go south over it.
-pub fn may_south(job: &[u8], r: usize, c: usize) -> bool
-    requires { ⌜ (32768 ≤ length (now job)) × (r < 40) × (c < 40) ⌝ }
-    ensures { λ b. ⌜ b ≡ may (jobOf (now (job .entry))) (come northSide r c) ⌝ }
-{
-    if r == 0 {
-        return false;
-    }
-    open_in(job, r - 1, c) & clear_in(job, r, c)
-}
-
-// Whether one may go east over the west side of (r, c).
-pub fn may_east(job: &[u8], r: usize, c: usize) -> bool
-    requires { ⌜ (32768 ≤ length (now job)) × (r < 40) × (c < 40) ⌝ }
-    ensures { λ b. ⌜ b ≡ may (jobOf (now (job .entry))) (go westSide r c) ⌝ }
-{
-    if c == 0 {
-        return false;
-    }
-    open_in(job, r, c - 1) & clear_in(job, r, c)
-}
-
-// Whether one may go west over it.
-pub fn may_west(job: &[u8], r: usize, c: usize) -> bool
-    requires { ⌜ (32768 ≤ length (now job)) × (r < 40) × (c < 40) ⌝ }
-    ensures { λ b. ⌜ b ≡ may (jobOf (now (job .entry))) (come westSide r c) ⌝ }
-{
-    if c == 0 {
-        return open_in(job, r, c);
-    }
-    open_in(job, r, c) & open_in(job, r, c - 1)
-}
 
 // Whether one may go straight out of the pin (r, c): it is chosen and on the rim.
 pub fn may_leave(job: &[u8], r: usize, c: usize) -> bool

@@ -112,28 +112,12 @@ pub fn through_centre(rec: &[u8], x: usize) -> usize
     back_sum(rec, 13527, x)
 }
 
-// How many leave it.
-pub fn out_of_centre(rec: &[u8], x: usize) -> usize
-    requires { ⌜ (32768 ≤ length (now rec)) × (41 ≤ x) × (x < 1641) ⌝ }
-    ensures { λ r. ⌜ (r ≡ departures (load (now (rec .entry))) (at centre (rowOf x) (columnOf x))) × (r < 1024) ⌝ }
-{
-    forth_sum(rec, 13527, x)
-}
-
 // How many come to the cell's missing pin.
 pub fn through_missing(rec: &[u8], x: usize) -> usize
     requires { ⌜ (32768 ≤ length (now rec)) × (41 ≤ x) × (x < 1641) ⌝ }
     ensures { λ r. ⌜ (r ≡ arrivals (load (now (rec .entry))) (at missing (rowOf x) (columnOf x))) × (r < 1024) ⌝ }
 {
     back_sum(rec, 19927, x)
-}
-
-// How many leave it.
-pub fn out_of_missing(rec: &[u8], x: usize) -> usize
-    requires { ⌜ (32768 ≤ length (now rec)) × (41 ≤ x) × (x < 1641) ⌝ }
-    ensures { λ r. ⌜ (r ≡ departures (load (now (rec .entry))) (at missing (rowOf x) (columnOf x))) × (r < 1024) ⌝ }
-{
-    forth_sum(rec, 19927, x)
 }
 
 // How many leave the cell's pin, by its legs or directly.

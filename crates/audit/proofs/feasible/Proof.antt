@@ -3,7 +3,7 @@
 use borrow.Author.Needs.{needs}
 use native.Mathlib.Omega.{arith}
 use Rattle.audit.specs.Feasible.{decides-no, test-fails, test-holds}
-use Rattle.audit.specs.Laws.{numbers-fit, array-fits, unused-clear, cells-decide}
+use Rattle.audit.specs.Laws.{numbers-fit, unused-clear, cells-decide}
 use Rattle.audit.proofs.feasible.Statement.{statement}
 use Rattle.audit.proofs.feasible.Tie as tie
 
@@ -23,7 +23,7 @@ returns-3 : tie.Need-returns-3
 returns-3 c = decides-no (λ g. test-fails _ _ (c .before .unused-clear .ensures) (c .if3 .taken) (unused-clear _ g))
 
 cells-requires : tie.Need-cells-requires
-cells-requires c κs = (c .before .before .before .before .if1 .left, array-fits _ (test-holds _ _ (c .before .before .before .numbers-fit .ensures) (c .before .before .if2 .left)))
+cells-requires c κs = (c .before .before .before .before .if1 .left, test-holds _ _ (c .before .before .before .numbers-fit .ensures) (c .before .before .if2 .left))
 
 returns-4 : tie.Need-returns-4
 returns-4 c =

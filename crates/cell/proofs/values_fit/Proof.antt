@@ -1,42 +1,49 @@
--- `values_fit` meets its contract, from the mark and the state. Assumes nothing.
+-- `values_fit` meets its contract, from the mark, the state and the maps. Assumes nothing.
+use native.Mathlib.Omega.{arith}
+use Rattle.channel.specs.Map.{rowOf, columnOf}
+use Rattle.model.specs.Job.{isPin, isTile}
+use Rattle.model.specs.Record.{jobOf}
+use Rattle.cell.specs.Cell.Grid.{map-read}
+use Rattle.cell.specs.Cell.Values.{values-read}
 use borrow.Author.Needs.{needs}
-use Rattle.cell.specs.Cell.Values.{values-are, values-blank}
 use Rattle.cell.proofs.values_fit.Statement.{statement}
 use Rattle.cell.proofs.values_fit.Tie as tie
 
-mark-of-requires : tie.Need-mark-of-requires
-mark-of-requires c κs = search needs
+byte-requires : tie.Need-byte-requires
+byte-requires c κs = search needs
 
-state-of-requires : tie.Need-state-of-requires
-state-of-requires c κs = search needs
-
-returns : tie.Need-returns
-returns c = values-blank _ _ _ _ _ (c .before .before .mark-of .ensures) (c .before .state-of .ensures) (c .if1 .taken)
-
-pin-at-requires : tie.Need-pin-at-requires
-pin-at-requires c κs = search needs
+element-copy-out-held : tie.Need-element-copy-out-held
+element-copy-out-held c = search needs
 
 held-requires : tie.Need-held-requires
 held-requires c κs = search needs
 
-is-tile-requires : tie.Need-is-tile-requires
-is-tile-requires c κs = search needs
+byte-requires-2 : tie.Need-byte-requires-2
+byte-requires-2 c κs = search needs
+
+element-copy-out-held-2 : tie.Need-element-copy-out-held-2
+element-copy-out-held-2 c = search needs
 
 held-requires-2 : tie.Need-held-requires-2
 held-requires-2 c κs = search needs
 
-returns-2 : tie.Need-returns-2
-returns-2 c = let s = c .before .before .before .before .before .before .before .before .args in cc (values-are (s .rec .now) (s .r) (s .c))
+returns : tie.Need-returns
+returns c =
+    let s = c .before .before .before .before .before .before .before in
+    let x = s .args .x in
+    let J = jobOf (s .args .rec .now) in
+    values-read (s .args .rec .now) (rowOf x) (columnOf x) _ _ _ _ _ _ (c .before .before .before .before .before .byte .ensures) (c .before .before .byte2 .ensures)
+    (map-read (isPin J) _ (s .pre .3) x (omega arith) (omega arith)) (map-read (isTile J) _ (s .pre .4 .map) x (omega arith) (omega arith))
+    (c .before .before .before .held .ensures .0) (c .held2 .ensures .0)
 
 pub values-fit-spec : {M : Type 1} → statement M
 values-fit-spec =
     tie.close
     (tie.spec
-    mark-of-requires
-    state-of-requires
-    returns
-    pin-at-requires
+    byte-requires
+    element-copy-out-held
     held-requires
-    is-tile-requires
+    byte-requires-2
+    element-copy-out-held-2
     held-requires-2
-    returns-2)
+    returns)

@@ -5,16 +5,16 @@ use mathlib.Core.Logic.{_≢_}
 use mathlib.Core.Bool.{Bool, true, false, not, _&&_, _||_}
 use mathlib.Core.List.{List}
 use mathlib.Core.Option.{Option, none, some}
-use Prim.Native.Nat.{ℕ, zero, suc, _+_, _*_, _≤_, _<_}
+use Prim.Native.Nat.{ℕ, zero, suc, _+_, _≤_, _<_}
 use native.Mathlib.Omega.{arith}
 use lib.Dec.{T, eqb, leb, ltb, leb→le, le→leb, ltb→lt, lt→ltb, nleb→lt, leb·zero}
 use Rattle.sums.specs.Counting.{when}
 use Rattle.sums.specs.Tests.{and-left, and-right, and-both, or-by, so, so-not}
-use Rattle.model.specs.Job.{Job, inRange, capsFit}
+use Rattle.model.specs.Job.{Job, capsFit}
 use Rattle.model.specs.Links.{LinkKind, northSide, westSide, corner, spoke, leg, direct, Link, link, Step, go, come, turn, may, limitOf, limit}
 use Rattle.model.specs.Record.{loadPlane, cell, jobOf, forthPart, backPart, load}
 use Rattle.cell.specs.Cell.{fits, most, room, linkFits, sidesFit, cornersFit, spokesFit, legsFit, linksFit}
-use Rattle.cell.specs.Cell.Tests.{four-at, four-all, range-top, on-grid, off-grid}
+use Rattle.cell.specs.Cell.Tests.{four-at, four-all, caps-range, on-grid, off-grid}
 
 -- ---- the byte
 
@@ -122,7 +122,7 @@ module _ (rec : List ℕ) where
 
   module _ (caps : T (capsFit (J .O) (J .D) (J .E))) (t : (r c : ℕ) → r < 40 → c < 40 → T (linksFit rec r c)) where
     orthogonal-small : J .O ≤ 8
-    orthogonal-small = range-top 1 8 (J .O) (and-left (inRange 1 8 (J .O)) (inRange (J .O) (2 * (J .O)) (J .D) && inRange 0 16 (J .E)) caps)
+    orthogonal-small = caps-range (J .O) (J .D) (J .E) caps .0
 
     module _ (r c : ℕ) (a : r < 40) (b : c < 40) where
       within-part : T (cornersFit rec r c && (spokesFit rec r c && (legsFit rec r c && linkFits rec direct r c)))

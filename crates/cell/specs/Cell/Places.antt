@@ -8,12 +8,12 @@ use Prim.Native.Nat.{ℕ, suc, _≤_, _<_}
 use native.Mathlib.Omega.{arith}
 use lib.Dec.{T, eqb, leb, ltb, leb→le, le→leb, ltb→lt, eqb→eq, eqb-refl}
 use Rattle.sums.specs.Tests.{and-left, and-right, and-both, if-so}
-use Rattle.model.specs.Job.{Job, inRange, arrayFits, isPin, isTile, isOpen, isChosen, isMissing, centreLimit}
+use Rattle.model.specs.Job.{Job, arrayFits, isPin, isTile, isOpen, isChosen, isMissing, centreLimit}
 use Rattle.model.specs.Links.{Compass, PlaceKind, pin, missing, centre, outside, nowhere, side, Place, at, holds, isPlace, enters, isEntered, passOf, pass}
 use Rattle.model.specs.Loads.{arrivals, departures}
 use Rattle.model.specs.Record.{jobOf, load}
 use Rattle.cell.specs.Cell.{allFour, evenAt, passesAt, tileEven, centreEven, startsOne, missingEven, pinsEven, placesEven}
-use Rattle.cell.specs.Cell.Tests.{four-at, four-all, so-if, range-top}
+use Rattle.cell.specs.Cell.Tests.{four-at, four-all, so-if, array-range}
 
 module _ (rec : List ℕ) where
   abbrev J : Job
@@ -41,10 +41,10 @@ module _ (rec : List ℕ) where
 
   module _ (fits : T (arrayFits (J .rows) (J .columns))) (t : (r c : ℕ) → r < 40 → c < 40 → T (placesEven rec r c)) where
     rows-small : J .rows ≤ 40
-    rows-small = range-top 2 40 (J .rows) (and-left (inRange 2 40 (J .rows)) (inRange 2 40 (J .columns)) fits)
+    rows-small = array-range (J .rows) (J .columns) fits .1
 
     columns-small : J .columns ≤ 40
-    columns-small = range-top 2 40 (J .columns) (and-right (inRange 2 40 (J .rows)) (inRange 2 40 (J .columns)) fits)
+    columns-small = array-range (J .rows) (J .columns) fits .3
 
     -- a pin, and an open tile, stand on the grid
     pin-in : (r c : ℕ) (b : Bool) → T (isPin J r c && b) → (r < 40) × (c < 40)

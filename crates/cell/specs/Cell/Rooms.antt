@@ -111,11 +111,25 @@ module _ (rec : List ℕ) (r c : ℕ) where
   unfolding linkFits room most limitOf
   direct-is b e = e ∙ sym (ap (λ (b : Bool). fits (cell rec 16 r c) (when (may J (go direct r c)) 1) (when b 1)) (direct-come J r c))
 
-  -- as a program reads them: a is what may leave, k what may come
-  pub legs-read : (m a k : ℕ) (x₁ x₂ x₃ x₄ : Bool) → m ≡ J .mark r c → a ≡ leaving m → k ≡ when (eqb m 2) 31
-      → x₁ ≡ fits (cell rec 12 r c) (when (opens J r c north) a) (when (opens J r c north) k)
-      → x₂ ≡ fits (cell rec 13 r c) (when (opens J r c east) a) (when (opens J r c east) k)
-      → x₃ ≡ fits (cell rec 14 r c) (when (opens J r c south) a) (when (opens J r c south) k)
-      → x₄ ≡ fits (cell rec 15 r c) (when (opens J r c west) a) (when (opens J r c west) k)
+  -- as a program reads them: a is what may leave, k what may come, b the byte of a leg and o whether it leads into an open tile
+  leg-read : (p a k b : ℕ) (d : Compass) (o x : Bool) → a ≡ leaving (J .mark r c) → k ≡ when (eqb (J .mark r c) 2) 31 → b ≡ cell rec p r c
+      → o ≡ opens J r c d → x ≡ fits b (when o a) (when o k) → x ≡ legFits p d
+  leg-read p a k b d o x e f g h i = rw (i, h, g, e, f) refl
+
+  pub legs-read : (m a k b₁ b₂ b₃ b₄ : ℕ) (o₁ o₂ o₃ o₄ x₁ x₂ x₃ x₄ : Bool) → m ≡ cell rec 0 r c → a ≡ leaving m → k ≡ when (eqb m 2) 31
+      → b₁ ≡ cell rec 12 r c → o₁ ≡ opens J r c north → x₁ ≡ fits b₁ (when o₁ a) (when o₁ k)
+      → b₂ ≡ cell rec 13 r c → o₂ ≡ opens J r c east → x₂ ≡ fits b₂ (when o₂ a) (when o₂ k)
+      → b₃ ≡ cell rec 14 r c → o₃ ≡ opens J r c south → x₃ ≡ fits b₃ (when o₃ a) (when o₃ k)
+      → b₄ ≡ cell rec 15 r c → o₄ ≡ opens J r c west → x₄ ≡ fits b₄ (when o₄ a) (when o₄ k)
       → (x₁ && (x₂ && (x₃ && x₄))) ≡ legsFit rec r c
-  legs-read m a k x₁ x₂ x₃ x₄ mark away back q₁ q₂ q₃ q₄ = rw (q₁, q₂, q₃, q₄, away, back, mark) (sym legs-are)
+  unfolding jobOf
+  legs-read m a k b₁ b₂ b₃ b₄ o₁ o₂ o₃ o₄ x₁ x₂ x₃ x₄ e f g p₁ q₁ s₁ p₂ q₂ s₂ p₃ q₃ s₃ p₄ q₄ s₄ =
+      let away : a ≡ leaving (J .mark r c) = f ∙ ap leaving e in
+      let back : k ≡ when (eqb (J .mark r c) 2) 31 = g ∙ ap (λ (n : ℕ). when (eqb n 2) 31) e in
+      rw (
+        leg-read 12 a k b₁ north o₁ x₁ away back p₁ q₁ s₁,
+        leg-read 13 a k b₂ east o₂ x₂ away back p₂ q₂ s₂,
+        leg-read 14 a k b₃ south o₃ x₃ away back p₃ q₃ s₃,
+        leg-read 15 a k b₄ west o₄ x₄ away back p₄ q₄ s₄,
+      )
+      (sym legs-are)

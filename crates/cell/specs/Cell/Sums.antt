@@ -1,22 +1,22 @@
 -- The sums at a cell's places, by the bytes that a program reads. Assumes nothing.
-use mathlib.Core.Path.{_≡_, refl, sym, subst, _∙_}
-use mathlib.Core.Logic.{_≢_}
+use mathlib.Core.Path.{_≡_, refl, sym, _∙_}
 use mathlib.Core.Bool.{Bool, true, false, not, _&&_, _||_}
 use mathlib.Core.List.{List}
-use Prim.Native.Nat.{ℕ, suc, _+_, _*_, _≤_, _<_}
+use Prim.Native.Nat.{ℕ, suc, _+_, _≤_, _<_}
 use native.Mathlib.Omega.{arith}
 use native.Mathlib.Numerals.{add-one}
-use borrow.Author.Tests.{eq-eqb, ne-eqb, not-false}
-use lib.Dec.{T, eqb, leb, ltb, ltb→lt, leb→le}
+use lib.Dec.{T, eqb, leb}
 use Rattle.sums.specs.Counting.{total}
-use Rattle.sums.specs.Tests.{and-left, and-right, eqb-iff, so}
-use Rattle.model.specs.Job.{Job, inRange, arrayFits, centreLimit, isPin, isTile, isOpen, isChosen, isMissing}
-use Rattle.model.specs.Links.{north, east, south, west, PlaceKind, pin, missing, centre, side, Place, at}
+use Rattle.sums.specs.Tests.{eqb-iff, so}
+use Rattle.model.specs.Job.{Job, arrayFits, centreLimit, isPin, isChosen, isMissing}
+use Rattle.model.specs.Links.{north, east, south, west, pin, missing, centre, side, at}
 use Rattle.model.specs.Loads.{arrivals, departures}
 use Rattle.model.specs.Record.{cell, jobOf, forthPart, backPart, load}
 use Rattle.channel.specs.Map.{rowOf, columnOf}
-use Rattle.channel.specs.Map.Darts.{cell-row, cell-column}
+use Rattle.channel.specs.Map.Ways.{open-tile}
 use Rattle.cell.specs.Cell.{allFour, evenAt, passesAt, tileEven, centreEven, startsOne, missingEven, pinsEven, placesEven}
+use Rattle.cell.specs.Cell.Tests.{array-range}
+use Rattle.cell.specs.Cell.Grid.{openIn, own-open}
 
 -- ---- as many come as leave
 
@@ -31,15 +31,6 @@ pub outOne : ℕ → ℕ → ℕ → ℕ → ℕ → Bool
 outOne a b x y z =
     eqb (forthPart a + (backPart b + (forthPart x + (forthPart y + (forthPart z + 0)))))
     (backPart a + (forthPart b + (backPart x + (backPart y + (backPart z + 0)))))
-
--- by none
-pub two-none : outTwo 0 0 0 0 0 ≡ true
-unfolding outTwo
-two-none = refl
-
-pub one-none : outOne 0 0 0 0 0 ≡ true
-unfolding outOne
-one-none = refl
 
 -- what each byte has, l more along than against its link and 256 on top
 tilt-two : (a b x y z f₁ f₂ f₃ f₄ f₅ b₁ b₂ b₃ b₄ b₅ : ℕ) → a + b₁ ≡ 256 + f₁ → b + b₂ ≡ 256 + f₂ → x + b₃ ≡ 256 + f₃ → y + b₄ ≡ 256 + f₄ → z + b₅ ≡ 256 + f₅
@@ -86,112 +77,42 @@ module _ (rec : List ℕ) where
 
 -- ---- the tests of a cell's places, as a program reads them
 
-and-true : (b : Bool) → b ≡ (b && true)
-and-true true = refl
-and-true false = refl
-
--- a test that is asked only where a holds
-asked : (a b x : Bool) → b ≡ a → not b ≡ false → x ≡ (not a || x)
-asked true b x e n = refl
-asked false true x e n = absurd (subst T e tt)
-asked false false x e n = absurd (subst T n tt)
-
-unasked : (a b x : Bool) → b ≡ a → not b ≡ true → true ≡ (not a || x)
-unasked true true x e n = absurd (subst T (sym n) tt)
-unasked true false x e n = absurd (subst T (sym e) tt)
-unasked false b x e n = refl
-
--- two tests, the first asked where p and a hold, the second where p and b do
-module _ (p a b x y : Bool) where
-  abbrev Two : Bool
-  Two = (not (p && a) || x) && (not (p && b) || y)
-
-  neither : (q : Bool) → q ≡ p → not q ≡ true → true ≡ Two
-  neither true e n = absurd (subst T (sym n) tt)
-  neither false e n = subst (λ (z : Bool). true ≡ ((not (z && a) || x) && (not (z && b) || y))) e refl
-
-  first : p ≡ true → a ≡ true → b ≡ false → x ≡ Two
-  first e f g = rw (e, f, g) (and-true x)
-
-  second : p ≡ true → a ≡ false → b ≡ true → y ≡ Two
-  second e f g = rw (e, f, g)
-
-  none-asked : p ≡ true → a ≡ false → b ≡ false → true ≡ Two
-  none-asked e f g = rw (e, f, g)
-
--- a place by the number of its cell
-abbrev here : PlaceKind → ℕ → ℕ → Place
-here k r c = at k (rowOf (41 + 40 * r + c)) (columnOf (41 + 40 * r + c))
-
-here-is : (k : PlaceKind) (r c : ℕ) → c < 40 → here k r c ≡ at k r c
-here-is k r c b i = at k (cell-row (41 + 40 * r + c) r c refl b i) (cell-column (41 + 40 * r + c) r c refl b i)
-
-module _ (rec : List ℕ) (r c : ℕ) where
+module _ (rec : List ℕ) (x : ℕ) (l : 41 ≤ x) (h : x < 1641) where
   abbrev J : Job
   J = jobOf rec
 
-  -- what is tested of an open tile
-  module _ (o : Bool) (e : o ≡ isOpen J r c) where
-    pub tile-inside : T (arrayFits (J .rows) (J .columns)) → not o ≡ false → (suc r < 40) × (suc c < 40)
-    unfolding isOpen
-    tile-inside t n =
-        let u : T (isTile J r c && eqb (J .state r c) 0) = so (sym e ∙ not-false o n) in
-        let v : T (isTile J r c) = and-left (isTile J r c) (eqb (J .state r c) 0) u in
-        let x : J .rows ≤ 40 = leb→le _ _ (and-right (leb 2 (J .rows)) (leb (J .rows) 40) (and-left (inRange 2 40 (J .rows)) (inRange 2 40 (J .columns)) t)) in
-        let y : J .columns ≤ 40 =
-        leb→le _ _ (and-right (leb 2 (J .columns)) (leb (J .columns) 40) (and-right (inRange 2 40 (J .rows)) (inRange 2 40 (J .columns)) t)) in (
-          omega (arith, ltb→lt (suc r) (J .rows) (and-left (ltb (suc r) (J .rows)) (ltb (suc c) (J .columns)) v)),
-          omega (arith, ltb→lt (suc c) (J .columns) (and-right (ltb (suc r) (J .rows)) (ltb (suc c) (J .columns)) v)),
-        )
+  abbrev r : ℕ
+  r = rowOf x
 
-    pub tile-none : not o ≡ true → true ≡ tileEven rec r c
-    unfolding tileEven
-    tile-none = unasked (isOpen J r c) o (allFour (λ d. evenAt rec (at (side d) r c))) e
+  abbrev c : ℕ
+  c = columnOf x
 
-    pub tile-read : not o ≡ false → (x₁ x₂ x₃ x₄ : Bool) → x₁ ≡ evenAt rec (at (side north) r c) → x₂ ≡ evenAt rec (at (side east) r c)
-        → x₃ ≡ evenAt rec (at (side south) r c) → x₄ ≡ evenAt rec (at (side west) r c) → (x₁ && (x₂ && (x₃ && x₄))) ≡ tileEven rec r c
+  -- an open tile has neighbours in its row and in its column, so that the cells beside it are on the grid
+  module _ (fits : T (arrayFits (J .rows) (J .columns))) (o : Bool) (e : o ≡ openIn J x) where
+    pub tile-read : (n w s t : Bool) → n ≡ evenAt rec (at (side north) r c) → (suc c < 40 → w ≡ evenAt rec (at (side east) r c))
+        → (suc r < 40 → suc c < 40 → s ≡ evenAt rec (at (side south) r c)) → (suc r < 40 → t ≡ evenAt rec (at (side west) r c))
+        → (not o || (n && (w && (s && t)))) ≡ tileEven rec r c
     unfolding tileEven allFour
-    tile-read n x₁ x₂ x₃ x₄ p q s t = rw (p, q, s, t) (asked (isOpen J r c) o (allFour (λ d. evenAt rec (at (side d) r c))) e n)
+    tile-read n w s t p q f g = rw (p, sym (own-open J x l h)) (by o e)
+      where
+        by : (b : Bool) → b ≡ openIn J x → (not b || (evenAt rec (at (side north) r c) && (w && (s && t)))) ≡ (not (openIn J x) || allFour (λ d. evenAt rec (at (side d) r c)))
+        by true k =
+            let (i, j) = open-tile J r c (so (sym (own-open J x l h) ∙ sym k)) in
+            let (_, a, _, b) = array-range (J .rows) (J .columns) fits in
+            rw (sym k, q (omega arith), f (omega arith) (omega arith), g (omega arith)) refl
+        by false k = rw (sym k) refl
 
-    pub centre-none : not o ≡ true → true ≡ centreEven rec r c
-    unfolding centreEven
-    centre-none = unasked (isOpen J r c) o _ e
-
-    pub centre-read : not o ≡ false → c < 40 → (i u k : ℕ) → i ≡ arrivals (load rec) (here centre r c) → u ≡ departures (load rec) (here centre r c)
-        → k ≡ centreLimit (J .O) (J .D) → (eqb i u && leb i k) ≡ centreEven rec r c
+  module _ (o : Bool) (e : o ≡ openIn J x) where
+    pub centre-read : (i u k : ℕ) → i ≡ arrivals (load rec) (at centre r c) → u ≡ departures (load rec) (at centre r c)
+        → k ≡ centreLimit (J .O) (J .D) → (not o || (eqb i u && leb i k)) ≡ centreEven rec r c
     unfolding centreEven passesAt evenAt
-    centre-read n b i u k p q s =
-        rw (p, q, s, here-is centre r c b) (asked (isOpen J r c) o (passesAt rec (at centre r c) (centreLimit (J .O) (J .D))) e n)
+    centre-read i u k p q f = rw (e, own-open J x l h, p, q, f) refl
 
-  -- what is tested of a pin
-  module _ (o : Bool) (e : o ≡ isPin J r c) where
-    pub pins-none : not o ≡ true → true ≡ pinsEven rec r c
-    unfolding pinsEven startsOne missingEven isChosen isMissing
-    pins-none n = neither (isPin J r c) (eqb (J .mark r c) 1) (eqb (J .mark r c) 2) _ _ o e n
-
-    module _ (n : not o ≡ false) (m : ℕ) (f : m ≡ J .mark r c) where
-      is-pin : isPin J r c ≡ true
-      is-pin = sym e ∙ not-false o n
-
-      pub chosen-read : m ≡ 1 → c < 40 → (u : ℕ) → u ≡ departures (load rec) (here pin r c) → leb u 1 ≡ pinsEven rec r c
-      unfolding pinsEven startsOne missingEven isChosen isMissing
-      chosen-read g b u q =
-          rw (q, here-is pin r c b)
-          (first (isPin J r c) (eqb (J .mark r c) 1) (eqb (J .mark r c) 2) (leb (departures (load rec) (at pin r c)) 1) _ is-pin (eq-eqb _ _ (sym f ∙ g))
-          (ne-eqb (J .mark r c) 2 (λ h. omega arith)))
-
-      pub missing-read : m ≡ 2 → c < 40 → (i u k : ℕ) → i ≡ arrivals (load rec) (here missing r c) → u ≡ departures (load rec) (here missing r c) → k ≡ J .E
-          → (eqb i u && leb i k) ≡ pinsEven rec r c
-      unfolding pinsEven startsOne missingEven passesAt evenAt isChosen isMissing
-      missing-read g b i u k p q s =
-          rw (p, q, s, here-is missing r c b)
-          (second (isPin J r c) (eqb (J .mark r c) 1) (eqb (J .mark r c) 2) _ (passesAt rec (at missing r c) (J .E)) is-pin
-          (ne-eqb (J .mark r c) 1 (λ h. omega arith)) (eq-eqb _ _ (sym f ∙ g)))
-
-      pub idle-read : m ≢ 1 → m ≢ 2 → true ≡ pinsEven rec r c
-      unfolding pinsEven startsOne missingEven isChosen isMissing
-      idle-read g h =
-          none-asked (isPin J r c) (eqb (J .mark r c) 1) (eqb (J .mark r c) 2) _ _ is-pin (ne-eqb _ _ (λ x. g (f ∙ x))) (ne-eqb _ _ (λ x. h (f ∙ x)))
+pub pins-read : (rec : List ℕ) (r c m i u v k : ℕ) (o : Bool) → o ≡ isPin (jobOf rec) r c → m ≡ cell rec 0 r c → i ≡ arrivals (load rec) (at missing r c)
+    → u ≡ departures (load rec) (at missing r c) → v ≡ departures (load rec) (at pin r c) → k ≡ jobOf rec .E
+    → ((not (o && eqb m 1) || leb v 1) && (not (o && eqb m 2) || (eqb i u && leb i k))) ≡ pinsEven rec r c
+unfolding pinsEven startsOne missingEven passesAt evenAt isChosen isMissing jobOf
+pins-read rec r c m i u v k o e f g p q z = rw (e, f, g, p, q, z) refl
 
 pub places-are : (rec : List ℕ) (r c : ℕ) → placesEven rec r c ≡ (tileEven rec r c && (centreEven rec r c && pinsEven rec r c))
 unfolding placesEven

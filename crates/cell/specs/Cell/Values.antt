@@ -1,17 +1,16 @@
 -- Cells that pass the test of their values have marks and states in range, and 0 where there is no pin or tile, and the other way round. Assumes nothing.
-use mathlib.Core.Path.{_≡_, refl, sym, _∙_}
+use mathlib.Core.Path.{_≡_, refl}
 use mathlib.Core.Bool.{Bool, true, false, not, _&&_}
 use mathlib.Core.List.{List}
 use Prim.Native.Nat.{ℕ, _≤_, _<_}
 use native.Mathlib.Omega.{arith}
-use borrow.Author.Tests.{eqb-true}
-use lib.Dec.{T, eqb, leb, leb→le, le→leb, leb·zero}
+use lib.Dec.{T, leb, leb→le, le→leb}
 use Rattle.sums.specs.Counting.{when}
 use Rattle.sums.specs.Tests.{and-left, and-right, and-both}
 use Rattle.model.specs.Job.{Job, isPin, isTile}
-use Rattle.model.specs.Record.{jobOf}
+use Rattle.model.specs.Record.{cell, jobOf}
 use Rattle.cell.specs.Cell.{valuesFit}
-use Rattle.cell.specs.Cell.Tests.{first-true, second-true, on-grid, off-grid}
+use Rattle.cell.specs.Cell.Tests.{on-grid, off-grid}
 
 within-bound : (b : Bool) (m n : ℕ) → m ≤ when b n → m ≤ n
 within-bound true m n l = l
@@ -37,16 +36,10 @@ module _ (rec : List ℕ) where
     pub noTile : T (not (isTile J r c)) → J .state r c ≡ 0
 
   -- as a program reads them
-  pub values-are : (r c : ℕ) → valuesFit rec r c ≡ (leb (J .mark r c) (when (isPin J r c) 2) && leb (J .state r c) (when (isTile J r c) 1))
-  unfolding valuesFit
-  values-are r c = refl
-
-  pub values-blank : (r c m s : ℕ) → m ≡ J .mark r c → s ≡ J .state r c → (eqb m 0 && eqb s 0) ≡ true → true ≡ valuesFit rec r c
-  unfolding valuesFit
-  values-blank r c m s e f t =
-      let p : J .mark r c ≡ 0 = sym e ∙ eqb-true _ _ (first-true (eqb m 0) _ t) in
-      let q : J .state r c ≡ 0 = sym f ∙ eqb-true _ _ (second-true (eqb m 0) _ t) in
-      rw (p, q, leb·zero (when (isPin J r c) 2), leb·zero (when (isTile J r c) 1)) refl
+  pub values-read : (r c m s a b : ℕ) (p t : Bool) → m ≡ cell rec 0 r c → s ≡ cell rec 1 r c → p ≡ isPin J r c → t ≡ isTile J r c → a ≡ when p 2 → b ≡ when t 1
+      → (leb m a && leb s b) ≡ valuesFit rec r c
+  unfolding valuesFit jobOf
+  values-read r c m s a b p t e f g h i j = rw (e, f, i, j, g, h) refl
 
   pub values-pass : (r c : ℕ) → Values r c → T (valuesFit rec r c)
   unfolding valuesFit

@@ -61,7 +61,7 @@ module _ (J : Job) where
   clear r c = not (isTile J r c) || isOpen J r c
 
   -- a tile to the north or the west of an open one
-  before-open : (r c p q : ℕ) → p ≤ r → q ≤ c → (isOpen J r c && clear p q) ≡ (isOpen J r c && isOpen J p q)
+  pub before-open : (r c p q : ℕ) → p ≤ r → q ≤ c → (isOpen J r c && clear p q) ≡ (isOpen J r c && isOpen J p q)
   before-open r c p q l m = by (isOpen J r c) refl
     where
       by : (b : Bool) → isOpen J r c ≡ b → (b && clear p q) ≡ (b && isOpen J p q)

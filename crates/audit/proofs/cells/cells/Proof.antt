@@ -1,43 +1,64 @@
--- `cells::cells` meets its contract. The loop's invariant: every row passed is in order. The measure is the rows that are left. Assumes nothing.
-use native.Mathlib.Omega.{arith}
-use Rattle.audit.specs.Laws.{cellFits}
-use Rattle.audit.specs.Feasible.{decides-yes, decides-no, one-more}
+-- `cells::cells` meets its contract. The loop's invariant: what was found says whether every cell passed is in order. The measure is the cells that are left. Assumes nothing.
+use borrow.Author.Needs.{needs}
 use Prim.Native.Nat.{ℕ, _-_, _≤_, _<_}
+use native.Mathlib.Omega.{arith}
 use lib.Dec.{T}
-use borrow.Author.Tests.{not-true, not-false}
+use Rattle.channel.specs.Map.{rowOf, columnOf}
+use Rattle.audit.specs.Feasible.{Decides, decides-yes, decides-more, decides-here}
+use Rattle.audit.specs.Laws.{cellFits, array-fits, cells-decided}
 use Rattle.audit.proofs.cells.cells.Statement.{statement}
 use Rattle.audit.proofs.cells.cells.Tie as tie
 
 abbrev Inv-loop : tie.InvT-loop
-Inv-loop rec r₀ r = (r ≤ 40) × ((i : ℕ) → i < r → (j : ℕ) → j < 40 → T (cellFits rec i j))
+Inv-loop rec pin tile fit₀ x₀ fit x =
+    (41 ≤ x) × (x ≤ 1641) × Decides ((i : ℕ) → i < x → 41 ≤ i → T (cellFits rec (rowOf i) (columnOf i))) fit
 
 abbrev μ-loop : tie.MeasureT-loop
-μ-loop rec r₀ r = 40 - r
+μ-loop rec pin tile fit₀ x₀ fit x = 1641 - x
+
+pins-of-requires : tie.Need-pins-of-requires Inv-loop μ-loop
+pins-of-requires c κs = search needs
+
+tiles-of-requires : tie.Need-tiles-of-requires Inv-loop μ-loop
+tiles-of-requires c κs = let s = c .before .before .pre in (s .0, array-fits _ (s .1))
 
 loop-holds : tie.Need-loop-holds Inv-loop μ-loop
-loop-holds c = (omega arith, λ i l. absurd (omega arith))
+loop-holds c = (omega arith, omega arith, decides-yes (λ i l m. absurd (omega arith)))
 
-row-requires : tie.Need-row-requires Inv-loop μ-loop
-row-requires c κs =
-    let s = c .before .before .before .pre in
-    (s .0, c .loop-test .taken, s .1)
+cell-requires : tie.Need-cell-requires Inv-loop μ-loop
+cell-requires c κs =
+    let s = c .before .before .before .before .before .before .before .pre in
+    ((s .0, omega arith, omega arith, c .before .before .before .before .before .pins-of .ensures, c .before .before .before .before .tiles-of .ensures), s .1)
 
-returns : tie.Need-returns Inv-loop μ-loop
-returns c = decides-no (λ f. c .before .row .ensures .no (not-true _ (c .if1 .taken)) (λ j l. f _ j (c .before .before .loop-test .taken) l))
-
-add-r : tie.Need-add-r Inv-loop μ-loop
-add-r c = omega arith
+add-x : tie.Need-add-x Inv-loop μ-loop
+add-x c = omega arith
 
 loop-less : tie.Need-loop-less Inv-loop μ-loop
 loop-less c = omega arith
 
 loop-again : tie.Need-loop-again Inv-loop μ-loop
-loop-again c = (omega arith, one-more _ _ (c .before .before .before .loop .inv .1) (c .before .row .ensures .yes (not-false _ (c .if1 .left))))
+loop-again c =
+    let l = c .before .before .before .before .loop in
+    let s = c .before .before .before .before .before .before .before .before .args in
+    let tested = decides-here (41 ≤ l .x) _ _ (c .cell .ensures) (omega arith) in
+    (omega arith, omega arith, decides-more (λ i. 41 ≤ i → T (cellFits (s .rec .now) (rowOf i) (columnOf i))) (l .x) _ _ (l .inv .2) tested)
 
-returns-2 : tie.Need-returns-2 Inv-loop μ-loop
-returns-2 c = decides-yes (λ i j l m. c .before .loop .inv .1 i (omega arith) j m)
+returns : tie.Need-returns Inv-loop μ-loop
+returns c =
+    let l = c .before .loop in
+    cells-decided _ (l .x) _ (omega arith) (l .inv .2)
 
 pub cells-spec : {M : Type 1} → statement M
 cells-spec =
     tie.close
-    (tie.spec Inv-loop μ-loop loop-holds row-requires returns add-r loop-less loop-again returns-2)
+    (tie.spec
+    Inv-loop
+    μ-loop
+    pins-of-requires
+    tiles-of-requires
+    loop-holds
+    cell-requires
+    add-x
+    loop-less
+    loop-again
+    returns)

@@ -1,11 +1,18 @@
 -- `links::four_fit` meets its contract, byte by byte. Assumes nothing.
-use borrow.Author.Needs.{needs}
+use native.Mathlib.Omega.{arith}
 use Rattle.cell.specs.Cell.Rooms.{four-are}
+use Rattle.model.specs.Record.{jobOf}
+use Rattle.channel.specs.Map.{rowOf, columnOf}
+use Rattle.cell.specs.Cell.Grid.{own-open}
+use borrow.Author.Needs.{needs}
 use Rattle.cell.proofs.links.four_fit.Statement.{statement}
 use Rattle.cell.proofs.links.four_fit.Tie as tie
 
-open-in-requires : tie.Need-open-in-requires
-open-in-requires c κs = search needs
+open-at-requires : tie.Need-open-at-requires
+open-at-requires c κs = search needs
+
+held-requires : tie.Need-held-requires
+held-requires c κs = search needs
 
 byte-requires : tie.Need-byte-requires
 byte-requires c κs = search needs
@@ -42,14 +49,15 @@ has-room-requires-4 c κs = search needs
 
 returns : tie.Need-returns
 returns c =
-    let s = c .before .before .before .before .before .before .before .before .before .before .args in
-    cc (four-are (s .rec .now) (s .r) (s .c) (s .p) (s .most))
+    let s = c .before .before .before .before .before .before .before .before .before .before .before .args in
+    cc (four-are (s .rec .now) (rowOf (s .x)) (columnOf (s .x)) (s .p) (s .most), own-open (jobOf (s .rec .now)) (s .x) (omega arith) (omega arith))
 
 pub four-fit-spec : {M : Type 1} → statement M
 four-fit-spec =
     tie.close
     (tie.spec
-    open-in-requires
+    open-at-requires
+    held-requires
     byte-requires
     has-room-requires
     add-byte

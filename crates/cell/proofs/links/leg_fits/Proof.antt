@@ -3,14 +3,14 @@ use borrow.Author.Needs.{needs}
 use Rattle.cell.proofs.links.leg_fits.Statement.{statement}
 use Rattle.cell.proofs.links.leg_fits.Tie as tie
 
-leg-open-requires : tie.Need-leg-open-requires
-leg-open-requires c κs = search needs
+open-at-requires : tie.Need-open-at-requires
+open-at-requires c κs = search needs
 
-add-byte : tie.Need-add-byte
-add-byte c = search needs
+held-requires : tie.Need-held-requires
+held-requires c κs = search needs
 
-byte-requires : tie.Need-byte-requires
-byte-requires c κs = search needs
+held-requires-2 : tie.Need-held-requires-2
+held-requires-2 c κs = search needs
 
 has-room-requires : tie.Need-has-room-requires
 has-room-requires c κs = search needs
@@ -20,4 +20,4 @@ returns c = cc
 
 pub leg-fits-spec : {M : Type 1} → statement M
 leg-fits-spec =
-    tie.close (tie.spec leg-open-requires add-byte byte-requires has-room-requires returns)
+    tie.close (tie.spec open-at-requires held-requires held-requires-2 has-room-requires returns)

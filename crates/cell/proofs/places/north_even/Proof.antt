@@ -1,6 +1,7 @@
 -- `places::north_even` meets its contract, from the bytes of the five links around n. Assumes nothing.
-use borrow.Author.Needs.{needs}
+use Rattle.channel.specs.Map.{rowOf, columnOf}
 use Rattle.cell.specs.Cell.Sums.{north-even}
+use borrow.Author.Needs.{needs}
 use Rattle.cell.proofs.places.north_even.Statement.{statement}
 use Rattle.cell.proofs.places.north_even.Tie as tie
 
@@ -23,9 +24,7 @@ two-out-requires : tie.Need-two-out-requires
 two-out-requires c κs = search needs
 
 returns : tie.Need-returns
-returns c =
-    let s = c .before .before .before .before .before .before .before .args in
-    cc (north-even (s .rec .now) (s .r) (s .c))
+returns c = let s = c .before .before .before .before .before .before .before .args in cc (north-even (s .rec .now) (rowOf (s .x)) (columnOf (s .x)))
 
 pub north-even-spec : {M : Type 1} → statement M
 north-even-spec =

@@ -1,67 +1,70 @@
--- `places::pins` meets its contract, mark by mark: the sums over the legs and the direct exit. Assumes nothing.
-use borrow.Author.Needs.{needs}
+-- `places::pins` meets its contract: the sums over the legs and the direct exit. Assumes nothing.
+use mathlib.Core.Path.{ap, ap₂, _∙_}
+use Prim.Native.Nat.{_+_}
 use native.Mathlib.Omega.{arith}
-use Rattle.cell.specs.Cell.Sums.{pins-none, chosen-read, missing-read, idle-read}
+use Rattle.model.specs.Job.{isPin}
+use Rattle.model.specs.Record.{jobOf, forthPart}
+use Rattle.channel.specs.Map.{rowOf, columnOf}
+use Rattle.channel.specs.Map.Bytes.{missing-arrivals, missing-departures, pin-departures}
+use Rattle.cell.specs.Cell.Grid.{map-read}
+use Rattle.cell.specs.Cell.Sums.{pins-read}
+use borrow.Author.Needs.{needs}
 use Rattle.cell.proofs.places.pins.Statement.{statement}
 use Rattle.cell.proofs.places.pins.Tie as tie
 
-pin-at-requires : tie.Need-pin-at-requires
-pin-at-requires c κs = search needs
+byte-requires : tie.Need-byte-requires
+byte-requires c κs = search needs
 
-returns : tie.Need-returns
-returns c = pins-none _ _ _ _ (c .before .pin-at .ensures) (c .if1 .taken)
+back-sum-requires : tie.Need-back-sum-requires
+back-sum-requires c κs = search needs
 
-mul-x : tie.Need-mul-x
-mul-x c = search needs
+forth-sum-requires : tie.Need-forth-sum-requires
+forth-sum-requires c κs = search needs
 
-add-x : tie.Need-add-x
-add-x c = search needs
+near-requires : tie.Need-near-requires
+near-requires c κs = search needs
 
-add-x-2 : tie.Need-add-x-2
-add-x-2 c = search needs
+forth-requires : tie.Need-forth-requires
+forth-requires c κs = search needs
 
-mark-of-requires : tie.Need-mark-of-requires
-mark-of-requires c κs = search needs
-
-out-of-pin-requires : tie.Need-out-of-pin-requires
-out-of-pin-requires c κs = search needs
-
-returns-2 : tie.Need-returns-2
-returns-2 c =
-    chosen-read _ _ _ _ (c .before .before .before .before .pin-at .ensures) (c .before .before .before .if1 .left) _ (c .before .before .mark-of .ensures) (c .before .if2 .taken) (omega arith) _
-    (c .out-of-pin .ensures .0)
-
-through-missing-requires : tie.Need-through-missing-requires
-through-missing-requires c κs = search needs
-
-out-of-missing-requires : tie.Need-out-of-missing-requires
-out-of-missing-requires c κs = search needs
+add-starts : tie.Need-add-starts
+add-starts c = search needs
 
 extra-requires : tie.Need-extra-requires
 extra-requires c κs = search needs
 
-returns-3 : tie.Need-returns-3
-returns-3 c =
-    missing-read _ _ _ _ (c .before .before .before .before .before .before .before .pin-at .ensures) (c .before .before .before .before .before .before .if1 .left) _ (c .before .before .before .before .before .mark-of .ensures) (c .before .before .before .if3 .taken) (omega arith) _ _ _
-    (c .before .before .through-missing .ensures .0) (c .before .out-of-missing .ensures .0) (c .extra .ensures .0)
+cast-passes : tie.Need-cast-passes
+cast-passes c = search needs
 
-returns-4 : tie.Need-returns-4
-returns-4 c = idle-read _ _ _ _ (c .before .before .before .before .pin-at .ensures) (c .before .before .before .if1 .left) _ (c .before .before .mark-of .ensures) (c .before .if2 .left) (c .if3 .left)
+element-copy-out-result : tie.Need-element-copy-out-result
+element-copy-out-result c = search needs
+
+element-copy-out-result-2 : tie.Need-element-copy-out-result-2
+element-copy-out-result-2 c = search needs
+
+returns : tie.Need-returns
+returns c =
+    let s = c .before .before .before .before .before .before .before .before .before in
+    let bytes = s .args .rec .now in
+    let x = s .args .x in
+    let legs = c .before .before .before .before .before .forth-sum .ensures .0 in
+    let straight = c .before .before .before .forth .ensures .0 ∙ ap forthPart (c .before .before .before .before .near .ensures) in
+    cc (pins-read bytes (rowOf x) (columnOf x) _ _ _ _ _ _ (map-read (isPin (jobOf bytes)) _ (s .pre .3) x (omega arith) (omega arith)) (c .before .before .before .before .before .before .before .byte .ensures)
+    (c .before .before .before .before .before .before .back-sum .ensures .0 ∙ missing-arrivals bytes x (omega arith) (omega arith)) (legs ∙ missing-departures bytes x (omega arith) (omega arith))
+    (ap₂ _+_ legs straight ∙ pin-departures bytes x (omega arith) (omega arith)) (c .before .before .extra .ensures .0))
 
 pub pins-spec : {M : Type 1} → statement M
 pins-spec =
     tie.close
     (tie.spec
-    pin-at-requires
-    returns
-    mul-x
-    add-x
-    add-x-2
-    mark-of-requires
-    out-of-pin-requires
-    returns-2
-    through-missing-requires
-    out-of-missing-requires
+    byte-requires
+    back-sum-requires
+    forth-sum-requires
+    near-requires
+    forth-requires
+    add-starts
     extra-requires
-    returns-3
-    returns-4)
+    cast-passes
+    element-copy-out-result
+    element-copy-out-result-2
+    returns)

@@ -1,11 +1,17 @@
 -- `places::south_even` meets its contract, from the bytes of the five links around s. Assumes nothing.
-use borrow.Author.Needs.{needs}
+use native.Mathlib.Omega.{arith}
+use Rattle.channel.specs.Map.{rowOf, columnOf}
+use Rattle.cell.specs.Cell.Grid.{corner-cell, south-cell}
 use Rattle.cell.specs.Cell.Sums.{south-even}
+use borrow.Author.Needs.{needs}
 use Rattle.cell.proofs.places.south_even.Statement.{statement}
 use Rattle.cell.proofs.places.south_even.Tie as tie
 
-add-byte : tie.Need-add-byte
-add-byte c = search needs
+add-near : tie.Need-add-near
+add-near c = search needs
+
+near-requires : tie.Need-near-requires
+near-requires c κs = search needs
 
 byte-requires : tie.Need-byte-requires
 byte-requires c κs = search needs
@@ -16,37 +22,30 @@ byte-requires-2 c κs = search needs
 byte-requires-3 : tie.Need-byte-requires-3
 byte-requires-3 c κs = search needs
 
-byte-requires-4 : tie.Need-byte-requires-4
-byte-requires-4 c κs = search needs
+add-near-2 : tie.Need-add-near-2
+add-near-2 c = search needs
 
-add-byte-2 : tie.Need-add-byte-2
-add-byte-2 c = search needs
-
-add-byte-3 : tie.Need-add-byte-3
-add-byte-3 c = search needs
-
-byte-requires-5 : tie.Need-byte-requires-5
-byte-requires-5 c κs = search needs
+near-requires-2 : tie.Need-near-requires-2
+near-requires-2 c κs = search needs
 
 one-out-requires : tie.Need-one-out-requires
 one-out-requires c κs = search needs
 
 returns : tie.Need-returns
-returns c =
+returns c j k =
     let s = c .before .before .before .before .before .before .before .args in
-    cc (south-even (s .rec .now) (s .r) (s .c))
+    cc (south-even (s .rec .now) (rowOf (s .x)) (columnOf (s .x)), south-cell (s .rec .now) 2 (s .x) (omega arith) (omega arith) j, corner-cell (s .rec .now) 15 (s .x) (omega arith) (omega arith) j k)
 
 pub south-even-spec : {M : Type 1} → statement M
 south-even-spec =
     tie.close
     (tie.spec
-    add-byte
+    add-near
+    near-requires
     byte-requires
     byte-requires-2
     byte-requires-3
-    byte-requires-4
-    add-byte-2
-    add-byte-3
-    byte-requires-5
+    add-near-2
+    near-requires-2
     one-out-requires
     returns)
