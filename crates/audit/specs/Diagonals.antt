@@ -6,7 +6,7 @@ use Prim.Native.Nat.{ℕ, _+_, _*_, _/_, _≤_}
 use native.Mathlib.Omega.{arith}
 use lib.Dec.{T, leb, leb→le}
 use Rattle.sums.specs.Tests.{and-left, and-right}
-use Rattle.model.specs.Job.{Job, inRange, capsFit, centreLimit, isOpen}
+use Rattle.model.specs.Job.{Job, inRange, capsFit, centreLimit, tileD, isOpen}
 use Rattle.model.specs.Links.{Compass, clockwise, centre, at, corner, Step, go, come, limitOf}
 use Rattle.model.specs.Loads.{arrivals, Feasible}
 
@@ -30,9 +30,9 @@ module _ (J : Job) (caps : T (capsFit (J .O) (J .D) (J .E))) (f : Step → ℕ) 
   unfolding limitOf
   corner-limit d r c = feasible .limits (go (corner d) r c) (J .O / 2) refl
 
-  centre-limit : (r c : ℕ) → T (isOpen J r c) → arrivals f (at centre r c) ≤ centreLimit (J .O) (J .D)
-  centre-limit r c t = feasible .passing (at centre r c) (centreLimit (J .O) (J .D)) t refl
+  centre-limit : (r c : ℕ) → T (isOpen J r c) → arrivals f (at centre r c) ≤ centreLimit (J .O) (tileD J r c)
+  centre-limit r c t = feasible .passing (at centre r c) (centreLimit (J .O) (tileD J r c)) t refl
 
-  pub diagonal-crossed : (d : Compass) (r c : ℕ) → T (isOpen J r c) → crossing f d r c ≤ J .D
+  pub diagonal-crossed : (d : Compass) (r c : ℕ) → T (isOpen J r c) → crossing f d r c ≤ tileD J r c
   diagonal-crossed d r c t =
       omega (arith, corner-limit d r c, corner-limit (clockwise (clockwise d)) r c, centre-limit r c t, diagonal-least)

@@ -15,7 +15,7 @@ use Rattle.cell.specs.Cell.Grid.{by-number, by-row}
 use Rattle.cell.specs.Cell.Links.{LoadsFit, links-all, links-pass}
 use Rattle.cell.specs.Cell.Places.{LoadsEven, places-all, places-pass}
 use Rattle.cell.specs.Cell.Values.{Values, values-all, values-pass}
-use Rattle.cell.specs.Unused.{unusedClear, header-clear, reserve-clear, unused-pass}
+use Rattle.cell.specs.Unused.{unusedClear, header-clear, added-clear, unused-pass}
 use Rattle.audit.specs.Feasible.{FeasibleRecord, Decides}
 
 module _ (rec : List ℕ) where
@@ -68,6 +68,7 @@ module _ (rec : List ℕ) where
             caps = caps-fit n;
             marks = λ r c. values r c .mark;
             states = λ r c. values r c .state;
+            added = added-clear rec u;
             loads = fit .bytes;
           };
           feasible = record {
@@ -80,10 +81,9 @@ module _ (rec : List ℕ) where
             balance = even .balance;
           };
           unused = record {
-            header = header-clear rec u;
+            header = λ i l h. header-clear rec u i (omega arith) h;
             marks = λ r c. values r c .noPin;
             states = λ r c. values r c .noTile;
-            reserve = reserve-clear rec u;
           };
         }
 
@@ -95,7 +95,7 @@ module _ (rec : List ℕ) where
     numbers-fit = and-both (arrayFits (J .rows) (J .columns)) (capsFit (J .O) (J .D) (J .E)) (g .values .array) (g .values .caps)
 
     pub unused-clear : T (unusedClear rec)
-    unused-clear = unused-pass rec (g .unused)
+    unused-clear = unused-pass rec (g .values .added) (g .unused)
 
     cell-passes : (r c : ℕ) → T (cellFits r c)
     unfolding cellFits

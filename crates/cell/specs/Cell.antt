@@ -13,7 +13,7 @@ use mathlib.Core.Option.{Option, none, some}
 use Prim.Native.Nat.{ℕ, _+_}
 use lib.Dec.{eqb, leb, ltb}
 use Rattle.sums.specs.Counting.{when}
-use Rattle.model.specs.Job.{Job, isPin, isTile, isOpen, isChosen, isMissing, centreLimit}
+use Rattle.model.specs.Job.{Job, isPin, isTile, isOpen, isChosen, isMissing, centreLimit, tileD, extraLimit}
 use Rattle.model.specs.Links.{Compass, north, east, south, west, pin, missing, centre, side, Place, at, LinkKind, northSide, westSide, corner, spoke, leg, direct, Step, go, come, may, limit}
 use Rattle.model.specs.Loads.{arrivals, departures}
 use Rattle.model.specs.Record.{loadPlane, cell, jobOf, load}
@@ -91,14 +91,14 @@ module _ (rec : List ℕ) where
   tileEven r c = not (isOpen J r c) || allFour (λ d. evenAt (at (side d) r c))
 
   pub centreEven : ℕ → ℕ → Bool
-  centreEven r c = not (isOpen J r c) || passesAt (at centre r c) (centreLimit (J .O) (J .D))
+  centreEven r c = not (isOpen J r c) || passesAt (at centre r c) (centreLimit (J .O) (tileD J r c))
 
   -- a chosen pin starts at most one wire
   pub startsOne : ℕ → ℕ → Bool
   startsOne r c = not (isChosen J r c) || leb (departures (load rec) (at pin r c)) 1
 
   pub missingEven : ℕ → ℕ → Bool
-  missingEven r c = not (isMissing J r c) || passesAt (at missing r c) (J .E)
+  missingEven r c = not (isMissing J r c) || passesAt (at missing r c) (extraLimit J)
 
   pub pinsEven : ℕ → ℕ → Bool
   pinsEven r c = startsOne r c && missingEven r c

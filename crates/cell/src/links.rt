@@ -3,17 +3,19 @@ ghost use mathlib.Core.Path.{_≡_};
 ghost use mathlib.Core.Bool.{_&&_};
 ghost use Prim.Native.Nat.{_≤_, _<_};
 ghost use lib.Dec.{T};
-ghost use lib.ListN.{length};
+ghost use lib.ListN.{length, getD};
 ghost use Rattle.sums.specs.Counting.{when};
 ghost use Rattle.model.specs.Job.{capsFit};
-ghost use Rattle.model.specs.Links.{direct};
-ghost use Rattle.model.specs.Record.{jobOf, cell};
+ghost use Rattle.model.specs.Links.{northSide, direct, limitOf};
+ghost use Rattle.model.specs.Near.{size};
+ghost use Rattle.model.specs.Record.{kinds, jobOf, cell};
 ghost use Rattle.channel.specs.Map.{rowOf, columnOf};
 ghost use Rattle.cell.specs.Cell.{fits, leaving, linkFits, sidesFit, fourFit, cornersFit, spokesFit, legsFit};
 ghost use Rattle.cell.specs.Cell.Grid.{Pins, Tiles, openIn, clearIn};
 use crate::grid::byte;
 use crate::grid::clear_at;
 use crate::grid::open_at;
+use channel::limits::side_most;
 use channel::orthogonal;
 
 // n where the test holds, else 0.
@@ -31,12 +33,12 @@ fn has_room(b: u8, forth: u8, back: u8) -> bool
     (b <= forth) | ((32 < b) & (b <= 32 + back))
 }
 
-// How many wires may go over a side.
-fn side_most(rec: &[u8]) -> u8
-    requires { ⌜ (32768 ≤ length (now rec)) × T (capsFit (jobOf (now rec) .O) (jobOf (now rec) .D) (jobOf (now rec) .E)) ⌝ }
-    ensures { λ n. ⌜ (n ≡ jobOf (now (rec .entry)) .O) × (n < 32) ⌝ }
+// How many wires may go over a side of the tile x: its north side for k = 0, its west side for k = 1.
+fn side_room(rec: &[u8], k: usize, x: usize) -> u8
+    requires { ⌜ (32768 ≤ length (now rec)) × (k < 2) × (41 ≤ x) × (x < 1641) × T (capsFit (jobOf (now rec) .O) (jobOf (now rec) .D) (jobOf (now rec) .E)) ⌝ }
+    ensures { λ n. ⌜ (n ≡ size (limitOf (jobOf (now (rec .entry))) (getD kinds k northSide) (rowOf x) (columnOf x))) × (n < 32) ⌝ }
 {
-    orthogonal(rec) as u8
+    side_most(rec, k, x) as u8
 }
 
 // Whether a wire may go from the tile x over a side to y.
@@ -47,14 +49,12 @@ fn crosses(rec: &[u8], tile: &[bool; 1641], x: usize, y: usize) -> bool
     open_at(rec, tile, x) & clear_at(rec, tile, y)
 }
 
-// Whether the byte of a side that leads from x to y is in order.
-fn side_fits(rec: &[u8], tile: &[bool; 1641], b: u8, x: usize, y: usize) -> bool
-    requires { ⌜ (32768 ≤ length (now rec)) × (x < 1641) × (y < 1641) × Tiles (now rec) (now tile) ⌝ }
-    requires { ⌜ T (capsFit (jobOf (now rec) .O) (jobOf (now rec) .D) (jobOf (now rec) .E)) ⌝ }
-    ensures { λ t. ⌜ t ≡ fits b (when (openIn (jobOf (now (rec .entry))) x && clearIn (jobOf (now (rec .entry))) y) (jobOf (now (rec .entry)) .O))
-        (when (openIn (jobOf (now (rec .entry))) y && clearIn (jobOf (now (rec .entry))) x) (jobOf (now (rec .entry)) .O)) ⌝ }
+// Whether the byte of a side that leads from x to y and takes `most` wires is in order.
+fn side_fits(rec: &[u8], tile: &[bool; 1641], b: u8, most: u8, x: usize, y: usize) -> bool
+    requires { ⌜ (32768 ≤ length (now rec)) × (most < 32) × (x < 1641) × (y < 1641) × Tiles (now rec) (now tile) ⌝ }
+    ensures { λ t. ⌜ t ≡ fits b (when (openIn (jobOf (now (rec .entry))) x && clearIn (jobOf (now (rec .entry))) y) most)
+        (when (openIn (jobOf (now (rec .entry))) y && clearIn (jobOf (now (rec .entry))) x) most) ⌝ }
 {
-    let most = side_most(rec);
     has_room(
         b,
         held(crosses(rec, tile, x, y), most),
@@ -68,8 +68,8 @@ pub fn sides(rec: &[u8], tile: &[bool; 1641], x: usize) -> bool
     requires { ⌜ T (capsFit (jobOf (now rec) .O) (jobOf (now rec) .D) (jobOf (now rec) .E)) ⌝ }
     ensures { λ t. ⌜ t ≡ sidesFit (now (rec .entry)) (rowOf x) (columnOf x) ⌝ }
 {
-    let north = side_fits(rec, tile, byte(rec, 2, x), x, x - 40);
-    let west = side_fits(rec, tile, byte(rec, 3, x), x - 1, x);
+    let north = side_fits(rec, tile, byte(rec, 2, x), side_room(rec, 0, x), x, x - 40);
+    let west = side_fits(rec, tile, byte(rec, 3, x), side_room(rec, 1, x), x - 1, x);
     north & west
 }
 

@@ -4,7 +4,7 @@ ghost use mathlib.Core.Path.{_≡_};
 ghost use Prim.Native.Nat.{suc, _+_, _*_, _≤_, _<_};
 ghost use lib.Dec.{T};
 ghost use lib.ListN.{length, getD};
-ghost use Rattle.model.specs.Job.{capsFit, centreLimit};
+ghost use Rattle.model.specs.Job.{capsFit, centreLimit, tileD};
 ghost use Rattle.model.specs.Links.{north, east, south, west, side, at};
 ghost use Rattle.model.specs.Record.{jobOf, forthPart, backPart};
 ghost use Rattle.channel.specs.Map.{rowOf, columnOf};
@@ -14,8 +14,8 @@ ghost use Rattle.cell.specs.Cell.Sums.{outTwo, outOne};
 use crate::grid::byte;
 use crate::grid::near;
 use crate::grid::open_at;
-use channel::extra;
 use channel::limits::centre_most;
+use channel::limits::missing_most;
 
 // A byte as a number.
 fn wide(b: u8) -> u16
@@ -150,12 +150,12 @@ fn forth_sum(rec: &[u8], p: usize, x: usize) -> u16
     n + e + s + w
 }
 
-// How many wires pass the centre of a tile at most.
-fn centre_room(rec: &[u8]) -> u16
-    requires { ⌜ (32768 ≤ length (now rec)) × T (capsFit (jobOf (now rec) .O) (jobOf (now rec) .D) (jobOf (now rec) .E)) ⌝ }
-    ensures { λ n. ⌜ n ≡ centreLimit (jobOf (now (rec .entry)) .O) (jobOf (now (rec .entry)) .D) ⌝ }
+// How many wires pass the centre of the tile x at most.
+fn centre_room(rec: &[u8], x: usize) -> u16
+    requires { ⌜ (32768 ≤ length (now rec)) × (41 ≤ x) × (x < 1641) × T (capsFit (jobOf (now rec) .O) (jobOf (now rec) .D) (jobOf (now rec) .E)) ⌝ }
+    ensures { λ n. ⌜ n ≡ centreLimit (jobOf (now (rec .entry)) .O) (tileD (jobOf (now (rec .entry))) (rowOf x) (columnOf x)) ⌝ }
 {
-    centre_most(rec) as u16
+    centre_most(rec, x) as u16
 }
 
 // Whether as many wires come to the centre of an open tile as leave it, and no more than may pass.
@@ -165,7 +165,7 @@ pub fn centre(rec: &[u8], tile: &[bool; 1641], x: usize) -> bool
     ensures { λ t. ⌜ t ≡ centreEven (now (rec .entry)) (rowOf x) (columnOf x) ⌝ }
 {
     let come = back_sum(rec, 8, x);
-    let passes = (come == forth_sum(rec, 8, x)) & (come <= centre_room(rec));
+    let passes = (come == forth_sum(rec, 8, x)) & (come <= centre_room(rec, x));
     !open_at(rec, tile, x) | passes
 }
 
@@ -178,6 +178,6 @@ pub fn pins(rec: &[u8], pin: &[bool; 1641], x: usize) -> bool
     let come = back_sum(rec, 12, x);
     let leave = forth_sum(rec, 12, x);
     let starts = leave + forth(near(rec, 16, x)) <= 1;
-    let passes = (come == leave) & (come <= extra(rec) as u16);
+    let passes = (come == leave) & (come <= missing_most(rec) as u16);
     (!(pin[x] & (mark == 1)) | starts) & (!(pin[x] & (mark == 2)) | passes)
 }

@@ -16,7 +16,7 @@ fn is_clear(rec: &[u8], start: usize, n: usize) -> bool
     clear
 }
 
-// Whether the bytes that nothing uses, behind the header's numbers and in the planes in reserve, are all 0.
+// Whether the bytes that nothing uses yet, behind the header's numbers and in the planes behind those of loads, are all 0.
 pub fn unused_clear(rec: &[u8]) -> bool
     requires { ⌜ 32768 ≤ length (now rec) ⌝ }
     ensures { λ t. ⌜ t ≡ unusedClear (now (rec .entry)) ⌝ }

@@ -3,7 +3,7 @@
 -- Assumes nothing.
 use mathlib.Core.Path.{_≡_, refl, sym, ap, _∙_}
 use mathlib.Core.Bool.{Bool, true, false, not, _&&_}
-use mathlib.Core.List.{List, _∷_, _++_}
+use mathlib.Core.List.{List, [], _∷_, _++_}
 use mathlib.Core.Option.{Option, none, some}
 use Prim.Native.Nat.{ℕ, zero, suc, _+_, _-_, _*_, _/_, _%_, _≤_, _<_}
 use native.Mathlib.Omega.{arith}
@@ -12,13 +12,13 @@ use lib.ListN.{length, getD, getElem?, take, drop, set, replicate, length-append
 use borrow.Rule.Slice.PartMut.{midOf, putMid, mid-len, post-is}
 use lib.Seq.{ext-getD, drop-at, getD-append-add, getD-drop, getD-take, getD-set-same, getD-set-other, length-take-le}
 use Rattle.sums.specs.Tests.{Same, same, other, same?, and-left, and-right, and-both}
-use Rattle.model.specs.Job.{Job, fresh, put, marked, closed}
+use Rattle.model.specs.Job.{nothingAdded, Job, fresh, put, marked, closed}
 use Rattle.model.specs.Links.{LinkKind, Step}
-use Rattle.model.specs.Record.{recordSize, markPlane, statePlane, offset, jobOf, load, Legal, kinds, loadByteOf, planeByte, headByte, recordOf, noLoads}
+use Rattle.model.specs.Record.{recordSize, markPlane, statePlane, offset, jobOf, load, Legal, kinds, kindByte, planeByte, headByte, recordOf, noLoads}
 use Rattle.model.specs.Record.{unwiredRecord, over}
-use Rattle.model.proofs.RecordOf.{length-record, head-back, cell-back, plane-high}
+use Rattle.model.proofs.RecordOf.{bytes-none, length-record, head-back, cell-back, plane-added}
 use Rattle.model.proofs.Over.{get-over}
-use Rattle.model.proofs.LegalRecord.{legal-record}
+use Rattle.model.proofs.LegalRecord.{kind-at, legal-record}
 
 -- ---- what the writers store
 
@@ -26,7 +26,7 @@ use Rattle.model.proofs.LegalRecord.{legal-record}
 pub zeros : ℕ → List ℕ
 zeros n = replicate n 0
 
--- the record with its planes of loads, from offset (loadPlane northSide) 0 0 to offset reservePlane 0 0, all 0
+-- the record with its planes of loads, from offset (loadPlane northSide) 0 0 to offset laidNorthPlane 0 0, all 0
 pub unwired : List ℕ → List ℕ
 unwired rec = take 3968 rec ++ (zeros 24000 ++ drop 27968 rec)
 
@@ -163,9 +163,15 @@ closed-over K rec r c v long lr lc =
 
 -- ---- a new job
 
-plane-none : (o : Option LinkKind) (r c : ℕ) → loadByteOf noLoads o r c ≡ 0
-plane-none none r c = refl
-plane-none (some k) r c = refl
+plane-none : (p : ℕ) (o : Option LinkKind) (r c : ℕ) → kindByte nothingAdded noLoads p o r c ≡ 0
+plane-none p none r c = by (p - 15)
+  where
+    by : (n : ℕ) → _≡_ {A = ℕ} (getD (0 ∷ 0 ∷ 0 ∷ []) n 0) 0
+    by zero = refl
+    by (suc zero) = refl
+    by (suc (suc zero)) = refl
+    by (suc (suc (suc n))) = refl
+plane-none p (some k) r c = refl
 
 zeros-five : (X : List ℕ) → zeros 32768 ++ X ≡ 0 ∷ 0 ∷ 0 ∷ 0 ∷ 0 ∷ (zeros 32763 ++ X)
 unfolding zeros
@@ -201,12 +207,13 @@ fresh-written rec rows columns O D E long =
     heads (suc (suc zero)) l = refl
     heads (suc (suc (suc zero))) l = refl
     heads (suc (suc (suc (suc zero)))) l = refl
-    heads (suc (suc (suc (suc (suc i))))) l = behind i (omega arith)
+    heads (suc (suc (suc (suc (suc zero))))) l = behind 0 (omega arith)
+    heads (suc (suc (suc (suc (suc (suc i)))))) l = behind (suc i) (omega arith) ∙ sym (bytes-none 16 i)
 
     planes : (p r c : ℕ) → planeByte (fresh rows columns O D E) noLoads p r c ≡ 0
     planes zero r c = refl
     planes (suc zero) r c = refl
-    planes (suc (suc p)) r c = plane-none (getElem? kinds p) r c
+    planes (suc (suc p)) r c = plane-none p (getElem? kinds p) r c
 
     rests : (i : ℕ) → recordSize ≤ i → getD made i 0 ≡ getD rec i 0
     rests i l =
@@ -271,11 +278,12 @@ unwired-over rec g =
     was i = ap (λ (l : List ℕ). getD l i 0) (legal-record rec g)
 
     high : (p r c : ℕ) → p < 18 → r < 40 → c < 40 → (b : Bool) → (T b → p < 15) → (T (not b) → 15 ≤ p)
-        → getD (unwired rec) (offset (suc (suc p)) r c) 0 ≡ loadByteOf noLoads (getElem? kinds p) r c
+        → getD (unwired rec) (offset (suc (suc p)) r c) 0 ≡ planeByte J noLoads (suc (suc p)) r c
     high p r c lp lr lc true f n =
         let l : p < 15 = f tt in
+        let (k, e, q) = kind-at kinds 0 p tt l in
         ap (λ (n : ℕ). getD (unwired rec) n 0) (omega arith)
-        ∙ (unwired-loads rec (g .long) (1600 * p + 40 * r + c) (omega arith) ∙ sym (plane-none (getElem? kinds p) r c))
+        ∙ (unwired-loads rec (g .long) (1600 * p + 40 * r + c) (omega arith) ∙ ap (λ (o : Option LinkKind). kindByte (J .added) noLoads p o r c) (sym e))
     high p r c lp lr lc false f n =
         let l : 15 ≤ p = n tt in
         let q : ℕ = suc (suc p) in
@@ -285,7 +293,7 @@ unwired-over rec g =
         ∙ (ap (λ (n : ℕ). getD rec n 0) (sym k)
         ∙ (was (offset q r c)
         ∙ (over-cell J (load rec) rec (g .long) q r c (omega arith) lr lc
-        ∙ (plane-high J (load rec) q r c (omega arith) ∙ sym (plane-none (getElem? kinds p) r c))))))
+        ∙ (plane-added J (load rec) p r c l ∙ sym (plane-added J noLoads p r c l))))))
 
     cells : (p r c : ℕ) → p < 20 → r < 40 → c < 40 → getD (unwired rec) (offset p r c) 0 ≡ planeByte J noLoads p r c
     cells zero r c lp lr lc = unwired-before rec (g .long) (offset 0 r c) (omega arith)

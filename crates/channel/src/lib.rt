@@ -43,6 +43,7 @@ pub use moves::lay;
 pub use moves::wire_starts;
 pub use table::head_of;
 pub use table::reverse;
+pub use write::clear;
 pub use write::set_mark;
 pub use write::set_state;
 pub use write::unwire;

@@ -4,10 +4,11 @@ ghost use mathlib.Core.Bool.{_||_};
 ghost use Prim.Native.Nat.{_/_, _%_, _≤_, _<_};
 ghost use lib.Dec.{T, eqb};
 ghost use lib.ListN.{length, getD};
-ghost use Rattle.model.specs.Job.{centreLimit};
-ghost use Rattle.model.specs.Links.{isPlace, northSide, direct, go, aheadOf, may};
+ghost use Rattle.model.specs.Job.{centreLimit, tileD, extraLimit};
+ghost use Rattle.model.specs.Links.{isPlace, northSide, direct, go, aheadOf, limitOf, may};
+ghost use Rattle.model.specs.Near.{size};
 ghost use Rattle.model.specs.Record.{kinds, jobOf};
-ghost use Rattle.channel.specs.Map.{cap, free, kindOf, codeOf, mayTake, reaches, ownerMark};
+ghost use Rattle.channel.specs.Map.{rowOf, columnOf, cap, free, kindOf, codeOf, mayTake, reaches, ownerMark};
 use crate::header::clear_in;
 use crate::header::columns;
 use crate::header::diagonal;
@@ -112,15 +113,25 @@ pub fn leg_mark(job: &[u8], d: usize) -> usize
     mark_at(job, d / 64 + owner_of(d % 64))
 }
 
+// How many wires a side of the cell x takes at most: its north side for k = 0, its west side for k = 1.
+pub fn side_most(job: &[u8], k: usize, x: usize) -> usize
+    requires { ⌜ (32768 ≤ length (now job)) × (k < 2) × (41 ≤ x) × (x < 1641) ⌝ }
+    ensures { λ r. ⌜ (r ≡ size (limitOf (jobOf (now (job .entry))) (getD kinds k northSide) (rowOf x) (columnOf x))) × (r < 256) ⌝ }
+{
+    orthogonal(job)
+}
+
 // The limit of a side's dart.
 pub fn side_limit(job: &[u8], d: usize) -> usize
     requires { ⌜ (32768 ≤ length (now job)) × (d < 105024) × (codeOf (d % 64) ≡ 1) ⌝ }
     ensures { λ r. ⌜ r ≡ cap (jobOf (now (job .entry))) d ⌝ }
 {
-    if side_way(job, d) {
-        return orthogonal(job);
+    if !side_way(job, d) {
+        return 0;
     }
-    0
+    let k = kind_of(d % 64);
+    let x = d / 64 + owner_of(d % 64);
+    side_most(job, k, x)
 }
 
 // The limit of a corner's dart.
@@ -134,10 +145,10 @@ pub fn corner_limit(job: &[u8], d: usize) -> usize
     0
 }
 
-// How many wires pass a centre at most.
-pub fn centre_most(job: &[u8]) -> usize
-    requires { ⌜ 32768 ≤ length (now job) ⌝ }
-    ensures { λ r. ⌜ r ≡ centreLimit (jobOf (now (job .entry)) .O) (jobOf (now (job .entry)) .D) ⌝ }
+// How many wires pass the centre of the cell x at most.
+pub fn centre_most(job: &[u8], x: usize) -> usize
+    requires { ⌜ (32768 ≤ length (now job)) × (41 ≤ x) × (x < 1641) ⌝ }
+    ensures { λ r. ⌜ r ≡ centreLimit (jobOf (now (job .entry)) .O) (tileD (jobOf (now (job .entry))) (rowOf x) (columnOf x)) ⌝ }
 {
     let corners = 2 * (orthogonal(job) / 2);
     let most = diagonal(job);
@@ -150,7 +161,7 @@ pub fn centre_limit(job: &[u8], d: usize) -> usize
     ensures { λ r. ⌜ r ≡ cap (jobOf (now (job .entry))) d ⌝ }
 {
     if open_at(job, d / 64) {
-        return centre_most(job);
+        return centre_most(job, d / 64);
     }
     0
 }
@@ -169,13 +180,21 @@ pub fn pin_limit(job: &[u8], d: usize) -> usize
     0
 }
 
+// How many wires pass a missing pin at most.
+pub fn missing_most(job: &[u8]) -> usize
+    requires { ⌜ 32768 ≤ length (now job) ⌝ }
+    ensures { λ r. ⌜ (r ≡ extraLimit (jobOf (now (job .entry)))) × (r < 256) ⌝ }
+{
+    extra(job)
+}
+
 // The limit of the dart from a missing pin's entry to its exit.
 pub fn missing_limit(job: &[u8], d: usize) -> usize
     requires { ⌜ (32768 ≤ length (now job)) × (d < 105024) × (codeOf (d % 64) ≡ 8) ⌝ }
     ensures { λ r. ⌜ r ≡ cap (jobOf (now (job .entry))) d ⌝ }
 {
     if missing_at(job, d / 64) {
-        return extra(job);
+        return missing_most(job);
     }
     0
 }

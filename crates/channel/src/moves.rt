@@ -8,7 +8,6 @@ ghost use Rattle.model.specs.Record.{jobOf};
 ghost use Rattle.channel.specs.Map.{isStart, outside, starts, moves, isStored, bump, laid, codeOf};
 ghost use Rattle.channel.specs.Map.Moving.{throughCentre, throughMissing};
 use crate::header::chosen_at;
-use crate::header::extra;
 use crate::header::in_grid;
 use crate::header::missing_at;
 use crate::header::open_at;
@@ -19,6 +18,7 @@ use crate::limits::corner_limit;
 use crate::limits::direct_limit;
 use crate::limits::leg_mark;
 use crate::limits::leg_way;
+use crate::limits::missing_most;
 use crate::limits::pin_free;
 use crate::limits::side_limit;
 use crate::loads::load_against;
@@ -141,7 +141,7 @@ pub fn centre_move(job: &[u8], loads: &[u8], d: usize) -> bool
     ensures { λ b. ⌜ b ≡ moves (jobOf (now (job .entry))) (now (loads .entry)) d ⌝ }
 {
     if open_at(job, d / 64) {
-        return through_centre(loads, d / 64) < centre_most(job);
+        return through_centre(loads, d / 64) < centre_most(job, d / 64);
     }
     false
 }
@@ -152,7 +152,7 @@ fn missing_move(job: &[u8], loads: &[u8], d: usize) -> bool
     ensures { λ b. ⌜ b ≡ moves (jobOf (now (job .entry))) (now (loads .entry)) d ⌝ }
 {
     if missing_at(job, d / 64) {
-        return through_missing(loads, d / 64) < extra(job);
+        return through_missing(loads, d / 64) < missing_most(job);
     }
     false
 }

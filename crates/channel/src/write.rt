@@ -7,7 +7,7 @@ ghost use Rattle.model.specs.Record.{recordSize, markPlane, statePlane, offset,
 ghost use Rattle.channel.specs.Written.{zeros, unwired};
 
 // Every byte of the part becomes 0.
-fn clear(part: &mut [u8])
+pub fn clear(part: &mut [u8])
     ensures { λ _. ⌜ now (part .exit) ≡ zeros (length (now (part .entry))) ⌝ }
 {
     for i in 0..part.len() {

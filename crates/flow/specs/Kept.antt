@@ -13,8 +13,8 @@ use Rattle.sums.specs.Sums.{when-other}
 use Rattle.flow.specs.Network.{Net, head, head-rev, times, times-none, has-times, Path, here, along, path-map}
 use Rattle.flow.specs.Balance.{back}
 use Rattle.flow.specs.Flow.{Apart}
-use Rattle.flow.specs.Residual.{Residual, undo, room, unlimited, Closed, closed-cong}
-use Rattle.flow.specs.Push.{push, pushes, pushes-push}
+use Rattle.flow.specs.Residual.{Residual, undo, room, unlimited, Closed}
+use Rattle.flow.specs.Push.{push}
 
 -- A dart that is residual and is not pushed stays residual.
 pub residual-kept : {G : Net} {f : ℕ → ℕ} {d : ℕ} (ds : List ℕ) → Apart G f → d < G .darts → times ds d ≡ 0 → Residual G f d → Residual G (push G f ds) d
@@ -66,8 +66,3 @@ path-avoids {G} {S = S} {v = v} c (along {d = d} l e r n p) o x (List·Memᴰ·h
     subst (λ (y : ℕ). T (not (S (G .tail y))) × T (not (S (head G y)))) (sym q)
     (not-T (S (G .tail d)) (λ t. T-not (S v) o (path-start c p (c .moves d l t r))), not-T (S (head G d)) (λ t. T-not (S v) o (path-start c p t)))
 path-avoids c (along l e r n p) o x (List·Memᴰ·tail m) = path-avoids c p o x m
-
--- So a closed set out of which a path of residual moves ends stays closed when the path is pushed dart by dart.
-pub pushes-closed : {G : Net} {f : ℕ → ℕ} {S : ℕ → Bool} {ds : List ℕ} {u v : ℕ} → Apart G f → Closed G f S → Path G (Residual G f) ds u v → T (not (S v))
-    → Closed G (pushes G f ds) S
-pushes-closed {G} {f} {ds = ds} a c p o = closed-cong (pushes-push G f ds a) (closed-kept ds c (path-avoids c p o))

@@ -70,10 +70,6 @@ push-flow {G} {f} {s} {ds} {u} F h p o =
 
 -- ---- a path dart by dart
 
--- loads that agree on every dart agree after a push
-pub push-cong : (G : Net) (f g : ℕ → ℕ) (ds : List ℕ) → ((d : ℕ) → d < G .darts → g d ≡ f d) → (x : ℕ) → x < G .darts → push G g ds x ≡ push G f ds x
-push-cong G f g ds e x l = omega (arith, e x l, e (G .rev x) (G .rev< x l))
-
 -- to push some darts and then others is to push all of them, in any order
 pub push-join : (G : Net) (f : ℕ → ℕ) (ds es all : List ℕ) → ((x : ℕ) → times all x ≡ times ds x + times es x) → (d : ℕ) → d < G .darts
     → push G (push G f ds) es d ≡ push G f all d

@@ -30,9 +30,6 @@ residual-cong {G} {d = d} e l (undo h) = undo (omega (arith, e (G .rev d) (G .re
 residual-cong {d = d} e l (room h) = room (omega (arith, e d l))
 residual-cong e l (unlimited h) = unlimited h
 
-pub closed-cong : {G : Net} {f g : ℕ → ℕ} {S : ℕ → Bool} → ((d : ℕ) → d < G .darts → g d ≡ f d) → Closed G f S → Closed G g S
-closed-cong e c = record { moves = λ d l t r. c .moves d l t (residual-cong e l r) }
-
 -- What is reachable is closed under residual moves.
 pub reach-closed : {G : Net} {f : ℕ → ℕ} {A : ℕ → Type 0} {S : ℕ → Bool} → ((u : ℕ) → u < G .nodes → T (S u) ↔ Reach G f A u) → Closed G f S
 reach-closed {G} e =

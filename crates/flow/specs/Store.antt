@@ -44,12 +44,3 @@ module _ (G : Net) (ls : List ℕ) (long : G .darts ≤ length ls) (a : Apart G 
       go : (b : Bool) → Same x e b → x ≢ G .rev e → held ls x ≡ push G (held ls) (e ∷ []) x
       go true (same s) q = omega (arith, push-here G (held ls) a e l n, ap (held ls) s, ap (push G (held ls) (e ∷ [])) s)
       go false (other s) q = sym (push-other G (held ls) a e l n x k s q)
-
-  pub store-load : held ls (G .rev e) ≡ 0 → (x : ℕ) → x < G .darts → held (set ls e (held ls e + 1)) x ≡ push G (held ls) (e ∷ []) x
-  store-load p x k =
-      set-reads ls e _ 0 (push G (held ls) (e ∷ [])) (omega arith) (omega (arith, push-here G (held ls) a e l n)) x
-      (go (eqb x (G .rev e)) (same? x (G .rev e)))
-    where
-      go : (b : Bool) → Same x (G .rev e) b → x ≢ e → held ls x ≡ push G (held ls) (e ∷ []) x
-      go true (same s) q = omega (arith, push-rev G (held ls) a e l n, ap (held ls) s, ap (push G (held ls) (e ∷ [])) s)
-      go false (other s) q = sym (push-other G (held ls) a e l n x k q s)

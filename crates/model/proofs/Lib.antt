@@ -8,10 +8,14 @@ pub mod Empty
 -- Lanes from left to right.
 pub mod LaneOrder
 -- Records: of a job with loads, of a job without, and the rest of a longer buffer.
+pub mod Added
 pub mod RecordOf
 pub mod Unwired
+pub mod JobBytes
 pub mod Over
 pub mod LegalRecord
+-- Calls: the tests of a paragraph in their order.
+pub mod Asked
 -- Text: one verdict at most, what is read is proper, and reading and writing undo each other.
 pub mod TextUnique
 pub mod TextProper

@@ -10,11 +10,12 @@ use lib.Dec.{T, leb, le→leb}
 use lib.ListN.{length, getD, drop, length-append, List·getD-append}
 use Rattle.sums.specs.Counting.{when}
 use Rattle.sums.specs.Sums.{when-cong}
-use Rattle.model.specs.Job.{Job, arrayFits, capsFit, isPin, isTile, Proper}
+use Rattle.model.specs.Job.{Job, arrayFits, capsFit, isPin, isTile, AddedFits, Proper}
 use Rattle.model.specs.Links.{Link, Step}
 use Rattle.model.specs.Loads.{Sound}
 use Rattle.model.specs.Record.{recordSize, offset, loadPlane, cell, jobOf, forthPart, backPart, load, Legal, noLoads, unwiredRecord, over}
 use Rattle.model.proofs.RecordOf.{inCells, cells-row, cells-column, plane-below, length-record, job-back}
+use Rattle.model.proofs.JobBytes.{job-same}
 use Rattle.model.proofs.Unwired.{unwired-legal}
 
 -- ---- the rest of a longer buffer
@@ -28,17 +29,7 @@ module _ (new rest : List ℕ) (e : length new ≡ recordSize) where
   cell-over p r c l = when-cong (inCells r c) _ _ (λ t. get-over (offset p r c) (omega (arith, cells-row r c t, cells-column r c t)))
 
   pub job-over : jobOf (new ++ rest) ≡ jobOf new
-  unfolding jobOf
-  job-over =
-      λ i. record {
-        rows = get-over 0 (omega arith) i;
-        columns = get-over 1 (omega arith) i;
-        O = get-over 2 (omega arith) i;
-        D = get-over 3 (omega arith) i;
-        E = get-over 4 (omega arith) i;
-        mark = λ r c. cell-over 0 r c (omega arith) i;
-        state = λ r c. cell-over 1 r c (omega arith) i;
-      }
+  job-over = job-same (new ++ rest) new (λ i l. get-over i (omega arith)) (λ i l h. get-over i h)
 
   way-over : (l : Link) (b : Bool) → load (new ++ rest) (record { link = l; forth = b }) ≡ load new (record { link = l; forth = b })
   unfolding load
@@ -57,6 +48,7 @@ module _ (new rest : List ℕ) (e : length new ≡ recordSize) where
           caps = to (λ K. T (capsFit (K .O) (K .D) (K .E))) (g .values .caps);
           marks = to (λ K. (r c : ℕ) → K .mark r c ≤ 2) (g .values .marks);
           states = to (λ K. (r c : ℕ) → K .state r c ≤ 1) (g .values .states);
+          added = to AddedFits (g .values .added);
           loads = λ k r c.
               subst (λ (b : ℕ). (b < 64) × (b ≢ 32)) (sym (cell-over (loadPlane k) r c (omega (arith, plane-below k)))) (g .values .loads k r c);
         };
@@ -65,7 +57,6 @@ module _ (new rest : List ℕ) (e : length new ≡ recordSize) where
           header = λ i a b. get-over i (omega arith) ∙ g .unused .header i a b;
           marks = to (λ K. (r c : ℕ) → T (not (isPin K r c)) → K .mark r c ≡ 0) (g .unused .marks);
           states = to (λ K. (r c : ℕ) → T (not (isTile K r c)) → K .state r c ≡ 0) (g .unused .states);
-          reserve = λ i a b. get-over i b ∙ g .unused .reserve i a b;
         };
       }
     where
@@ -97,4 +88,5 @@ legal-proper rec g =
       caps = g .values .caps;
       marks = λ r c. bounded (isPin (jobOf rec) r c) (jobOf rec .mark r c) 2 (g .values .marks r c) (g .unused .marks r c);
       states = λ r c. bounded (isTile (jobOf rec) r c) (jobOf rec .state r c) 1 (g .values .states r c) (g .unused .states r c);
+      added = g .values .added;
     }

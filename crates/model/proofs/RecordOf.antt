@@ -4,23 +4,23 @@
 use mathlib.Core.Path.{_≡_, refl, sym, ap, ap₂, subst, subst₂, _∙_}
 use mathlib.Core.Logic.{_≢_, _⊎_, inl, inr}
 use mathlib.Core.Bool.{Bool, true, false, not, _&&_}
-use mathlib.Core.List.{[], _∷_, _++_}
+use mathlib.Core.List.{List, [], _∷_, _++_}
 use mathlib.Core.Option.{Option}
 use Prim.Native.Nat.{ℕ, zero, suc, _+_, _-_, _*_, _/_, _%_, _≤_, _<_}
 use native.Mathlib.Nat.{not-suc-le-zero, eq-zero-or-pos}
 use native.Mathlib.Omega.{arith}
-use lib.Dec.{T, eqb, leb, ltb, leb→le, ltb→lt, nltb→le, lt→ltb}
+use lib.Dec.{T, eqb, leb, ltb, eqb→eq, leb→le, ltb→lt, nltb→le, lt→ltb}
 use lib.ListN.{length, getD, length-append, List·getD-append, List·getD-eq-default}
 use lib.Seq.{getD-append-add}
 use Rattle.sums.specs.Counting.{when, each}
-use Rattle.sums.specs.Tests.{Same, same, other, same?, and-left, and-right, and-both}
+use Rattle.sums.specs.Tests.{below-or, Same, same, other, same?, and-left, and-right, and-both}
 use Rattle.sums.specs.Sums.{when-cong}
 use Rattle.sums.specs.Entries.{entry-past}
-use Rattle.model.specs.Job.{Job, inRange, arrayFits, capsFit, isPin, isTile, Proper}
+use Rattle.model.specs.Job.{Added, Job, inRange, arrayFits, capsFit, isPin, isTile, hasNorth, hasWest, laidMost, ownDFits, seenMost, AddedFits, Proper}
 use Rattle.model.specs.Links.{north, east, south, west, LinkKind, northSide, westSide, corner, spoke, leg, direct, Link, Step, go, come, turn}
 use Rattle.model.specs.Loads.{Sound}
-use Rattle.model.specs.Record.{recordSize, reservePlane, loadPlane, offset, cell, jobOf, forthPart, backPart, load, Legal}
-use Rattle.model.specs.Record.{bytes, kinds, loadByte, loadByteOf, planeByte, headByte, recordOf}
+use Rattle.model.specs.Record.{recordSize, loadPlane, offset, cell, addedOf, jobOf, forthPart, backPart, load, Legal}
+use Rattle.model.specs.Record.{bytes, kinds, loadByte, addedByte, kindByte, planeByte, headByte, recordOf}
 
 -- ---- lists of bytes
 
@@ -39,6 +39,13 @@ byte-at (suc n) i f l = by (eqb i n) (same? i n) (byte-at n i f)
         let k : i ≡ length (bytes n f) + 0 = omega (arith, length-bytes n f) in
         ap (λ (j : ℕ). getD (bytes n f ++ (f n ∷ [])) j 0) k ∙ (getD-append-add (bytes n f) (f n ∷ []) 0 0 ∙ ap f (sym e))
     by false (other e) r = List·getD-append (bytes n f) (f n ∷ []) 0 i (omega (arith, length-bytes n f)) ∙ r (omega arith)
+
+pub bytes-none : (n i : ℕ) → getD (bytes n (λ j. 0)) i 0 ≡ 0
+bytes-none n i = by (below-or i n)
+  where
+    by : (i < n) ⊎ (n ≤ i) → getD (bytes n (λ j. 0)) i 0 ≡ 0
+    by (inl l) = byte-at n i (λ j. 0) l
+    by (inr l) = List·getD-eq-default (bytes n (λ j. 0)) 0 {n = i} (omega (arith, length-bytes n (λ j. 0)))
 
 -- ---- cells
 
@@ -128,10 +135,24 @@ module _ (J : Job) (f : Step → ℕ) where
   unfolding cell
   cell-is p r c l = when-cong (inCells r c) _ _ (λ t. cell-back p r c l (cells-row r c t) (cells-column r c t))
 
-  pub plane-high : (p r c : ℕ) → 17 ≤ p → planeByte J f p r c ≡ 0
-  plane-high zero r c l = absurd (omega arith)
-  plane-high (suc zero) r c l = absurd (omega arith)
-  plane-high (suc (suc p)) r c l = ap (λ (k : Option LinkKind). loadByteOf f k r c) (entry-past kinds p (omega arith))
+  -- a plane behind those of loads
+  pub plane-added : (p r c : ℕ) → 15 ≤ p → planeByte J f (suc (suc p)) r c ≡ addedByte (J .added) p r c
+  plane-added p r c l = ap (λ (o : Option LinkKind). kindByte (J .added) f p o r c) (entry-past kinds p l)
+
+  -- ---- the header
+
+  abbrev numbers : List ℕ
+  numbers = J .rows ∷ J .columns ∷ J .O ∷ J .D ∷ J .E ∷ J .added .upward ∷ []
+
+  abbrev rectangles : ℕ → ℕ
+  rectangles j = J .added .seen (j / 4) (j % 4)
+
+  pub head-seen : (j : ℕ) → j < 16 → headByte J (6 + j) ≡ J .added .seen (j / 4) (j % 4)
+  head-seen j l = getD-append-add numbers (bytes 16 rectangles) j 0 ∙ byte-at 16 j rectangles l
+
+  pub head-none : (i : ℕ) → 22 ≤ i → headByte J i ≡ 0
+  head-none i l =
+      List·getD-eq-default (numbers ++ bytes 16 rectangles) 0 {n = i} (omega (arith, length-append numbers (bytes 16 rectangles), length-bytes 16 rectangles))
 
   -- ---- the job
 
@@ -164,6 +185,64 @@ module _ (J : Job) (f : Step → ℕ) where
     state-back : (r c : ℕ) → cell (recordOf J f) 1 r c ≡ J .state r c
     state-back r c = cell-is 1 r c (omega arith) ∙ when-back (isTile J r c) (inCells r c) (J .state r c) 1 (tile-cell r c) (proper .states r c)
 
+    -- ---- what is added
+
+    north-cell : (r c : ℕ) → T (hasNorth J r c) → T (inCells r c)
+    north-cell r c t =
+        cells-have r c (omega (arith, array-fits .0, ltb→lt r (J .rows) (and-left (ltb r (J .rows)) (ltb (suc c) (J .columns)) t)))
+        (omega (arith, array-fits .1, ltb→lt (suc c) (J .columns) (and-right (ltb r (J .rows)) (ltb (suc c) (J .columns)) t)))
+
+    west-cell : (r c : ℕ) → T (hasWest J r c) → T (inCells r c)
+    west-cell r c t =
+        cells-have r c (omega (arith, array-fits .0, ltb→lt (suc r) (J .rows) (and-left (ltb (suc r) (J .rows)) (ltb c (J .columns)) t)))
+        (omega (arith, array-fits .1, ltb→lt c (J .columns) (and-right (ltb (suc r) (J .rows)) (ltb c (J .columns)) t)))
+
+    north-back : (r c : ℕ) → cell (recordOf J f) 17 r c ≡ J .added .laidNorth r c
+    north-back r c =
+        cell-is 17 r c (omega arith)
+        ∙ when-back (hasNorth J r c) (inCells r c) (J .added .laidNorth r c) (laidMost J) (north-cell r c) (proper .added .laidNorth r c)
+
+    west-back : (r c : ℕ) → cell (recordOf J f) 18 r c ≡ J .added .laidWest r c
+    west-back r c =
+        cell-is 18 r c (omega arith)
+        ∙ when-back (hasWest J r c) (inCells r c) (J .added .laidWest r c) (laidMost J) (west-cell r c) (proper .added .laidWest r c)
+
+    own-back : (r c : ℕ) → cell (recordOf J f) 19 r c ≡ J .added .ownD r c
+    own-back r c = cell-is 19 r c (omega arith) ∙ by (isTile J r c) (inCells r c) (tile-cell r c) (proper .added .ownD r c)
+      where
+        d : ℕ
+        d = J .added .ownD r c
+
+        by : (b i : Bool) → (T b → T i) → T (elim b as (λ x. Bool) [ true ↦ ownDFits J d | false ↦ eqb d 0 ]) → when i d ≡ d
+        by b true h t = refl
+        by true false h t = absurd (h tt)
+        by false false h t = sym (eqb→eq d 0 t)
+
+    seen-back : (p k : ℕ) → when (ltb p 4 && ltb k 4) (getD (recordOf J f) (6 + 4 * p + k) 0) ≡ J .added .seen p k
+    seen-back p k =
+        when-cong (ltb p 4 && ltb k 4) _ _
+        (λ t. at (ltb→lt p 4 (and-left (ltb p 4) (ltb k 4) t)) (ltb→lt k 4 (and-right (ltb p 4) (ltb k 4) t)))
+        ∙ when-back (ltb p 4 && ltb k 4) (ltb p 4 && ltb k 4) (J .added .seen p k) (seenMost J) (λ t. t) (proper .added .seen p k)
+      where
+        at : p < 4 → k < 4 → getD (recordOf J f) (6 + 4 * p + k) 0 ≡ J .added .seen p k
+        at a b =
+            let j : ℕ = 4 * p + k in
+            let x : j / 4 ≡ p = omega arith in
+            let y : j % 4 ≡ k = omega arith in
+            ap (λ (n : ℕ). getD (recordOf J f) n 0) (omega arith)
+            ∙ (head-back (6 + j) (omega arith) ∙ (head-seen j (omega arith) ∙ (λ n. J .added .seen (x n) (y n))))
+
+    added-back : addedOf (recordOf J f) ≡ J .added
+    unfolding addedOf
+    added-back =
+        λ i. record {
+          laidNorth = λ r c. north-back r c i;
+          laidWest = λ r c. west-back r c i;
+          ownD = λ r c. own-back r c i;
+          upward = head-back 5 (omega arith) i;
+          seen = λ p k. seen-back p k i;
+        }
+
     pub job-back : jobOf (recordOf J f) ≡ J
     unfolding jobOf
     job-back =
@@ -175,6 +254,7 @@ module _ (J : Job) (f : Step → ℕ) where
           E = head-back 4 (omega arith) i;
           mark = λ r c. mark-back r c i;
           state = λ r c. state-back r c i;
+          added = added-back i;
         }
 
 -- ---- the loads
@@ -240,12 +320,6 @@ module _ (J : Job) (f : Step → ℕ) (b : Storable f) where
   none-by true m n t u = absurd u
   none-by false m n t u = omega (arith, leb→le m 0 t)
 
-  reserve-back : (i : ℕ) → offset reservePlane 0 0 ≤ i → i < recordSize → getD (recordOf J f) i 0 ≡ 0
-  reserve-back i l h =
-      let j : ℕ = i - 768 in
-      let k : i ≡ 768 + j = omega arith in
-      ap (λ (n : ℕ). getD (recordOf J f) n 0) k ∙ (plane-back J f j (omega arith) ∙ plane-high J f (j / 1600) (j % 1600 / 40) (j % 40) (omega arith))
-
   -- a proper job with loads that are sound and can be stored
   pub record-legal : Proper J → Sound J f → Legal (recordOf J f)
   record-legal proper sound =
@@ -256,16 +330,16 @@ module _ (J : Job) (f : Step → ℕ) (b : Storable f) where
           caps = to (λ K. T (capsFit (K .O) (K .D) (K .E))) (proper .caps);
           marks = to (λ K. (r c : ℕ) → K .mark r c ≤ 2) (λ r c. bound-by (isPin J r c) (J .mark r c) 2 (proper .marks r c));
           states = to (λ K. (r c : ℕ) → K .state r c ≤ 1) (λ r c. bound-by (isTile J r c) (J .state r c) 1 (proper .states r c));
+          added = to AddedFits (proper .added);
           loads = λ k r c.
               subst (λ (x : ℕ). (x < 64) × (x ≢ 32)) (sym (byte-back k r c))
               (byte-fits (f (go k r c)) (f (come k r c)) (b .small (go k r c)) (b .small (come k r c)) (b .oneWay (go k r c)));
         };
         sound = subst₂ Sound (sym (job-back J f proper)) (λ i s. sym (load-back s) i) sound;
         unused = record {
-          header = λ i l h. head-back J f i h ∙ List·getD-eq-default (J .rows ∷ J .columns ∷ J .O ∷ J .D ∷ J .E ∷ []) 0 l;
+          header = λ i l h. head-back J f i h ∙ head-none J f i l;
           marks = to (λ K. (r c : ℕ) → T (not (isPin K r c)) → K .mark r c ≡ 0) (λ r c. none-by (isPin J r c) (J .mark r c) 2 (proper .marks r c));
           states = to (λ K. (r c : ℕ) → T (not (isTile K r c)) → K .state r c ≡ 0) (λ r c. none-by (isTile J r c) (J .state r c) 1 (proper .states r c));
-          reserve = reserve-back;
         };
       }
     where

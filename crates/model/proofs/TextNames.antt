@@ -10,6 +10,7 @@ use Rattle.sums.specs.Counting.{when}
 use Rattle.sums.specs.Tests.{and-left, and-right, and-both}
 use Rattle.model.specs.Job.{Job, inRange, fresh, put, isPin, isTile, isChosen, isMissing, isClosed, Proper}
 use Rattle.model.specs.Text.{Group, chosenPins, missingPins, closedTiles, within, rank, Reader, names, named, isNamed}
+use Rattle.model.proofs.Added.{nothing-known}
 
 -- ---- turns
 
@@ -171,7 +172,16 @@ state-value K r c p = by-test (isTile K r c) (K .state r c) (p .states r c)
 
 pub job-known : (K J : Job) → Proper K → Proper J → Alike K J → ((g : Group) (r c : ℕ) → isNamed K g r c ≡ isNamed J g r c) → K ≡ J
 job-known K J p q a e =
-    λ t. record { rows = a .rows t; columns = a .columns t; O = a .O t; D = a .D t; E = a .E t; mark = λ r c. marks r c t; state = λ r c. states r c t }
+    λ t. record {
+      rows = a .rows t;
+      columns = a .columns t;
+      O = a .O t;
+      D = a .D t;
+      E = a .E t;
+      mark = λ r c. marks r c t;
+      state = λ r c. states r c t;
+      added = (nothing-known K (p .added) ∙ sym (nothing-known J (q .added))) t;
+    }
   where
     marks : (r c : ℕ) → K .mark r c ≡ J .mark r c
     marks r c = mark-value K r c p ∙ (ap₂ (λ (x y : Bool). when x 1 + when y 2) (e chosenPins r c) (e missingPins r c) ∙ sym (mark-value J r c q))

@@ -1,6 +1,6 @@
 -- Document 01, "Job text" and "Runs": a fresh job, a mark and a closed tile within the array are proper, so a text that is read gives a proper job: every
 -- line that may stand after the array names a pin or tile of it. Assumes nothing.
-use mathlib.Core.Path.{_≡_, sym, ap, subst}
+use mathlib.Core.Path.{_≡_, refl, sym, ap, subst}
 use mathlib.Core.Bool.{Bool, true, false, not, _&&_}
 use mathlib.Core.List.{List}
 use mathlib.Core.Option.{some}
@@ -12,6 +12,7 @@ use Rattle.sums.specs.Tests.{and-left, and-right}
 use Rattle.model.specs.Job.{Job, arrayFits, capsFit, capsAdmitted, fresh, marked, closed, put, isPin, isTile, Proper}
 use Rattle.model.specs.Text.{Group, chosenPins, missingPins, closedTiles, Line, arrayLine, groupLine, endLine, begin, rank, Reader, asking, inTurn, names}
 use Rattle.model.specs.Text.{named, admit, Verdict, reads, wrongAt, Reads, ended, line, wrong, Reading}
+use Rattle.model.proofs.Added.{nothing-fits, fits-kept}
 
 -- ---- proper jobs
 
@@ -21,7 +22,13 @@ zero-fits x = le→leb 0 x (omega arith)
 pub fresh-proper : (rows columns O D E : ℕ) → T (arrayFits rows columns) → T (capsFit O D E) → Proper (fresh rows columns O D E)
 fresh-proper rows columns O D E a b =
     let J : Job = fresh rows columns O D E in
-    record { array = a; caps = b; marks = λ r c. zero-fits (when (isPin J r c) 2); states = λ r c. zero-fits (when (isTile J r c) 1) }
+    record {
+      array = a;
+      caps = b;
+      marks = λ r c. zero-fits (when (isPin J r c) 2);
+      states = λ r c. zero-fits (when (isTile J r c) 1);
+      added = nothing-fits J refl;
+    }
 
 -- a table within its bounds, with one entry changed to another within its bound
 put-fits : (f : ℕ → ℕ → ℕ) (b : ℕ → ℕ → Bool) (n r c v : ℕ) → ((i j : ℕ) → T (leb (f i j) (when (b i j) n))) → T (b r c) → T (leb v n)
@@ -43,11 +50,25 @@ put-fits f b n r c v h t u i j = by (eqb i r && eqb j c) here
 
 pub marked-proper : (J : Job) (r c m : ℕ) → Proper J → T (isPin J r c) → T (leb m 2) → Proper (marked J r c m)
 marked-proper J r c m p t u =
-    record { array = p .array; caps = p .caps; marks = put-fits (J .mark) (isPin J) 2 r c m (p .marks) t u; states = p .states }
+    let marks : ℕ → ℕ → ℕ = put (J .mark) r c m in
+    record {
+      array = p .array;
+      caps = p .caps;
+      marks = put-fits (J .mark) (isPin J) 2 r c m (p .marks) t u;
+      states = p .states;
+      added = fits-kept J marks (J .state) (p .added);
+    }
 
 pub closed-proper : (J : Job) (r c v : ℕ) → Proper J → T (isTile J r c) → T (leb v 1) → Proper (closed J r c v)
 closed-proper J r c v p t u =
-    record { array = p .array; caps = p .caps; marks = p .marks; states = put-fits (J .state) (isTile J) 1 r c v (p .states) t u }
+    let states : ℕ → ℕ → ℕ = put (J .state) r c v in
+    record {
+      array = p .array;
+      caps = p .caps;
+      marks = p .marks;
+      states = put-fits (J .state) (isTile J) 1 r c v (p .states) t u;
+      added = fits-kept J (J .mark) states (p .added);
+    }
 
 -- ---- reading
 

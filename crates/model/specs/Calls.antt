@@ -1,7 +1,7 @@
 -- Document 01, "Record and operations": the calls, their answers, and what each does to record, scratch and output. Assumes nothing.
 use mathlib.Core.Path.{_≡_}
 use mathlib.Core.Bool.{Bool, true, false, not, _&&_}
-use mathlib.Core.List.{List, []}
+use mathlib.Core.List.{List, [], _∷_}
 use mathlib.Core.Option.{Option, none, some}
 use Prim.Native.Nat.{ℕ, suc, _-_, _≤_, _<_}
 use lib.Dec.{T, eqb, leb}
@@ -69,44 +69,44 @@ cleared scratch = over (replicate scratchSize 0) scratch
 
 -- ---- what the rules settle, as equations
 
+-- a test of a paragraph, and the number of the refusal where it does not hold
+pub record Test : Type 0 where
+  pub holds : Bool
+  pub number : ℕ
+
+abbrev pub test : Bool → ℕ → Test
+test b k = record { holds = b; number = k }
+
+-- The tests of a paragraph in its order: a call is "refused with the first number that applies", with every byte as it was.
+abbrev pub asked : List Test → (rec output : List ℕ) → After → After
+asked [] rec output a = a
+asked (t ∷ ts) rec output a = elim (t .holds) [ true ↦ asked ts rec output a | false ↦ after (refused (t .number)) rec [] output ]
+
 -- "1 record under 32,768 bytes; 2 rows or columns out of range; 3 capacities out of range. Gives an idle, open, unwired job, unused bytes zero."
 abbrev pub newly : ℕ → ℕ → ℕ → ℕ → ℕ → List ℕ → After
 newly rows columns O D E rec =
-    elim (leb recordSize (length rec)) [
-      | false ↦ after (refused 1) rec [] []
-      | true ↦ elim (arrayFits rows columns) [
-        | false ↦ after (refused 2) rec [] []
-        | true ↦ elim (capsAdmitted O D E) [
-          | false ↦ after (refused 3) rec [] []
-          | true ↦ after done (over (unwiredRecord (fresh rows columns O D E)) rec) [] []
-        ]
-      ]
-    ]
+    asked (test (leb recordSize (length rec)) 1 ∷ test (arrayFits rows columns) 2 ∷ test (capsAdmitted O D E) 3 ∷ []) rec []
+    (after done (over (unwiredRecord (fresh rows columns O D E)) rec) [] [])
 
--- "4 no such pin or tile; 5 unknown mark or state. A value already there changes nothing. Any other edit takes out all wires."
-abbrev pub edited : (there known already : Bool) → Job → List ℕ → After
-edited there known already K rec =
-    elim there [
-      | false ↦ after (refused 4) rec [] []
-      | true ↦ elim known [
-        | false ↦ after (refused 5) rec [] []
-        | true ↦ elim already [
-          | true ↦ after done rec [] []
-          | false ↦ after done (over (unwiredRecord K) rec) [] []
-        ]
-      ]
-    ]
+-- "A value already there changes nothing. Any other edit takes out all wires."
+abbrev pub edited : (already : Bool) → Job → List ℕ → After
+edited already K rec = elim already [ true ↦ after done rec [] [] | false ↦ after done (over (unwiredRecord K) rec) [] [] ]
+
+-- "4 no such pin or tile; 5 unknown mark or state."
 
 abbrev pub markedBy : ℕ → ℕ → ℕ → List ℕ → After
-markedBy r c m rec = let J : Job = jobOf rec in edited (isPin J r c) (leb m 2) (eqb (J .mark r c) m) (marked J r c m) rec
+markedBy r c m rec =
+    let J : Job = jobOf rec in
+    asked (test (isPin J r c) 4 ∷ test (leb m 2) 5 ∷ []) rec [] (edited (eqb (J .mark r c) m) (marked J r c m) rec)
 
 abbrev pub closedBy : ℕ → ℕ → ℕ → List ℕ → After
-closedBy r c v rec = let J : Job = jobOf rec in edited (isTile J r c) (leb v 1) (eqb (J .state r c) v) (closed J r c v) rec
+closedBy r c v rec =
+    let J : Job = jobOf rec in
+    asked (test (isTile J r c) 4 ∷ test (leb v 1) 5 ∷ []) rec [] (edited (eqb (J .state r c) v) (closed J r c v) rec)
 
 -- "4 no such pin, or it is not chosen."
 abbrev pub listed : ℕ → ℕ → ℕ → List ℕ → After
-listed r c i rec =
-    elim (isChosen (jobOf rec) r c) [ false ↦ after (refused 4) rec [] [] | true ↦ after (lists (partAt (jobOf rec) (load rec) r c i)) rec [] [] ]
+listed r c i rec = asked (test (isChosen (jobOf rec) r c) 4 ∷ []) rec [] (after (lists (partAt (jobOf rec) (load rec) r c i)) rec [] [])
 
 -- "Reading gives an unwired job." "6 wrong text, with the offset of the first line that may not stand there."
 abbrev pub readIn : Verdict → List ℕ → After
@@ -117,10 +117,7 @@ readIn (wrongAt o) rec = after (wrongText o) rec [] []
 abbrev pub written : List ℕ → List ℕ → After
 written output rec =
     let text : List ℕ = textOf (jobOf rec) in
-    elim (leb (length text) (length output)) [
-      | false ↦ after (refused 7) rec [] output
-      | true ↦ after (wrote (length text)) rec [] (over text output)
-    ]
+    asked (test (leb (length text) (length output)) 7 ∷ []) rec output (after (wrote (length text)) rec [] (over text output))
 
 -- ---- what is free
 

@@ -28,6 +28,21 @@ centreLimit O D = D - 2 * (O / 2)
 
 -- ---- a job
 
+-- "What requests add to a job", 0 everywhere as never set.
+pub record Added : Type 0 where
+  -- wires already laid on the north and on the west side of the tile (r, c)
+  pub laidNorth : ℕ → ℕ → ℕ
+  pub laidWest : ℕ → ℕ → ℕ
+  -- the tile's own D, 0 for none
+  pub ownD : ℕ → ℕ → ℕ
+  -- 1 for a job marked upward
+  pub upward : ℕ
+  -- the rectangle of party 1 + p: row and column of its NW tile, then of its SE tile, each 1 more; 0 for none
+  pub seen : ℕ → ℕ → ℕ
+
+abbrev pub nothingAdded : Added
+nothingAdded = record { laidNorth = λ r c. 0; laidWest = λ r c. 0; ownD = λ r c. 0; upward = 0; seen = λ p k. 0 }
+
 -- "Rows count from 0 at the north, columns from 0 at the west. A pin is idle, chosen or missing (marks 0, 1, 2). A tile is open or closed (0, 1)."
 pub record Job : Type 0 where
   pub rows : ℕ
@@ -37,16 +52,17 @@ pub record Job : Type 0 where
   pub E : ℕ
   pub mark : ℕ → ℕ → ℕ
   pub state : ℕ → ℕ → ℕ
+  pub added : Added
 
 -- "An accepted New sets the five numbers, every pin idle, every tile open."
 abbrev pub fresh : ℕ → ℕ → ℕ → ℕ → ℕ → Job
-fresh rows columns O D E = record { rows = rows; columns = columns; O = O; D = D; E = E; mark = λ r c. 0; state = λ r c. 0 }
+fresh rows columns O D E = record { rows = rows; columns = columns; O = O; D = D; E = E; mark = λ r c. 0; state = λ r c. 0; added = nothingAdded }
 
 abbrev pub withMarks : Job → (ℕ → ℕ → ℕ) → Job
-withMarks J marks = record { rows = J .rows; columns = J .columns; O = J .O; D = J .D; E = J .E; mark = marks; state = J .state }
+withMarks J marks = record { rows = J .rows; columns = J .columns; O = J .O; D = J .D; E = J .E; mark = marks; state = J .state; added = J .added }
 
 abbrev pub withStates : Job → (ℕ → ℕ → ℕ) → Job
-withStates J states = record { rows = J .rows; columns = J .columns; O = J .O; D = J .D; E = J .E; mark = J .mark; state = states }
+withStates J states = record { rows = J .rows; columns = J .columns; O = J .O; D = J .D; E = J .E; mark = J .mark; state = states; added = J .added }
 
 -- a table with one entry changed
 abbrev pub put : (ℕ → ℕ → ℕ) → ℕ → ℕ → ℕ → ℕ → ℕ → ℕ
@@ -58,6 +74,23 @@ marked J r c m = withMarks J (put (J .mark) r c m)
 
 abbrev pub closed : Job → ℕ → ℕ → ℕ → Job
 closed J r c v = withStates J (put (J .state) r c v)
+
+-- ---- its limits
+
+-- how many wires the north and the west side of the tile (r, c) take: "limit O"
+abbrev pub northLimit : Job → ℕ → ℕ → ℕ
+northLimit J r c = J .O
+
+abbrev pub westLimit : Job → ℕ → ℕ → ℕ
+westLimit J r c = J .O
+
+-- the D of the tile (r, c)
+abbrev pub tileD : Job → ℕ → ℕ → ℕ
+tileD J r c = J .D
+
+-- "a missing pin is a place passing at most E wires"
+abbrev pub extraLimit : Job → ℕ
+extraLimit J = J .E
 
 -- ---- its pins and tiles
 
@@ -85,9 +118,37 @@ module _ (J : Job) where
   unfoldable pub isMissing : ℕ → ℕ → Bool
   isMissing r c = isPin r c && eqb (J .mark r c) 2
 
+  -- the north sides and the west sides of tiles: those at the south and east rim belong to the row and column behind the last tiles
+  abbrev pub hasNorth : ℕ → ℕ → Bool
+  hasNorth r c = ltb r (J .rows) && ltb (suc c) (J .columns)
+
+  abbrev pub hasWest : ℕ → ℕ → Bool
+  hasWest r c = ltb (suc r) (J .rows) && ltb c (J .columns)
+
+  -- What each added value may be: 0, as never set.
+  abbrev pub laidMost : ℕ
+  laidMost = 0
+
+  abbrev pub ownDFits : ℕ → Bool
+  ownDFits d = eqb d 0
+
+  abbrev pub upwardMost : ℕ
+  upwardMost = 0
+
+  abbrev pub seenMost : ℕ
+  seenMost = 0
+
+  pub record AddedFits : Type 0 where
+    pub laidNorth : (r c : ℕ) → T (leb (J .added .laidNorth r c) (when (hasNorth r c) laidMost))
+    pub laidWest : (r c : ℕ) → T (leb (J .added .laidWest r c) (when (hasWest r c) laidMost))
+    pub ownD : (r c : ℕ) → T (elim (isTile r c) [ true ↦ ownDFits (J .added .ownD r c) | false ↦ eqb (J .added .ownD r c) 0 ])
+    pub upward : T (leb (J .added .upward) upwardMost)
+    pub seen : (p k : ℕ) → T (leb (J .added .seen p k) (when (ltb p 4 && ltb k 4) seenMost))
+
   -- What every job of a run is: all in range, and marks and states outside the array 0.
   pub record Proper : Type 0 where
     pub array : T (arrayFits (J .rows) (J .columns))
     pub caps : T (capsFit (J .O) (J .D) (J .E))
     pub marks : (r c : ℕ) → T (leb (J .mark r c) (when (isPin r c) 2))
     pub states : (r c : ℕ) → T (leb (J .state r c) (when (isTile r c) 1))
+    pub added : AddedFits

@@ -7,7 +7,7 @@ use mathlib.Core.Option.{Option, none, some}
 use Prim.Native.Nat.{ℕ, zero, suc, _+_, _/_}
 use lib.Dec.{eqb}
 use Rattle.sums.specs.Counting.{each, those}
-use Rattle.model.specs.Job.{Job, isTile, isOpen, isChosen, isMissing, onRim, centreLimit}
+use Rattle.model.specs.Job.{Job, isTile, isOpen, isChosen, isMissing, onRim, centreLimit, northLimit, westLimit, tileD, extraLimit}
 
 -- ---- places
 
@@ -124,8 +124,8 @@ aheadOf J direct r c = straightOut J r c
 -- "A side: limit O. n-e, e-s, s-w, w-n: limit O/2 rounded down. c to each of n, e, s, w: no limit of its own. A chosen pin: limit 1. A missing pin is
 -- linked without limit."
 unfoldable pub limitOf : Job → LinkKind → ℕ → ℕ → Option ℕ
-limitOf J northSide r c = some (J .O)
-limitOf J westSide r c = some (J .O)
+limitOf J northSide r c = some (northLimit J r c)
+limitOf J westSide r c = some (westLimit J r c)
 limitOf J (corner d) r c = some (J .O / 2)
 limitOf J (spoke d) r c = none
 limitOf J (leg d) r c = elim (eqb (J .mark r c) 2) [ true ↦ none | false ↦ some 1 ]
@@ -137,8 +137,8 @@ limit J l = limitOf J (l .kind) (l .row) (l .column)
 -- "The centre passes at most D − 2×(O/2 rounded down) wires." "A missing pin is a place passing at most E wires."
 abbrev pub passOf : Job → PlaceKind → ℕ → ℕ → Option ℕ
 passOf J pin r c = none
-passOf J missing r c = some (J .E)
-passOf J centre r c = some (centreLimit (J .O) (J .D))
+passOf J missing r c = some (extraLimit J)
+passOf J centre r c = some (centreLimit (J .O) (tileD J r c))
 passOf J outside r c = none
 passOf J nowhere r c = none
 passOf J (side d) r c = none

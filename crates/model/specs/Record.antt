@@ -1,6 +1,6 @@
 -- Document 01, "Record and operations": the 32,768 bytes of a record and when they are damaged. The layout is docs/RECORD.md's: a header of 768 bytes
--- (0 to 4 are rows, columns, O, D, E), then 20 planes of 1,600 bytes, a byte for each cell (r, c) at 40 r + c: marks, tile states, the loads of
--- the 14 kinds of links, and four planes in reserve. Assumes nothing.
+-- (0 to 4 are rows, columns, O, D, E, 5 to 21 what requests add), then 20 planes of 1,600 bytes, a byte for each cell (r, c) at 40 r + c: marks, tile
+-- states, the loads of the 15 kinds of links, and three planes of what requests add. Assumes nothing.
 use mathlib.Core.Path.{_≡_}
 use mathlib.Core.Logic.{_≢_}
 use mathlib.Core.Bool.{true, false, not, _&&_}
@@ -10,7 +10,7 @@ use Prim.Native.Nat.{ℕ, zero, suc, _+_, _-_, _*_, _/_, _%_, _≤_, _<_}
 use lib.Dec.{T, ltb}
 use lib.ListN.{length, getD, getElem?, drop}
 use Rattle.sums.specs.Counting.{when, each}
-use Rattle.model.specs.Job.{Job, arrayFits, capsFit, isPin, isTile}
+use Rattle.model.specs.Job.{Added, Job, AddedFits, arrayFits, capsFit, isPin, isTile}
 use Rattle.model.specs.Links.{north, east, south, west, LinkKind, northSide, westSide, corner, spoke, leg, direct, linkCode, Step, go, come}
 use Rattle.model.specs.Loads.{Sound}
 
@@ -31,9 +31,15 @@ statePlane = 1
 abbrev pub loadPlane : LinkKind → ℕ
 loadPlane k = 2 + linkCode k
 
--- the first plane in reserve
-abbrev pub reservePlane : ℕ
-reservePlane = 17
+-- the planes behind those of loads: wires already laid on north sides and on west sides, and own diagonals
+abbrev pub laidNorthPlane : ℕ
+laidNorthPlane = 17
+
+abbrev pub laidWestPlane : ℕ
+laidWestPlane = 18
+
+abbrev pub ownDPlane : ℕ
+ownDPlane = 19
 
 abbrev pub offset : ℕ → ℕ → ℕ → ℕ
 offset plane r c = 768 + 1600 * plane + 40 * r + c
@@ -41,6 +47,17 @@ offset plane r c = 768 + 1600 * plane + 40 * r + c
 -- the byte of a plane at a cell; no cell lies beyond row or column 39
 unfoldable pub cell : List ℕ → ℕ → ℕ → ℕ → ℕ
 cell rec plane r c = when (ltb r 40 && ltb c 40) (getD rec (offset plane r c) 0)
+
+-- what requests add: laid counts, own diagonals, the upward mark, and four rectangles of four bytes each
+unfoldable pub addedOf : List ℕ → Added
+addedOf rec =
+    record {
+      laidNorth = cell rec laidNorthPlane;
+      laidWest = cell rec laidWestPlane;
+      ownD = cell rec ownDPlane;
+      upward = getD rec 5 0;
+      seen = λ p k. when (ltb p 4 && ltb k 4) (getD rec (6 + 4 * p + k) 0);
+    }
 
 unfoldable pub jobOf : List ℕ → Job
 jobOf rec =
@@ -52,6 +69,7 @@ jobOf rec =
       E = getD rec 4 0;
       mark = cell rec markPlane;
       state = cell rec statePlane;
+      added = addedOf rec;
     }
 
 -- A load byte: 0 none; 1 to 31 that many along the link's positive way; 33 to 63 that many less 32 against it.
@@ -80,13 +98,13 @@ module _ (rec : List ℕ) where
     pub caps : T (capsFit (J .O) (J .D) (J .E))
     pub marks : (r c : ℕ) → J .mark r c ≤ 2
     pub states : (r c : ℕ) → J .state r c ≤ 1
+    pub added : AddedFits J
     pub loads : (k : LinkKind) (r c : ℕ) → (cell rec (loadPlane k) r c < 64) × (cell rec (loadPlane k) r c ≢ 32)
 
   pub record Unused : Type 0 where
-    pub header : (i : ℕ) → 5 ≤ i → i < 768 → getD rec i 0 ≡ 0
+    pub header : (i : ℕ) → 22 ≤ i → i < 768 → getD rec i 0 ≡ 0
     pub marks : (r c : ℕ) → T (not (isPin J r c)) → J .mark r c ≡ 0
     pub states : (r c : ℕ) → T (not (isTile J r c)) → J .state r c ≡ 0
-    pub reserve : (i : ℕ) → offset reservePlane 0 0 ≤ i → i < recordSize → getD rec i 0 ≡ 0
 
   -- a record neither short nor damaged
   pub record Legal : Type 0 where
@@ -113,17 +131,24 @@ kinds =
 abbrev pub loadByte : (Step → ℕ) → LinkKind → ℕ → ℕ → ℕ
 loadByte f k r c = f (go k r c) + when (ltb 0 (f (come k r c))) (32 + f (come k r c))
 
-abbrev pub loadByteOf : (Step → ℕ) → Option LinkKind → ℕ → ℕ → ℕ
-loadByteOf f none r c = 0
-loadByteOf f (some k) r c = loadByte f k r c
+-- the planes behind those of the 15 kinds; p counts from the first plane of loads
+abbrev pub addedByte : Added → ℕ → ℕ → ℕ → ℕ
+addedByte A p r c = getD (A .laidNorth r c ∷ A .laidWest r c ∷ A .ownD r c ∷ []) (p - 15) 0
+
+abbrev pub kindByte : Added → (Step → ℕ) → ℕ → Option LinkKind → ℕ → ℕ → ℕ
+kindByte A f p none r c = addedByte A p r c
+kindByte A f p (some k) r c = loadByte f k r c
 
 abbrev pub planeByte : Job → (Step → ℕ) → ℕ → ℕ → ℕ → ℕ
 planeByte J f zero r c = J .mark r c
 planeByte J f (suc zero) r c = J .state r c
-planeByte J f (suc (suc p)) r c = loadByteOf f (getElem? kinds p) r c
+planeByte J f (suc (suc p)) r c = kindByte (J .added) f p (getElem? kinds p) r c
 
+-- rows, columns, O, D, E, the upward mark, then the rectangles, 4 bytes each
 abbrev pub headByte : Job → ℕ → ℕ
-headByte J i = getD (J .rows ∷ J .columns ∷ J .O ∷ J .D ∷ J .E ∷ []) i 0
+headByte J i =
+    getD
+    ((J .rows ∷ J .columns ∷ J .O ∷ J .D ∷ J .E ∷ J .added .upward ∷ []) ++ bytes 16 (λ j. J .added .seen (j / 4) (j % 4))) i 0
 
 unfoldable pub recordOf : Job → (Step → ℕ) → List ℕ
 recordOf J f = bytes 768 (headByte J) ++ bytes 32000 (λ i. planeByte J f (i / 1600) (i % 1600 / 40) (i % 40))

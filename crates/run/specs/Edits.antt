@@ -7,8 +7,9 @@ use Prim.Native.Nat.{ℕ}
 use lib.Dec.{T, eqb, leb}
 use Rattle.model.specs.Job.{Job, marked, closed, isPin, isTile}
 use Rattle.model.specs.Record.{jobOf}
-use Rattle.model.specs.Calls.{Call, mark, close, refusal, Accepted, After, Did, edited, wiresIn}
+use Rattle.model.specs.Calls.{Call, mark, close, refusal, Accepted, After, Did, Test, test, asked, edited, wiresIn}
 use Rattle.model.specs.Run.{Lent, Service, Sets, Follows}
+use Rattle.model.proofs.Asked.{allHold, hold-both, asked-all}
 use Rattle.run.specs.Invariant.{call-leaves}
 use Rattle.run.specs.Runs.{accepted-kept, becomes-set, recAfter}
 use Rattle.run.specs.Blank.{anew-unwired, Blank}
@@ -21,22 +22,23 @@ pub data Edits : Job → List Call → Job → Type 0 where
   closes : {J K : Job} {calls : List Call} (r c v : ℕ) → Lent (close r c v) → T (isTile J r c) → T (leb v 1) → Edits (closed J r c v) calls K
       → Edits J (close r c v ∷ calls) K
 
-edited-done : (there known already : Bool) (K : Job) (rec : List ℕ) → T there → T known → wiresIn rec ≡ 0
-    → Accepted (edited there known already K rec .answer) × (wiresIn (edited there known already K rec .rec) ≡ 0)
-edited-done true true true K rec s t u = (refl, u)
-edited-done true true false K rec s t u = (refl, anew-unwired K rec)
-edited-done true false already K rec s t u = absurd t
-edited-done false known already K rec s t u = absurd s
+edited-done : (ts : List Test) (already : Bool) (K : Job) (rec : List ℕ) → T (allHold ts) → wiresIn rec ≡ 0
+    → Accepted (asked ts rec [] (edited already K rec) .answer) × (wiresIn (asked ts rec [] (edited already K rec) .rec) ≡ 0)
+edited-done ts already K rec t u = subst (λ (a : After). Accepted (a .answer) × (wiresIn (a .rec) ≡ 0)) (sym (asked-all rec [] _ ts t)) (by already)
+  where
+    by : (b : Bool) → Accepted (edited b K rec .answer) × (wiresIn (edited b K rec .rec) ≡ 0)
+    by true = (refl, u)
+    by false = (refl, anew-unwired K rec)
 
 module _ (S : Service) where
   -- one edit
   abbrev Goes : Call → List ℕ → Job → Type 0
   Goes c rec K = Accepted (S .does c rec .answer) × Blank (S .does c rec .rec) K
 
-  edit-goes : (c : Call) (rec : List ℕ) (J K : Job) → Blank rec J → Did c rec (S .does c rec) → Sets S c J K → (there known already : Bool) (L : Job)
-      → S .does c rec ≡ edited there known already L rec → T there → T known → Goes c rec K
-  edit-goes c rec J K k d s there known already L e t u =
-      let (x, w) = edited-done there known already L rec t u (k .unwired) in
+  edit-goes : (c : Call) (rec : List ℕ) (J K : Job) → Blank rec J → Did c rec (S .does c rec) → Sets S c J K → (ts : List Test) (already : Bool) (L : Job)
+      → S .does c rec ≡ asked ts rec [] (edited already L rec) → T (allHold ts) → Goes c rec K
+  edit-goes c rec J K k d s ts already L e t =
+      let (x, w) = edited-done ts already L rec t (k .unwired) in
       let y : Accepted (S .does c rec .answer) = ap (λ (a : After). refusal (a .answer)) e ∙ x in (
         y,
         record {
@@ -49,16 +51,16 @@ module _ (S : Service) where
   mark-goes rec J r c m k w t u =
       let I : Job = jobOf rec in
       let d : Did (mark r c m) rec (S .does (mark r c m) rec) = S .did (mark r c m) rec w (k .kept .buffer) in
-      edit-goes (mark r c m) rec J (marked J r c m) k d refl (isPin I r c) (leb m 2) (eqb (I .mark r c) m) (marked I r c m)
-      (d .legal (k .kept .legal)) (subst (λ (X : Job). T (isPin X r c)) (sym (k .kept .job)) t) u
+      edit-goes (mark r c m) rec J (marked J r c m) k d refl (test (isPin I r c) 4 ∷ test (leb m 2) 5 ∷ []) (eqb (I .mark r c) m) (marked I r c m)
+      (d .legal (k .kept .legal)) (hold-both (isPin I r c) (leb m 2) (subst (λ (X : Job). T (isPin X r c)) (sym (k .kept .job)) t) u)
 
   close-goes : (rec : List ℕ) (J : Job) (r c v : ℕ) → Blank rec J → Lent (close r c v) → T (isTile J r c) → T (leb v 1)
       → Goes (close r c v) rec (closed J r c v)
   close-goes rec J r c v k w t u =
       let I : Job = jobOf rec in
       let d : Did (close r c v) rec (S .does (close r c v) rec) = S .did (close r c v) rec w (k .kept .buffer) in
-      edit-goes (close r c v) rec J (closed J r c v) k d refl (isTile I r c) (leb v 1) (eqb (I .state r c) v) (closed I r c v)
-      (d .legal (k .kept .legal)) (subst (λ (X : Job). T (isTile X r c)) (sym (k .kept .job)) t) u
+      edit-goes (close r c v) rec J (closed J r c v) k d refl (test (isTile I r c) 4 ∷ test (leb v 1) 5 ∷ []) (eqb (I .state r c) v) (closed I r c v)
+      (d .legal (k .kept .legal)) (hold-both (isTile I r c) (leb v 1) (subst (λ (X : Job). T (isTile X r c)) (sym (k .kept .job)) t) u)
 
   pub edits-blank : {J K : Job} {calls : List Call} → Edits J calls K → (rec : List ℕ) → Blank rec J → Blank (recAfter S calls rec) K
   edits-blank end rec k = k

@@ -3,11 +3,12 @@
 use mathlib.Core.Path.{_≡_, refl, sym, ap, ap₂, subst, _∙_}
 use mathlib.Core.Logic.{_≢_}
 use mathlib.Core.Bool.{Bool, true, false, not, _&&_}
-use mathlib.Core.List.{List, []}
+use mathlib.Core.List.{List, [], _∷_}
 use mathlib.Core.Option.{some}
 use Prim.Native.Nat.{ℕ, _≤_, _<_}
 use native.Mathlib.Omega.{arith}
-use lib.Dec.{T, eqb, leb, eqb→eq, leb→le, nleb→lt, le→leb}
+use borrow.Author.Tests.{le-leb}
+use lib.Dec.{T, eqb, leb, eqb→eq, leb→le, nleb→lt}
 use lib.ListN.{length}
 use Rattle.sums.specs.Tests.{and-left, and-right}
 use Rattle.model.specs.Job.{Job, arrayFits, capsAdmitted, fresh, marked, closed, put, isPin, isTile, isChosen, Proper}
@@ -16,9 +17,10 @@ use Rattle.model.specs.Wires.{partAt}
 use Rattle.model.specs.Text.{Verdict, reads, wrongAt, Reading, textOf}
 use Rattle.model.specs.Calls.{Call, new, mark, close, step, shortfall, part, readText, writeText}
 use Rattle.model.specs.Calls.{Answer, refused, done, lists, wrote, refusal, Accepted, After, after}
-use Rattle.model.specs.Calls.{edited, newly, markedBy, closedBy, listed, readIn, written, Stepped, adds, stays, lacking, Steps, Lacks, Did}
+use Rattle.model.specs.Calls.{Test, test, asked, edited, newly, markedBy, closedBy, listed, readIn, written, Stepped, adds, stays, lacking, Steps, Lacks, Did}
 use Rattle.model.specs.Run.{Buffer, Service, Sets}
 use Rattle.model.proofs.RecordOf.{length-record}
+use Rattle.model.proofs.Asked.{allHold, numbered, both-hold, asked-holds, asked-either}
 use Rattle.model.proofs.Over.{anew-legal, anew-job, legal-proper}
 use Rattle.model.proofs.TextProper.{fresh-proper, marked-proper, closed-proper, reading-proper}
 use Rattle.run.specs.Buffers.{over-buffer}
@@ -34,6 +36,13 @@ pub data Leaves (S : Service) (c : Call) (rec : List ℕ) (J : Job) (a : After) 
   accepts : (K : Job) → Accepted (a .answer) → Sets S c J K → Kept (a .rec) K → Leaves S c rec J a
   refuses : (k : ℕ) → refusal (a .answer) ≡ some k → k ≢ 1 → a .rec ≡ rec → Leaves S c rec J a
 
+-- a refusal by another number than 1
+abbrev notOne : ℕ → Bool
+notOne k = not (eqb k 1)
+
+refused-leaves : (S : Service) (c : Call) (rec : List ℕ) (J : Job) (output : List ℕ) (k : ℕ) → T (notOne k) → Leaves S c rec J (after (refused k) rec [] output)
+refused-leaves S c rec J output k t = refuses k refl (λ e. subst (λ (n : ℕ). T (notOne n)) e t) refl
+
 -- ---- the calls that begin anew, on any buffer that is long enough
 
 module _ (S : Service) (rec : List ℕ) (J : Job) (b : Buffer rec) (long : recordSize ≤ length rec) where
@@ -47,27 +56,16 @@ module _ (S : Service) (rec : List ℕ) (J : Job) (b : Buffer rec) (long : recor
 
   pub new-leaves : (rows columns O D E : ℕ) → Leaves S (new rows columns O D E) rec J (newly rows columns O D E rec)
   new-leaves rows columns O D E =
-      by (leb recordSize (length rec)) (arrayFits rows columns) (capsAdmitted O D E) (le→leb recordSize (length rec) long)
-      (fresh-proper rows columns O D E)
-    where
-      K : Job
-      K = fresh rows columns O D E
-
-      by : (x y z : Bool) → T x → (T y → T z → Proper K) → Leaves S (new rows columns O D E) rec J
-          (elim x as (λ w. After) [
-            | false ↦ after (refused 1) rec [] []
-            | true ↦ elim y as (λ w. After) [
-              | false ↦ after (refused 2) rec [] []
-              | true ↦ elim z as (λ w. After) [
-                | false ↦ after (refused 3) rec [] []
-                | true ↦ after done (over (unwiredRecord (fresh rows columns O D E)) rec) [] []
-              ]
-            ]
-          ])
-      by true true true t p = accepts K refl refl (anew K (p tt tt))
-      by true true false t p = refuses 3 refl (omega arith) refl
-      by true false z t p = refuses 2 refl (omega arith) refl
-      by false y z t p = absurd t
+      let K : Job = fresh rows columns O D E in
+      let made : After = after done (over (unwiredRecord K) rec) [] [] in
+      let ts : List Test = test (arrayFits rows columns) 2 ∷ test (capsAdmitted O D E) 3 ∷ [] in
+      subst (Leaves S (new rows columns O D E) rec J) (sym (asked-holds rec [] made (leb recordSize (length rec)) 1 ts (le-leb recordSize (length rec) long)))
+      (asked-either rec [] made (Leaves S (new rows columns O D E) rec J) notOne ts tt (refused-leaves S (new rows columns O D E) rec J [])
+      (λ t.
+      accepts K refl refl
+      (anew K
+      (fresh-proper rows columns O D E (and-left (arrayFits rows columns) (capsAdmitted O D E && true) t)
+      (and-left (capsAdmitted O D E) true (and-right (arrayFits rows columns) (capsAdmitted O D E && true) t))))))
 
   pub read-leaves : (text : List ℕ) (v : Verdict) → Reading text v → Leaves S (readText text) rec J (readIn v rec)
   read-leaves text (reads K) r = accepts K refl r (anew K (reading-proper text K r))
@@ -93,6 +91,7 @@ marked-same J r c m e =
       E = J .E;
       mark = λ x y. put-same (J .mark) r c m e x y i;
       state = J .state;
+      added = J .added;
     }
 
 closed-same : (J : Job) (r c v : ℕ) → J .state r c ≡ v → closed J r c v ≡ J
@@ -105,51 +104,46 @@ closed-same J r c v e =
       E = J .E;
       mark = J .mark;
       state = λ x y. put-same (J .state) r c v e x y i;
+      added = J .added;
     }
 
 module _ (S : Service) (rec : List ℕ) (J : Job) (k : Kept rec J) where
   -- K is the edited job
-  edit-leaves : (c : Call) (there known already : Bool) (K : Job) → (T there → T known → Proper K) → (T already → K ≡ J) → Sets S c J K
-      → Leaves S c rec J (edited there known already K rec)
-  edit-leaves c false known already K p q s = refuses 4 refl (omega arith) refl
-  edit-leaves c true false already K p q s = refuses 5 refl (omega arith) refl
-  edit-leaves c true true true K p q s = accepts J refl (subst (Sets S c J) (q tt) s) k
-  edit-leaves c true true false K p q s = accepts K refl s (anew S rec J (k .buffer) (k .legal .long) K (p tt tt))
+  edit-leaves : (c : Call) (ts : List Test) (already : Bool) (K : Job) → T (numbered notOne ts) → (T (allHold ts) → Proper K) → (T already → K ≡ J)
+      → Sets S c J K → Leaves S c rec J (asked ts rec [] (edited already K rec))
+  edit-leaves c ts already K n p q s =
+      asked-either rec [] (edited already K rec) (Leaves S c rec J) notOne ts n (refused-leaves S c rec J []) (λ t. by already q (p t))
+    where
+      by : (b : Bool) → (T b → K ≡ J) → Proper K → Leaves S c rec J (edited b K rec)
+      by true q p = accepts J refl (subst (Sets S c J) (q tt) s) k
+      by false q p = accepts K refl s (anew S rec J (k .buffer) (k .legal .long) K p)
 
   mark-leaves : (r c m : ℕ) → Leaves S (mark r c m) rec J (markedBy r c m rec)
   mark-leaves r c m =
       let I : Job = jobOf rec in
-      edit-leaves (mark r c m) (isPin I r c) (leb m 2) (eqb (I .mark r c) m) (marked I r c m)
-      (λ t u. marked-proper I r c m (legal-proper rec (k .legal)) t u)
+      edit-leaves (mark r c m) (test (isPin I r c) 4 ∷ test (leb m 2) 5 ∷ []) (eqb (I .mark r c) m) (marked I r c m) tt
+      (λ t. let (u, v) = both-hold (isPin I r c) (leb m 2) t in marked-proper I r c m (legal-proper rec (k .legal)) u v)
       (λ t. marked-same I r c m (eqb→eq (I .mark r c) m t) ∙ k .job)
       (ap (λ (X : Job). marked X r c m) (k .job))
 
   close-leaves : (r c v : ℕ) → Leaves S (close r c v) rec J (closedBy r c v rec)
   close-leaves r c v =
       let I : Job = jobOf rec in
-      edit-leaves (close r c v) (isTile I r c) (leb v 1) (eqb (I .state r c) v) (closed I r c v)
-      (λ t u. closed-proper I r c v (legal-proper rec (k .legal)) t u)
+      edit-leaves (close r c v) (test (isTile I r c) 4 ∷ test (leb v 1) 5 ∷ []) (eqb (I .state r c) v) (closed I r c v) tt
+      (λ t. let (u, w) = both-hold (isTile I r c) (leb v 1) t in closed-proper I r c v (legal-proper rec (k .legal)) u w)
       (λ t. closed-same I r c v (eqb→eq (I .state r c) v t) ∙ k .job)
       (ap (λ (X : Job). closed X r c v) (k .job))
 
   part-leaves : (r c i : ℕ) → Leaves S (part r c i) rec J (listed r c i rec)
-  part-leaves r c i = by (isChosen (jobOf rec) r c)
-    where
-      by : (b : Bool) → Leaves S (part r c i) rec J
-          (elim b as (λ x. After) [ false ↦ after (refused 4) rec [] [] | true ↦ after (lists (partAt (jobOf rec) (load rec) r c i)) rec [] [] ])
-      by false = refuses 4 refl (omega arith) refl
-      by true = accepts J refl refl k
+  part-leaves r c i =
+      asked-either rec [] (after (lists (partAt (jobOf rec) (load rec) r c i)) rec [] []) (Leaves S (part r c i) rec J) notOne
+      (test (isChosen (jobOf rec) r c) 4 ∷ []) tt (refused-leaves S (part r c i) rec J []) (λ t. accepts J refl refl k)
 
   write-leaves : (output : List ℕ) → Leaves S (writeText output) rec J (written output rec)
-  write-leaves output = by (leb (length text) (length output))
-    where
-      text : List ℕ
-      text = textOf (jobOf rec)
-
-      by : (b : Bool) → Leaves S (writeText output) rec J
-          (elim b as (λ x. After) [ false ↦ after (refused 7) rec [] output | true ↦ after (wrote (length text)) rec [] (over text output) ])
-      by false = refuses 7 refl (omega arith) refl
-      by true = accepts J refl refl k
+  write-leaves output =
+      let text : List ℕ = textOf (jobOf rec) in
+      asked-either rec output (after (wrote (length text)) rec [] (over text output)) (Leaves S (writeText output) rec J) notOne
+      (test (leb (length text) (length output)) 7 ∷ []) tt (refused-leaves S (writeText output) rec J output) (λ t. accepts J refl refl k)
 
   -- an accepted call that leaves the record
   stays-kept : {rec′ : List ℕ} → rec′ ≡ rec → Kept rec′ J

@@ -7,15 +7,17 @@ use mathlib.Core.List.{List, [], _∷_}
 use mathlib.Core.Option.{Option, none, some}
 use Prim.Native.Nat.{ℕ, _≤_, _<_}
 use native.Mathlib.Omega.{arith}
+use borrow.Author.Tests.{lt-leb}
 use lib.Dec.{T, leb, leb→le, nleb→lt}
 use lib.ListN.{length}
 use Rattle.sums.specs.Entries.{none-some, some-one}
-use Rattle.model.specs.Job.{Job, fresh}
-use Rattle.model.specs.Record.{recordSize}
+use Rattle.model.specs.Job.{Job, arrayFits, capsAdmitted, fresh}
+use Rattle.model.specs.Record.{recordSize, unwiredRecord, over}
 use Rattle.model.specs.Text.{reads, Reading}
 use Rattle.model.specs.Calls.{Call, new, mark, close, step, shortfall, part, readText, writeText}
-use Rattle.model.specs.Calls.{Answer, refused, refusal, Accepted, After, after, newly, ReadIn}
+use Rattle.model.specs.Calls.{Answer, refused, done, refusal, Accepted, After, after, test, newly, ReadIn}
 use Rattle.model.specs.Run.{Buffer, Service, Sets, Becomes, Lent, Starts, byNew, byText, Follows, NeverOne}
+use Rattle.model.proofs.Asked.{asked-fails}
 use Rattle.model.proofs.TextUnique.{reads-unique}
 use Rattle.run.specs.Invariant.{Kept, Leaves, accepts, refuses, new-leaves, read-leaves, call-leaves}
 
@@ -66,12 +68,9 @@ module _ (S : Service) where
       by false f h = absurd (none-some 1 (sym x ∙ ap (λ (y : After). refusal (y .answer)) (brief (h tt))))
 
   newly-brief : (rows columns O D E : ℕ) (rec : List ℕ) → length rec < recordSize → newly rows columns O D E rec ≡ after (refused 1) rec [] []
-  newly-brief rows columns O D E rec l = by (leb recordSize (length rec)) _ (λ t. omega (arith, leb→le recordSize (length rec) t))
-    where
-      by : (b : Bool) (x : After) → (T b → ⊥)
-          → elim b as (λ w. After) [ false ↦ after (refused 1) rec [] [] | true ↦ x ] ≡ after (refused 1) rec [] []
-      by true x n = absurd (n tt)
-      by false x n = refl
+  newly-brief rows columns O D E rec l =
+      asked-fails rec [] (after done (over (unwiredRecord (fresh rows columns O D E)) rec) [] []) (leb recordSize (length rec)) 1
+      (test (arrayFits rows columns) 2 ∷ test (capsAdmitted O D E) 3 ∷ []) (lt-leb recordSize (length rec) l)
 
   new-kept : (before : List ℕ) (rows columns O D E : ℕ) (a : After) → Buffer before → a ≡ newly rows columns O D E before → Accepted (a .answer)
       → Kept (a .rec) (fresh rows columns O D E)

@@ -11,7 +11,7 @@ use lib.Dec.{T}
 use lib.ListN.{length, getD, set, take, drop, take-append-drop, drop-of-length-le}
 use lib.Seq.{length-take-le, take-all, drop-cons, append-snoc, set-at, getD-take}
 use Rattle.sums.specs.Sums.{when-cong}
-use Rattle.model.specs.Job.{Job, arrayFits, capsFit, isPin, isTile}
+use Rattle.model.specs.Job.{Job, arrayFits, capsFit, isPin, isTile, AddedFits}
 use Rattle.model.specs.Links.{Step}
 use Rattle.model.specs.Loads.{Feasible, Sound}
 use Rattle.model.specs.Record.{recordSize, offset, loadPlane, cell, jobOf, load, Legal, over}
@@ -101,6 +101,7 @@ module _ (rec : List ℕ) (legal : Legal rec) where
             caps = to (λ K. T (capsFit (K .O) (K .D) (K .E))) (legal .values .caps);
             marks = to (λ K. (r c : ℕ) → K .mark r c ≤ 2) (legal .values .marks);
             states = to (λ K. (r c : ℕ) → K .state r c ≤ 1) (legal .values .states);
+            added = to AddedFits (legal .values .added);
             loads = bytes;
           };
           sound = to (λ K. Sound K (load new)) sound;
@@ -108,7 +109,6 @@ module _ (rec : List ℕ) (legal : Legal rec) where
             header = λ i a b. kept .front i (omega arith) ∙ getD-take recordSize rec i 0 (omega arith) ∙ legal .unused .header i a b;
             marks = to (λ K. (r c : ℕ) → T (not (isPin K r c)) → K .mark r c ≡ 0) (legal .unused .marks);
             states = to (λ K. (r c : ℕ) → T (not (isTile K r c)) → K .state r c ≡ 0) (legal .unused .states);
-            reserve = λ i a b. kept .rest i a ∙ getD-take recordSize rec i 0 b ∙ legal .unused .reserve i a b;
           };
         })
       where

@@ -2,10 +2,10 @@
 -- Assumes nothing.
 use mathlib.Core.Path.{_≡_, sym, subst}
 use mathlib.Core.Bool.{Bool, true, false, not}
-use mathlib.Core.List.{List, []}
+use mathlib.Core.List.{List, [], _∷_}
 use Prim.Native.Nat.{ℕ, _-_, _^_, _≤_, _<_}
 use native.Mathlib.Omega.{arith}
-use lib.Dec.{T, eqb, leb, leb→le, nleb→lt, ltb→lt, lt→ltb}
+use lib.Dec.{T, eqb, leb, ltb, leb→le, nleb→lt, ltb→lt, lt→ltb}
 use lib.ListN.{length}
 use Rattle.sums.specs.Counting.{when}
 use Rattle.sums.specs.Totals.{total-le, length-total}
@@ -16,7 +16,8 @@ use Rattle.model.specs.Record.{recordSize, scratchSize, jobOf, load, Legal, unw
 use Rattle.model.specs.Wires.{Part, partAt}
 use Rattle.model.specs.Text.{Verdict, reads, wrongAt, Reading, textOf}
 use Rattle.model.specs.Calls.{Call, new, mark, close, step, shortfall, part, readText, writeText, Answer, refused, wrongText, done, lacks, lists, wrote}
-use Rattle.model.specs.Calls.{After, after, edited, newly, listed, readIn, written, Stepped, adds, stays, lacking, On, Steps, Lacks, ReadIn, Did}
+use Rattle.model.specs.Calls.{After, after, Test, test, asked, edited, newly, listed, readIn, written, Stepped, adds, stays, lacking, On, Steps, Lacks, ReadIn, Did}
+use Rattle.model.proofs.Asked.{allHold, numbered, asked-either}
 use Rattle.model.proofs.Over.{legal-proper}
 use Rattle.wire.specs.Places.{when-drop}
 use Rattle.wire.specs.Lengths.{places-few}
@@ -39,11 +40,19 @@ as-fits e t = subst Fits (sym e) t
 on-fits : {P : Type 0} (rec scratch output : List ℕ) (a : After) → On rec scratch output a P → (Legal rec → P → Fits a) → Fits a
 on-fits rec scratch output a d h = stable (fits (a .answer)) (λ n. n (as-fits (d .damaged (λ g. n (h g (d .legal g)))) tt))
 
-edited-fits : (there known already : Bool) (K : Job) (rec : List ℕ) → Fits (edited there known already K rec)
-edited-fits false known already K rec = tt
-edited-fits true false already K rec = tt
-edited-fits true true true K rec = tt
-edited-fits true true false K rec = tt
+-- a refusal by a number below 256, or what an accepted call leaves
+abbrev small : ℕ → Bool
+small k = ltb k 256
+
+asked-fits : (ts : List Test) (rec output : List ℕ) (a : After) → T (numbered small ts) → (T (allHold ts) → Fits a) → Fits (asked ts rec output a)
+asked-fits ts rec output a n f = asked-either rec output a Fits small ts n by f
+  where
+    by : (k : ℕ) → T (small k) → Fits (after (refused k) rec [] output)
+    by k t = lt→ltb (word (refused k)) (2 ^ 64) (omega (arith, ltb→lt k 256 t))
+
+edited-fits : (already : Bool) (K : Job) (rec : List ℕ) → Fits (edited already K rec)
+edited-fits true K rec = tt
+edited-fits false K rec = tt
 
 stepped-fits : {rec rec′ : List ℕ} {x : Answer} → Stepped rec x rec′ → T (fits x)
 stepped-fits (adds o) = tt
@@ -83,14 +92,10 @@ lacks-fits scratch output rec g a d =
     number n = lt→ltb (word (lacks (chosenCount (jobOf rec) - n))) (2 ^ 64) (omega (arith, chosen-few rec g))
 
 listed-fits : (rec : List ℕ) → Legal rec → (r c i : ℕ) → Fits (listed r c i rec)
-listed-fits rec g r c i = by (isChosen (jobOf rec) r c)
-  where
-    p : Part
-    p = partAt (jobOf rec) (load rec) r c i
-
-    by : (b : Bool) → Fits (elim b as (λ x. After) [ false ↦ after (refused 4) rec [] [] | true ↦ after (lists p) rec [] [] ])
-    by false = tt
-    by true = lt→ltb (word (lists p)) (2 ^ 64) (omega (arith, part-small rec g r c i))
+listed-fits rec g r c i =
+    let p : Part = partAt (jobOf rec) (load rec) r c i in
+    asked-fits (test (isChosen (jobOf rec) r c) 4 ∷ []) rec [] (after (lists p) rec [] []) tt
+    (λ t. lt→ltb (word (lists p)) (2 ^ 64) (omega (arith, part-small rec g r c i)))
 
 read-fits : (text rec : List ℕ) (a : After) → ReadIn text rec a → Fits a
 read-fits text rec a d = by-size recordSize (length rec) (λ l. as-fits (d .brief l) tt) (λ l. let (v, r, e) = d .long l in as-fits e (by v r))
@@ -100,42 +105,30 @@ read-fits text rec a d = by-size recordSize (length rec) (λ l. as-fits (d .brie
     by (wrongAt o) r = lt→ltb (word (wrongText o)) (2 ^ 64) (omega (arith, reading-within text (wrongAt o) r))
 
 written-fits : (output rec : List ℕ) → Legal rec → Fits (written output rec)
-written-fits output rec g = by (leb (length (textOf (jobOf rec))) (length output))
-  where
-    n : ℕ
-    n = length (textOf (jobOf rec))
-
-    by : (b : Bool) → Fits (elim b as (λ x. After) [ false ↦ after (refused 7) rec [] output | true ↦ after (wrote n) rec [] (over (textOf (jobOf rec)) output) ])
-    by false = tt
-    by true = lt→ltb (word (wrote n)) (2 ^ 64) (omega (arith, text-short (jobOf rec) (legal-proper rec g)))
+written-fits output rec g =
+    let text : List ℕ = textOf (jobOf rec) in
+    asked-fits (test (leb (length text) (length output)) 7 ∷ []) rec output (after (wrote (length text)) rec [] (over text output)) tt
+    (λ t. lt→ltb (word (wrote (length text))) (2 ^ 64) (omega (arith, text-short (jobOf rec) (legal-proper rec g))))
 
 newly-fits : (rows columns O D E : ℕ) (rec : List ℕ) → Fits (newly rows columns O D E rec)
-newly-fits rows columns O D E rec = by (leb recordSize (length rec)) (arrayFits rows columns) (capsAdmitted O D E)
-  where
-    by : (x y z : Bool) → Fits
-        (elim x as (λ w. After) [
-          | false ↦ after (refused 1) rec [] []
-          | true ↦ elim y as (λ w. After) [
-            | false ↦ after (refused 2) rec [] []
-            | true ↦ elim z as (λ w. After) [
-              | false ↦ after (refused 3) rec [] []
-              | true ↦ after done (over (unwiredRecord (fresh rows columns O D E)) rec) [] []
-            ]
-          ]
-        ])
-    by true true true = tt
-    by true true false = tt
-    by true false z = tt
-    by false y z = tt
+newly-fits rows columns O D E rec =
+    asked-fits (test (leb recordSize (length rec)) 1 ∷ test (arrayFits rows columns) 2 ∷ test (capsAdmitted O D E) 3 ∷ []) rec []
+    (after done (over (unwiredRecord (fresh rows columns O D E)) rec) [] []) tt (λ t. tt)
 
 -- ---- every operation
 
 did-fits : (c : Call) (rec : List ℕ) (a : After) → Did c rec a → Fits a
 did-fits (new rows columns O D E) rec a d = as-fits d (newly-fits rows columns O D E rec)
 did-fits (mark r c m) rec a d =
-    on-fits rec [] [] a d (λ g e. as-fits e (edited-fits (isPin (jobOf rec) r c) (leb m 2) (eqb (jobOf rec .mark r c) m) (marked (jobOf rec) r c m) rec))
+    let J : Job = jobOf rec in
+    let leaves : After = edited (eqb (J .mark r c) m) (marked J r c m) rec in
+    on-fits rec [] [] a d
+    (λ g e. as-fits e (asked-fits (test (isPin J r c) 4 ∷ test (leb m 2) 5 ∷ []) rec [] leaves tt (λ t. edited-fits (eqb (J .mark r c) m) (marked J r c m) rec)))
 did-fits (close r c v) rec a d =
-    on-fits rec [] [] a d (λ g e. as-fits e (edited-fits (isTile (jobOf rec) r c) (leb v 1) (eqb (jobOf rec .state r c) v) (closed (jobOf rec) r c v) rec))
+    let J : Job = jobOf rec in
+    let leaves : After = edited (eqb (J .state r c) v) (closed J r c v) rec in
+    on-fits rec [] [] a d
+    (λ g e. as-fits e (asked-fits (test (isTile J r c) 4 ∷ test (leb v 1) 5 ∷ []) rec [] leaves tt (λ t. edited-fits (eqb (J .state r c) v) (closed J r c v) rec)))
 did-fits (step scratch) rec a d = on-fits rec scratch [] a d (λ g s. step-fits scratch rec a s)
 did-fits (shortfall scratch output) rec a d = on-fits rec scratch output a d (λ g s. lacks-fits scratch output rec g a s)
 did-fits (part r c i) rec a d = on-fits rec [] [] a d (λ g e. as-fits e (listed-fits rec g r c i))

@@ -3,7 +3,7 @@ ghost use mathlib.Core.Path.{_≡_};
 ghost use Prim.Native.Nat.{_^_, _<_};
 ghost use Rattle.channel.specs.Map.Entered.{kindAt};
 ghost use Rattle.wire.specs.Hops.{asPart};
-ghost use Rattle.service.specs.Answers.{asAnswer};
+ghost use Rattle.answers.specs.Answers.{asAnswer};
 ghost use Rattle.talusdish.specs.Words.{placeNumber, number, partNumber, value, code, word};
 use service::Answer;
 use wire::Part;

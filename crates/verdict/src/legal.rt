@@ -81,17 +81,6 @@ fn load_fits(rec: &[u8], i: usize) -> bool {
         || (exists(rec, i) && amount(load(rec, i)) <= limit(rec, i) && goes_right(rec, i))
 }
 
-fn loads_fit(rec: &[u8]) -> bool {
-    let mut i = 0;
-    while i < 24000 {
-        if !load_fits(rec, i) {
-            return false;
-        }
-        i += 1;
-    }
-    true
-}
-
 fn in_range(x: usize, least: usize, most: usize) -> bool {
     x >= least && x <= most
 }
@@ -124,10 +113,20 @@ fn cell_fits(rec: &[u8], p: usize) -> bool {
     mark(rec, p) <= most_mark && state(rec, p) <= most_state
 }
 
-fn cells_fit(rec: &[u8]) -> bool {
+// The load byte p is in order, or the cell p.
+fn fits(rec: &[u8], loads: bool, p: usize) -> bool {
+    if loads {
+        load_fits(rec, p)
+    } else {
+        cell_fits(rec, p)
+    }
+}
+
+// The first n of them are.
+fn all_fit(rec: &[u8], loads: bool, n: usize) -> bool {
     let mut p = 0;
-    while p < 1600 {
-        if !cell_fits(rec, p) {
+    while p < n {
+        if !fits(rec, loads, p) {
             return false;
         }
         p += 1;
@@ -256,8 +255,8 @@ fn loops(rec: &[u8]) -> bool {
 pub fn is_legal(rec: &[u8]) -> bool {
     rec.len() >= 32768
         && header_fits(rec)
-        && cells_fit(rec)
-        && loads_fit(rec)
+        && all_fit(rec, false, 1600)
+        && all_fit(rec, true, 24000)
         && places_even(rec)
         && !loops(rec)
 }

@@ -14,7 +14,7 @@ use Rattle.sums.specs.Counting.{when, total}
 use Rattle.sums.specs.Tests.{and-left, and-right}
 use Rattle.sums.specs.Sums.{when-so}
 use Rattle.sums.specs.Totals.{total-has}
-use Rattle.model.specs.Job.{Job, inRange}
+use Rattle.model.specs.Job.{Job, inRange, tileD}
 use Rattle.model.specs.Links.{pin, Place, at, theOutside, samePlace, isPlace, LinkKind, northSide, westSide, link, Step, go, come, head}
 use Rattle.model.specs.Route.{Route, uses, visits, begun, Together}
 use Rattle.model.specs.Record.{loadPlane, jobOf, forthPart, backPart, load, Legal, planeByte, recordOf}
@@ -126,7 +126,7 @@ module _ (rec : List ℕ) (legal : Legal rec) where
   length-within = length-bound J wires wires-together
 
   -- "Each diagonal of a tile is crossed at most D times."
-  pub diagonals-within : (g : Diagonal) (r c : ℕ) → total wires (λ p. crossings J g r c (p .steps)) ≤ J .D
+  pub diagonals-within : (g : Diagonal) (r c : ℕ) → total wires (λ p. crossings J g r c (p .steps)) ≤ tileD J r c
   diagonals-within g r c =
       let t = and-right (inRange 1 8 (J .O)) (inRange (J .O) (2 * J .O) (J .D) && inRange 0 16 (J .E)) (legal .values .caps) in
       let u = and-left (inRange (J .O) (2 * J .O) (J .D)) (inRange 0 16 (J .E)) t in

@@ -10,7 +10,7 @@ use Rattle.sums.specs.Counting.{when, sum, total, count}
 use Rattle.sums.specs.Tests.{so, and-left, and-right, each-has, those-has}
 use Rattle.sums.specs.Sums.{when-add, when-so, when-le, sum-le}
 use Rattle.sums.specs.Totals.{total-add, total-le, total-has, total-each, total-those}
-use Rattle.model.specs.Job.{Job, isTile, isOpen}
+use Rattle.model.specs.Job.{Job, northLimit, westLimit, extraLimit, isTile, isOpen}
 use Rattle.model.specs.Links.{Compass, north, west, compassCode, PlaceKind, pin, missing, centre, outside, nowhere, side, Place, at, isPlace, places, isMissingKind, samePlace, LinkKind, northSide, westSide, corner, spoke, leg, direct, Link, link, sameLink, behindOf, aheadOf, limitOf, limit, pass, Step, head, isEntered, may}
 use Rattle.model.specs.Route.{Chain, Route, uses, visits, Together}
 use Rattle.model.specs.Near.{size}
@@ -170,8 +170,8 @@ module _ (J : Job) where
     pair-fits r c =
         omega (
           arith,
-          when-le (isLink J (link northSide r c)) _ _ (λ t. F .links (link northSide r c) (J .O) refl),
-          when-le (isLink J (link westSide r c)) _ _ (λ t. F .links (link westSide r c) (J .O) refl),
+          when-le (isLink J (link northSide r c)) _ _ (λ t. F .links (link northSide r c) (northLimit J r c) refl),
+          when-le (isLink J (link westSide r c)) _ _ (λ t. F .links (link westSide r c) (westLimit J r c) refl),
         )
 
     sides-fit : total (sides J) (λ l. total rs (λ p. uses l (p .steps))) ≤ total (sides J) (λ l. size (limit J l))
@@ -181,7 +181,7 @@ module _ (J : Job) where
 
     missing-fits : (k : PlaceKind) (r c : ℕ) → T (isMissingKind (at k r c)) → total rs (λ p. visits J (at k r c) (p .steps)) ≤ size (pass J (at k r c))
     missing-fits pin r c t = absurd t
-    missing-fits missing r c t = F .passing (at missing r c) (J .E) refl
+    missing-fits missing r c t = F .passing (at missing r c) (extraLimit J) refl
     missing-fits centre r c t = absurd t
     missing-fits outside r c t = absurd t
     missing-fits nowhere r c t = absurd t

@@ -10,7 +10,7 @@ use lib.Dec.{T, eqb, ltb, eqb-refl}
 use lib.ListN.{length, drop, length-drop}
 use lib.Seq.{ext-getD, getD-drop}
 use Rattle.sums.specs.Tests.{and-both}
-use Rattle.model.specs.Job.{Job, arrayFits, capsFit, isPin, isTile, isChosen}
+use Rattle.model.specs.Job.{Job, arrayFits, capsFit, isPin, isTile, isChosen, AddedFits}
 use Rattle.model.specs.Links.{pin, at, Step}
 use Rattle.model.specs.Near.{exitOf, exit, Smallest}
 use Rattle.model.specs.Loads.{departures, Feasible, Sound}
@@ -51,6 +51,7 @@ module _ (rec : List ℕ) (g : Legal rec) where
             caps = to (λ K. T (capsFit (K .O) (K .D) (K .E))) (g .values .caps);
             marks = to (λ K. (r c : ℕ) → K .mark r c ≤ 2) (g .values .marks);
             states = to (λ K. (r c : ℕ) → K .state r c ≤ 1) (g .values .states);
+            added = to AddedFits (g .values .added);
             loads = bytes;
           };
           sound = to (λ K. Sound K (load rec′)) (record { feasible = feasible; loops = free });
@@ -58,7 +59,6 @@ module _ (rec : List ℕ) (g : Legal rec) where
             header = λ i a b. k .front i (omega arith) ∙ g .unused .header i a b;
             marks = to (λ K. (r c : ℕ) → T (not (isPin K r c)) → K .mark r c ≡ 0) (g .unused .marks);
             states = to (λ K. (r c : ℕ) → T (not (isTile K r c)) → K .state r c ≡ 0) (g .unused .states);
-            reserve = λ i a b. k .rest i a ∙ g .unused .reserve i a b;
           };
         }
       where

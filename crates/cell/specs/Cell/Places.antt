@@ -8,7 +8,7 @@ use Prim.Native.Nat.{ℕ, suc, _≤_, _<_}
 use native.Mathlib.Omega.{arith}
 use lib.Dec.{T, eqb, leb, ltb, leb→le, le→leb, ltb→lt, eqb→eq, eqb-refl}
 use Rattle.sums.specs.Tests.{and-left, and-right, and-both, if-so}
-use Rattle.model.specs.Job.{Job, arrayFits, isPin, isTile, isOpen, isChosen, isMissing, centreLimit}
+use Rattle.model.specs.Job.{Job, arrayFits, isPin, isTile, isOpen, isChosen, isMissing, centreLimit, tileD, extraLimit}
 use Rattle.model.specs.Links.{Compass, PlaceKind, pin, missing, centre, outside, nowhere, side, Place, at, holds, isPlace, enters, isEntered, passOf, pass}
 use Rattle.model.specs.Loads.{arrivals, departures}
 use Rattle.model.specs.Record.{jobOf, load}
@@ -74,7 +74,7 @@ module _ (rec : List ℕ) where
         (if-so (isOpen J r c) (allFour (λ d. evenAt rec (at (side d) r c)))
         (and-left (tileEven rec r c) (centreEven rec r c && pinsEven rec r c) (t r c a b)) o)
 
-    centre-part : (r c : ℕ) → T (isOpen J r c) → T (passesAt rec (at centre r c) (centreLimit (J .O) (J .D)))
+    centre-part : (r c : ℕ) → T (isOpen J r c) → T (passesAt rec (at centre r c) (centreLimit (J .O) (tileD J r c)))
     unfolding centreEven
     centre-part r c o =
         let (a, b) = open-in r c o in
@@ -90,7 +90,7 @@ module _ (rec : List ℕ) where
         let (a, b) = pin-in r c (eqb (J .mark r c) 1) u in
         if-so (isChosen J r c) _ (and-left (startsOne rec r c) (missingEven rec r c) (pins-part r c a b)) u
 
-    missing-part : (r c : ℕ) → T (isMissing J r c) → T (passesAt rec (at missing r c) (J .E))
+    missing-part : (r c : ℕ) → T (isMissing J r c) → T (passesAt rec (at missing r c) (extraLimit J))
     unfolding missingEven isMissing
     missing-part r c u =
         let (a, b) = pin-in r c (eqb (J .mark r c) 2) u in
@@ -99,19 +99,19 @@ module _ (rec : List ℕ) where
     passing-tested : (k : PlaceKind) (r c n : ℕ) → T (holds J k r c) → passOf J k r c ≡ some n → arrivals (load rec) (at k r c) ≤ n
     passing-tested pin r c n u e = let z : _≡_ {A = ℕ} 0 1 = cc in absurd (omega arith)
     passing-tested missing r c n u e =
-        let m : J .E ≡ n = cc in
-        subst (λ (x : ℕ). arrivals (load rec) (at missing r c) ≤ x) m (passes-most (at missing r c) (J .E) (missing-part r c u))
+        let m : extraLimit J ≡ n = cc in
+        subst (λ (x : ℕ). arrivals (load rec) (at missing r c) ≤ x) m (passes-most (at missing r c) (extraLimit J) (missing-part r c u))
     passing-tested centre r c n u e =
-        let m : centreLimit (J .O) (J .D) ≡ n = cc in
-        subst (λ (x : ℕ). arrivals (load rec) (at centre r c) ≤ x) m (passes-most (at centre r c) (centreLimit (J .O) (J .D)) (centre-part r c u))
+        let m : centreLimit (J .O) (tileD J r c) ≡ n = cc in
+        subst (λ (x : ℕ). arrivals (load rec) (at centre r c) ≤ x) m (passes-most (at centre r c) (centreLimit (J .O) (tileD J r c)) (centre-part r c u))
     passing-tested outside r c n u e = absurd u
     passing-tested nowhere r c n u e = absurd u
     passing-tested (side d) r c n u e = let z : _≡_ {A = ℕ} 0 1 = cc in absurd (omega arith)
 
     balance-tested : (k : PlaceKind) (r c : ℕ) → T (holds J k r c) → T (enters J k r c) → arrivals (load rec) (at k r c) ≡ departures (load rec) (at k r c)
     balance-tested pin r c u v = absurd v
-    balance-tested missing r c u v = passes-even (at missing r c) (J .E) (missing-part r c u)
-    balance-tested centre r c u v = passes-even (at centre r c) (centreLimit (J .O) (J .D)) (centre-part r c u)
+    balance-tested missing r c u v = passes-even (at missing r c) (extraLimit J) (missing-part r c u)
+    balance-tested centre r c u v = passes-even (at centre r c) (centreLimit (J .O) (tileD J r c)) (centre-part r c u)
     balance-tested outside r c u v = absurd u
     balance-tested nowhere r c u v = absurd u
     balance-tested (side d) r c u v = even-eq (at (side d) r c) (tile-part r c u d)
@@ -144,7 +144,7 @@ module _ (rec : List ℕ) where
         and-both (tileEven rec r c) (centreEven rec r c && pinsEven rec r c)
         (so-if (isOpen J r c) _ (λ u. four-all (λ d. evenAt rec (at (side d) r c)) (λ d. even-pass (at (side d) r c) u u)))
         (and-both (centreEven rec r c) (pinsEven rec r c)
-        (so-if (isOpen J r c) _ (λ u. limit-pass (at centre r c) (centreLimit (J .O) (J .D)) u u refl))
+        (so-if (isOpen J r c) _ (λ u. limit-pass (at centre r c) (centreLimit (J .O) (tileD J r c)) u u refl))
         (and-both (startsOne rec r c) (missingEven rec r c)
         (so-if (isChosen J r c) _ (λ u. le→leb _ _ (even .starts r c u)))
-        (so-if (isMissing J r c) _ (λ u. limit-pass (at missing r c) (J .E) u u refl))))
+        (so-if (isMissing J r c) _ (λ u. limit-pass (at missing r c) (extraLimit J) u u refl))))

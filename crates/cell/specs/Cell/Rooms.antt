@@ -8,10 +8,12 @@ use mathlib.Core.Option.{none, some}
 use Prim.Native.Nat.{ℕ, _+_, _/_}
 use borrow.Author.Tests.{eq-eqb, ne-eqb}
 use lib.Dec.{eqb, leb, ltb}
+use lib.ListN.{getD}
 use Rattle.sums.specs.Counting.{when}
 use Rattle.model.specs.Job.{Job, isOpen}
 use Rattle.model.specs.Links.{Compass, north, east, south, west, isPlace, northSide, westSide, corner, spoke, leg, direct, go, come, aheadOf, limitOf, may}
-use Rattle.model.specs.Record.{cell, jobOf}
+use Rattle.model.specs.Near.{size}
+use Rattle.model.specs.Record.{kinds, cell, jobOf}
 use Rattle.channel.specs.Map.Ways.{by-corner, by-spoke, within-may, leg-come, leg-go, direct-come}
 use Rattle.cell.specs.Cell.{allFour, fits, most, room, leaving, linkFits, sidesFit, cornersFit, spokesFit, legsFit, linksFit, fourFit}
 
@@ -77,9 +79,13 @@ module _ (rec : List ℕ) (r c : ℕ) where
   unfolding linksFit
   links-are = refl
 
+  -- how many wires its north side takes, and its west side
+  abbrev takes : ℕ → ℕ
+  takes k = size (limitOf J (getD kinds k northSide) r c)
+
   pub sides-are : sidesFit rec r c
-      ≡ (fits (cell rec 2 r c) (when (may J (go northSide r c)) (J .O)) (when (may J (come northSide r c)) (J .O))
-      && fits (cell rec 3 r c) (when (may J (go westSide r c)) (J .O)) (when (may J (come westSide r c)) (J .O)))
+      ≡ (fits (cell rec 2 r c) (when (may J (go northSide r c)) (takes 0)) (when (may J (come northSide r c)) (takes 0))
+      && fits (cell rec 3 r c) (when (may J (go westSide r c)) (takes 1)) (when (may J (come westSide r c)) (takes 1)))
   unfolding sidesFit linkFits room most limitOf
   sides-are = refl
 

@@ -8,7 +8,7 @@ use native.Mathlib.Numerals.{add-one}
 use lib.Dec.{T, eqb, leb}
 use Rattle.sums.specs.Counting.{total}
 use Rattle.sums.specs.Tests.{eqb-iff, so}
-use Rattle.model.specs.Job.{Job, arrayFits, centreLimit, isPin, isChosen, isMissing}
+use Rattle.model.specs.Job.{Job, arrayFits, centreLimit, tileD, extraLimit, isPin, isChosen, isMissing}
 use Rattle.model.specs.Links.{north, east, south, west, pin, missing, centre, side, at}
 use Rattle.model.specs.Loads.{arrivals, departures}
 use Rattle.model.specs.Record.{cell, jobOf, forthPart, backPart, load}
@@ -104,12 +104,12 @@ module _ (rec : List ℕ) (x : ℕ) (l : 41 ≤ x) (h : x < 1641) where
 
   module _ (o : Bool) (e : o ≡ openIn J x) where
     pub centre-read : (i u k : ℕ) → i ≡ arrivals (load rec) (at centre r c) → u ≡ departures (load rec) (at centre r c)
-        → k ≡ centreLimit (J .O) (J .D) → (not o || (eqb i u && leb i k)) ≡ centreEven rec r c
+        → k ≡ centreLimit (J .O) (tileD J r c) → (not o || (eqb i u && leb i k)) ≡ centreEven rec r c
     unfolding centreEven passesAt evenAt
     centre-read i u k p q f = rw (e, own-open J x l h, p, q, f) refl
 
 pub pins-read : (rec : List ℕ) (r c m i u v k : ℕ) (o : Bool) → o ≡ isPin (jobOf rec) r c → m ≡ cell rec 0 r c → i ≡ arrivals (load rec) (at missing r c)
-    → u ≡ departures (load rec) (at missing r c) → v ≡ departures (load rec) (at pin r c) → k ≡ jobOf rec .E
+    → u ≡ departures (load rec) (at missing r c) → v ≡ departures (load rec) (at pin r c) → k ≡ extraLimit (jobOf rec)
     → ((not (o && eqb m 1) || leb v 1) && (not (o && eqb m 2) || (eqb i u && leb i k))) ≡ pinsEven rec r c
 unfolding pinsEven startsOne missingEven passesAt evenAt isChosen isMissing jobOf
 pins-read rec r c m i u v k o e f g p q z = rw (e, f, g, p, q, z) refl

@@ -4,23 +4,23 @@ use mathlib.Core.Logic.{_≢_, _⊎_, inl, inr}
 use mathlib.Core.Bool.{Bool, true, false, not, _&&_, _||_}
 use mathlib.Core.List.{List, [], _∷_}
 use mathlib.Core.Option.{Option, none, some}
-use Prim.Native.Nat.{ℕ, _-_, _/_, _%_, _≤_, _<_}
+use Prim.Native.Nat.{ℕ, zero, suc, _+_, _-_, _/_, _%_, _≤_, _<_}
 use native.Mathlib.Omega.{arith}
 use borrow.Author.Tests.{eq-eqb, ne-eqb, eqb-true}
-use lib.Dec.{T, eqb, eqb→eq}
+use lib.Dec.{T, eqb, eqb→eq, ltb, ltb→lt}
 use lib.ListN.{getD}
 use Rattle.sums.specs.Counting.{when}
-use Rattle.sums.specs.Tests.{so, so-not, and-both, if-so, below, below-at}
-use Rattle.model.specs.Job.{Job, isOpen, isMissing, centreLimit}
+use Rattle.sums.specs.Tests.{so, so-not, and-left, and-both, if-so, below, below-at}
+use Rattle.model.specs.Job.{Job, isOpen, isMissing, centreLimit, tileD, extraLimit}
 use Rattle.model.specs.Links.{Place, isPlace, LinkKind, northSide, westSide, corner, spoke, leg, direct, link, go, aheadOf, limitOf, limit, pass, may}
 use Rattle.model.specs.Near.{size}
 use Rattle.model.specs.Record.{kinds}
-use Rattle.channel.specs.Map.{links, signs, codes, kindOf, signOf, codeOf, mayTake, reaches, ownerMark}
+use Rattle.channel.specs.Map.{links, signs, codes, kindOf, ownerOf, signOf, codeOf, mayTake, reaches, ownerMark}
 use Rattle.channel.specs.Map.{inGrid, rowOf, columnOf, ownerCell, stepOf, carries, isPassage, isLinkDart, isPassDart, passedOf, isNone, cap, free}
 use Rattle.channel.specs.Map.Bools.{and-true, and-false}
 use Rattle.channel.specs.Map.Bounds.{code-bound}
-use Rattle.channel.specs.Map.Grid.{none-at, test-at}
-use Rattle.channel.specs.Map.Bytes.{carries-no-pass, passed-centre, passed-missing}
+use Rattle.channel.specs.Map.Grid.{none-at, test-at, grid-bounds}
+use Rattle.channel.specs.Map.Bytes.{owner-is, carries-no-pass, passed-centre, passed-missing}
 use Rattle.channel.specs.Map.Codes.{own-cell, leg-sign, Which, one, two, three, four, five, six, seven, eight, fifteen, rest, which}
 use Rattle.channel.specs.Map.Ways.{Within, by-corner, by-spoke, within-may, leg-come, leg-go, direct-come}
 
@@ -60,12 +60,19 @@ within k s e t = by k (subst (λ (x : ℕ). T (eqb x 2 || eqb x 3)) (sym e) t)
     by (leg d) t = absurd t
     by direct t = absurd t
 
-module _ (J : Job) where
-  -- the limits of the sorts, where the pin has the mark m
-  abbrev limits : ℕ → List (Option ℕ)
-  limits m = none ∷ some (J .O) ∷ some (J .O / 2) ∷ none ∷ elim (eqb m 2) [ true ↦ none | false ↦ some 1 ] ∷ some 1 ∷ []
+-- the kinds of sides come first
+pub side-kind : (i : ℕ) → i < 64 → codeOf i ≡ 1 → kindOf i < 2
+unfolding below kindOf links codeOf codes
+side-kind i l e =
+    ltb→lt _ _
+    (if-so (eqb (codeOf i) 1) (ltb (kindOf i) 2) (below-at 64 (λ i. not (eqb (codeOf i) 1) || ltb (kindOf i) 2) tt i l) (so (eq-eqb _ _ e)))
 
-  sort-limit : (k : LinkKind) (r c : ℕ) → limitOf J k r c ≡ getD (limits (J .mark r c)) (sort k) none
+module _ (J : Job) where
+  -- the limits of the sorts, where the side takes n wires and the pin has the mark m
+  abbrev limits : ℕ → ℕ → List (Option ℕ)
+  limits n m = none ∷ some n ∷ some (J .O / 2) ∷ none ∷ elim (eqb m 2) [ true ↦ none | false ↦ some 1 ] ∷ some 1 ∷ []
+
+  sort-limit : (k : LinkKind) (r c : ℕ) → limitOf J k r c ≡ getD (limits (size (limitOf J k r c)) (J .mark r c)) (sort k) none
   unfolding limitOf
   sort-limit northSide r c = refl
   sort-limit westSide r c = refl
@@ -96,20 +103,23 @@ module _ (J : Job) where
   led : ℕ → Bool
   led d = isPlace J (aheadOf J (kindAt (d % 64)) (rowOf (ownerCell d)) (columnOf (ownerCell d)))
 
+  abbrev limitsOf : ℕ → List (Option ℕ)
+  limitsOf d = limits (size (limit J (stepOf d .link))) (markOf d)
+
   module _ (d c : ℕ) (e : codeOf (d % 64) ≡ c) where
-    code-limit : limit J (stepOf d .link) ≡ getD (limits (markOf d)) (getD sorts c 0) none
+    code-limit : limit J (stepOf d .link) ≡ getD (limitsOf d) (getD sorts c 0) none
     unfolding stepOf markOf
     code-limit =
         sort-limit (kindAt (d % 64)) (rowOf (ownerCell d)) (columnOf (ownerCell d))
-        ∙ ap (λ (s : ℕ). getD (limits (markOf d)) s none) (dart-sort d c e)
+        ∙ ap (λ (s : ℕ). getD (limitsOf d) s none) (dart-sort d c e)
 
-    code-cap : carries c ≡ true → cap J d ≡ when (mayTake J d) (size (getD (limits (markOf d)) (getD sorts c 0) none))
+    code-cap : carries c ≡ true → cap J d ≡ when (mayTake J d) (size (getD (limitsOf d) (getD sorts c 0) none))
     unfolding cap isLinkDart isPassDart mayTake
     code-cap t =
         let p : carries (codeOf (d % 64)) ≡ true = ap carries e ∙ t in
         rw (p, carries-no-pass (codeOf (d % 64)) (code-bound (d % 64) (omega arith)) (so p), sym code-limit) (omega arith)
 
-    code-free : carries c ≡ true → free J d ≡ (mayTake J d && isNone (getD (limits (markOf d)) (getD sorts c 0) none))
+    code-free : carries c ≡ true → free J d ≡ (mayTake J d && isNone (getD (limitsOf d) (getD sorts c 0) none))
     unfolding free isLinkDart mayTake
     code-free t =
         let p : carries (codeOf (d % 64)) ≡ true = ap carries e ∙ t in
@@ -146,9 +156,32 @@ module _ (J : Job) where
 
   -- ---- sides, corners and spokes
 
-  pub cap-side : (d : ℕ) → codeOf (d % 64) ≡ 1 → cap J d ≡ when (mayTake J d) (J .O)
-  unfolding carries
+  -- what the side of a kind takes that a cell owns
+  abbrev takes : ℕ → ℕ → ℕ
+  takes k x = size (limitOf J (getD kinds k northSide) (rowOf x) (columnOf x))
+
+  pub cap-side : (d : ℕ) → codeOf (d % 64) ≡ 1 → cap J d ≡ when (mayTake J d) (takes (kindOf (d % 64)) (ownerCell d))
+  unfolding carries stepOf
   cap-side d e = code-cap d 1 e refl
+
+  -- read by the numbers of its kind and its owner, where it may be crossed
+  module _ (d o : ℕ) (e : o ≡ ownerOf (d % 64)) (t : mayTake J d ≡ true) where
+    pub crossed-grid : (41 ≤ d / 64 + o) × (d / 64 + o < 1641)
+    unfolding mayTake
+    crossed-grid =
+        subst (λ (x : ℕ). (41 ≤ x) × (x < 1641)) (sym (owner-is d o e))
+        (grid-bounds (ownerCell d) (and-left (inGrid (ownerCell d)) (may J (stepOf d)) (so t)))
+
+    pub cap-crossed : (k n : ℕ) → codeOf (d % 64) ≡ 1 → k ≡ kindOf (d % 64) → n ≡ takes k (d / 64 + o) → n ≡ cap J d
+    cap-crossed k n c p q =
+        q
+        ∙ (ap₂ takes p (owner-is d o e) ∙ sym (cap-side d c ∙ ap (λ (b : Bool). when b (takes (kindOf (d % 64)) (ownerCell d))) t))
+
+  pub side-most : (k r c : ℕ) → k < 2 → size (limitOf J (getD kinds k northSide) r c) ≡ J .O
+  unfolding limitOf
+  side-most zero r c l = refl
+  side-most (suc zero) r c l = refl
+  side-most (suc (suc k)) r c l = absurd (omega arith)
 
   pub cap-corner : (d : ℕ) → codeOf (d % 64) ≡ 2 → cap J d ≡ when (inGrid (d / 64) && isOpen J (rowOf (d / 64)) (columnOf (d / 64))) (J .O / 2)
   unfolding carries
@@ -242,7 +275,7 @@ module _ (J : Job) where
   unfolding isNone
   leg-free d c e t u s =
       code-free d c e t
-      ∙ ap₂ (λ (b : Bool) (k : ℕ). b && isNone (getD (limits (markOf d)) k none)) (leg-take d c e u s) s
+      ∙ ap₂ (λ (b : Bool) (k : ℕ). b && isNone (getD (limitsOf d) k none)) (leg-take d c e u s) s
       ∙ by (eqb (7 - c) 0) (inGrid (ownerCell d)) (eqb (markOf d) 1) (eqb (markOf d) 2) (led d)
       ∙ sym (owner-test d 2 (λ q. absurd (omega arith)))
     where
@@ -264,13 +297,13 @@ module _ (J : Job) where
   pass-cap d e = rw e (omega arith)
 
   pub cap-centre : (d : ℕ) → codeOf (d % 64) ≡ 5
-      → cap J d ≡ when (inGrid (d / 64) && isOpen J (rowOf (d / 64)) (columnOf (d / 64))) (centreLimit (J .O) (J .D))
+      → cap J d ≡ when (inGrid (d / 64) && isOpen J (rowOf (d / 64)) (columnOf (d / 64))) (centreLimit (J .O) (tileD J (rowOf (d / 64)) (columnOf (d / 64))))
   unfolding carries isPassDart isPassage
   cap-centre d e =
       pass-cap d (ap carries e)
       ∙ ap₂ (λ (c : ℕ) (x : Place). when (((eqb c 5 || eqb c 8) && inGrid (d / 64)) && isPlace J x) (size (pass J x))) e (sym (passed-centre d e))
 
-  pub cap-missing : (d : ℕ) → codeOf (d % 64) ≡ 8 → cap J d ≡ when (inGrid (d / 64) && isMissing J (rowOf (d / 64)) (columnOf (d / 64))) (J .E)
+  pub cap-missing : (d : ℕ) → codeOf (d % 64) ≡ 8 → cap J d ≡ when (inGrid (d / 64) && isMissing J (rowOf (d / 64)) (columnOf (d / 64))) (extraLimit J)
   unfolding carries isPassDart isPassage
   cap-missing d e =
       pass-cap d (ap carries e)

@@ -12,7 +12,7 @@ use lib.Dec.{T, eqb, leb, eqb→eq, leb→le, not-T, T-not}
 use Rattle.sums.specs.Counting.{when, total}
 use Rattle.sums.specs.Tests.{and-left, and-right, so, so-not}
 use Rattle.sums.specs.Sums.{when-none}
-use Rattle.model.specs.Job.{Job, inRange, capsFit, centreLimit, isPin, isTile, isOpen, isChosen, isMissing, onRim}
+use Rattle.model.specs.Job.{Job, inRange, capsFit, centreLimit, northLimit, westLimit, tileD, extraLimit, isPin, isTile, isOpen, isChosen, isMissing, onRim}
 use Rattle.model.specs.Links.{Compass, north, east, south, west, pin, missing, centre, nowhere, side, Place, at, theOutside, isPlace, beside, pinAt, behindOf, aheadOf, LinkKind, northSide, westSide, corner, spoke, leg, direct, link, limitOf, Step, go, come, turn, head, tail, isEntered, may, limit, pass, around}
 use Rattle.model.specs.Near.{size}
 use Rattle.model.specs.Loads.{departures, arrivals, Feasible}
@@ -181,13 +181,13 @@ module _ {J : Job} {f : Step → ℕ} (feasible : Feasible J f) where
       ≤ when (isPlace J (at (elim b [ true ↦ centre | false ↦ missing ]) r c)) (size (pass J (at (elim b [ true ↦ centre | false ↦ missing ]) r c)))
   passed-le true r c = by (isOpen J r c) refl
     where
-      by : (t : Bool) → isOpen J r c ≡ t → arrivals f (at centre r c) ≤ when t (centreLimit (J .O) (J .D))
-      by true e = feasible .passing (at centre r c) (centreLimit (J .O) (J .D)) (so e) refl
+      by : (t : Bool) → isOpen J r c ≡ t → arrivals f (at centre r c) ≤ when t (centreLimit (J .O) (tileD J r c))
+      by true e = feasible .passing (at centre r c) (centreLimit (J .O) (tileD J r c)) (so e) refl
       by false e = omega (arith, centre-none r c (so-not e))
   passed-le false r c = by (isMissing J r c) refl
     where
-      by : (t : Bool) → isMissing J r c ≡ t → arrivals f (at missing r c) ≤ when t (J .E)
-      by true e = feasible .passing (at missing r c) (J .E) (so e) refl
+      by : (t : Bool) → isMissing J r c ≡ t → arrivals f (at missing r c) ≤ when t (extraLimit J)
+      by true e = feasible .passing (at missing r c) (extraLimit J) (so e) refl
       by false e = omega (arith, missing-none r c (so-not e))
 
   -- what a step carries is within its link's limit, and nothing where it may not be taken
@@ -240,8 +240,8 @@ module _ {J : Job} {f : Step → ℕ} (feasible : Feasible J f) where
     E≤ = leb→le (J .E) 16 (and-right (leb 0 (J .E)) (leb (J .E) 16) (and-right (inRange (J .O) (2 * J .O) (J .D)) (inRange 0 16 (J .E)) rest))
 
     pub passed-small : (b : Bool) (r c : ℕ) → arrivals f (at (elim b [ true ↦ centre | false ↦ missing ]) r c) ≤ 16
-    passed-small true r c = omega (arith, passed-le true r c, when-at-most (isOpen J r c) (centreLimit (J .O) (J .D)), O≤, D≤)
-    passed-small false r c = omega (arith, passed-le false r c, when-at-most (isMissing J r c) (J .E), E≤)
+    passed-small true r c = omega (arith, passed-le true r c, when-at-most (isOpen J r c) (centreLimit (J .O) (tileD J r c)), O≤, D≤)
+    passed-small false r c = omega (arith, passed-le false r c, when-at-most (isMissing J r c) (extraLimit J), E≤)
 
     pub step-small : (s : Step) → f s ≤ 16
     unfolding limitOf
@@ -257,8 +257,8 @@ module _ {J : Job} {f : Step → ℕ} (feasible : Feasible J f) where
             )
 
         by : (k : LinkKind) (r c : ℕ) (b : Bool) → f (record { link = link k r c; forth = b }) ≤ 16
-        by northSide r c b = omega (arith, feasible .limits (record { link = link northSide r c; forth = b }) (J .O) refl, O≤)
-        by westSide r c b = omega (arith, feasible .limits (record { link = link westSide r c; forth = b }) (J .O) refl, O≤)
+        by northSide r c b = omega (arith, feasible .limits (record { link = link northSide r c; forth = b }) (northLimit J r c) refl, O≤)
+        by westSide r c b = omega (arith, feasible .limits (record { link = link westSide r c; forth = b }) (westLimit J r c) refl, O≤)
         by (corner d) r c b = omega (arith, feasible .limits (record { link = link (corner d) r c; forth = b }) (J .O / 2) refl, O≤)
         by (spoke d) r c true = omega (arith, spoke-le d r c .0, centre-even r c, passed-small true r c)
         by (spoke d) r c false = omega (arith, spoke-le d r c .1, passed-small true r c)

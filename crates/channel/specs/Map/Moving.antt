@@ -10,7 +10,7 @@ use borrow.Author.Tests.{eq-eqb, ne-eqb, lt-ltb, le-ltb}
 use lib.Dec.{T, eqb, eqb→eq, ltb, ltb→lt, lt→ltb}
 use Rattle.sums.specs.Counting.{when}
 use Rattle.sums.specs.Tests.{so, so-not, both-ways, and-left, and-both, below, below-at}
-use Rattle.model.specs.Job.{Job, isOpen, isMissing, centreLimit}
+use Rattle.model.specs.Job.{Job, isOpen, isMissing, centreLimit, tileD, extraLimit}
 use Rattle.model.specs.Links.{missing, centre, at, Step, turn}
 use Rattle.model.specs.Loads.{arrivals}
 use Rattle.model.specs.Record.{load}
@@ -268,13 +268,13 @@ module _ (J : Job) (rec : List ℕ) (d : ℕ) (l : d < darts) where
   -- through a centre and through a missing pin
   centre-pass : codeOf (d % 64) ≡ 5
       → moves J rec d ≡ ltb (throughCentreLoad rec (d / 64))
-      (when (inGrid (d / 64) && isOpen J (rowOf (d / 64)) (columnOf (d / 64))) (centreLimit (J .O) (J .D)))
+      (when (inGrid (d / 64) && isOpen J (rowOf (d / 64)) (columnOf (d / 64))) (centreLimit (J .O) (tileD J (rowOf (d / 64)) (columnOf (d / 64)))))
   unfolding carries isPassage backCode
   centre-pass e =
       pass-moves J rec d (back-none rec d 5 l e refl refl) (other-free J d (ap carries e)) ∙ ap₂ ltb (centre-view rec d e) (cap-centre J d e)
 
   missing-pass : codeOf (d % 64) ≡ 8
-      → moves J rec d ≡ ltb (throughMissingLoad rec (d / 64)) (when (inGrid (d / 64) && isMissing J (rowOf (d / 64)) (columnOf (d / 64))) (J .E))
+      → moves J rec d ≡ ltb (throughMissingLoad rec (d / 64)) (when (inGrid (d / 64) && isMissing J (rowOf (d / 64)) (columnOf (d / 64))) (extraLimit J))
   unfolding carries isPassage backCode
   missing-pass e =
       pass-moves J rec d (back-none rec d 8 l e refl refl) (other-free J d (ap carries e)) ∙ ap₂ ltb (missing-view rec d e) (cap-missing J d e)
@@ -283,24 +283,24 @@ module _ (J : Job) (rec : List ℕ) (d : ℕ) (l : d < darts) where
   centre-shut e f = rw (centre-pass e, f) (sym (none-below (throughCentreLoad rec (d / 64))))
 
   pub centre-open : codeOf (d % 64) ≡ 5 → (inGrid (d / 64) && isOpen J (rowOf (d / 64)) (columnOf (d / 64))) ≡ true → (n m : ℕ)
-      → n ≡ arrivals (load rec) (at centre (rowOf (d / 64)) (columnOf (d / 64))) → m ≡ centreLimit (J .O) (J .D) → ltb n m ≡ moves J rec d
+      → n ≡ arrivals (load rec) (at centre (rowOf (d / 64)) (columnOf (d / 64))) → m ≡ centreLimit (J .O) (tileD J (rowOf (d / 64)) (columnOf (d / 64))) → ltb n m ≡ moves J rec d
   unfolding throughCentreLoad
   centre-open e f n m p q =
       let g : inGrid (d / 64) ≡ true = is-left (inGrid (d / 64)) _ f in
       sym (centre-pass e
-      ∙ ap₂ (λ (a b : Bool). ltb (when a (arrivals (load rec) (at centre (rowOf (d / 64)) (columnOf (d / 64))))) (when b (centreLimit (J .O) (J .D)))) g f
+      ∙ ap₂ (λ (a b : Bool). ltb (when a (arrivals (load rec) (at centre (rowOf (d / 64)) (columnOf (d / 64))))) (when b (centreLimit (J .O) (tileD J (rowOf (d / 64)) (columnOf (d / 64)))))) g f
       ∙ ap₂ ltb (sym p) (sym q))
 
   pub missing-shut : codeOf (d % 64) ≡ 8 → (inGrid (d / 64) && isMissing J (rowOf (d / 64)) (columnOf (d / 64))) ≡ false → false ≡ moves J rec d
   missing-shut e f = rw (missing-pass e, f) (sym (none-below (throughMissingLoad rec (d / 64))))
 
   pub missing-open : codeOf (d % 64) ≡ 8 → (inGrid (d / 64) && isMissing J (rowOf (d / 64)) (columnOf (d / 64))) ≡ true → (n m : ℕ)
-      → n ≡ arrivals (load rec) (at missing (rowOf (d / 64)) (columnOf (d / 64))) → m ≡ J .E → ltb n m ≡ moves J rec d
+      → n ≡ arrivals (load rec) (at missing (rowOf (d / 64)) (columnOf (d / 64))) → m ≡ extraLimit J → ltb n m ≡ moves J rec d
   unfolding throughMissingLoad
   missing-open e f n m p q =
       let g : inGrid (d / 64) ≡ true = is-left (inGrid (d / 64)) _ f in
       sym (missing-pass e
-      ∙ ap₂ (λ (a b : Bool). ltb (when a (arrivals (load rec) (at missing (rowOf (d / 64)) (columnOf (d / 64))))) (when b (J .E))) g f
+      ∙ ap₂ (λ (a b : Bool). ltb (when a (arrivals (load rec) (at missing (rowOf (d / 64)) (columnOf (d / 64))))) (when b (extraLimit J))) g f
       ∙ ap₂ ltb (sym p) (sym q))
 
   -- ways back

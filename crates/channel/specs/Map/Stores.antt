@@ -14,6 +14,7 @@ use Rattle.sums.specs.Sums.{when-so, when-none, when-cong}
 use Rattle.model.specs.Links.{northSide, Link, link, linkCode, Step, turn}
 use Rattle.model.specs.Record.{recordSize, offset, loadPlane, kinds, cell, jobOf, forthPart, backPart, load}
 use Rattle.model.proofs.RecordOf.{inCells, cells-row, cells-column, cells-have}
+use Rattle.model.proofs.JobBytes.{job-same}
 use Rattle.channel.specs.Map.{darts, inGrid, ownerCell, stepOf, isStored, bump, address, laid, links, kindOf, signOf, codeOf}
 use Rattle.channel.specs.Map.Back.{Less, less, most, less?, grid-at}
 use Rattle.channel.specs.Map.Darts.{grid-cell, kind-code, OnGrid, step-grid}
@@ -193,26 +194,8 @@ module _ (rec : List ℕ) (d : ℕ) where
   pub laid-rest : (i : ℕ) → d < darts → offset 17 0 0 ≤ i → getD (laid rec d) i 0 ≡ getD rec i 0
   laid-rest i l h = laid-kept i (λ a b. omega arith)
 
-  cell-kept : (p r c : ℕ) → p < 2 → cell (laid rec d) p r c ≡ cell rec p r c
-  unfolding cell
-  cell-kept p r c l =
-      when-cong (inCells r c) _ _ (λ t. laid-kept (offset p r c) (λ a b. below p r c l (cells-row r c t) (cells-column r c t) a))
-    where
-      below : (p r c : ℕ) → p < 2 → r < 40 → c < 40 → offset 2 0 0 ≤ offset p r c → ⊥
-      below p r c l m n a = omega arith
-
   pub laid-job : d < darts → jobOf (laid rec d) ≡ jobOf rec
-  unfolding jobOf
-  laid-job l =
-      λ i. record {
-        rows = laid-kept 0 (λ a b. omega arith) i;
-        columns = laid-kept 1 (λ a b. omega arith) i;
-        O = laid-kept 2 (λ a b. omega arith) i;
-        D = laid-kept 3 (λ a b. omega arith) i;
-        E = laid-kept 4 (λ a b. omega arith) i;
-        mark = λ r c. cell-kept 0 r c (omega arith) i;
-        state = λ r c. cell-kept 1 r c (omega arith) i;
-      }
+  laid-job l = job-same (laid rec d) rec (λ i h. laid-other i l h) (λ i h k. laid-rest i l (omega arith))
 
   module _ (s : T (isStored (codeOf (d % 64)))) (g : T (inGrid (ownerCell d))) where
     byte-in : (r : List ℕ) (l : Link) → l .row < 40 → l .column < 40 → byteOf r l ≡ getD r (spotOf l) 0

@@ -3,9 +3,6 @@ use borrow.Author.Needs.{needs}
 use Rattle.cell.proofs.links.side_fits.Statement.{statement}
 use Rattle.cell.proofs.links.side_fits.Tie as tie
 
-side-most-requires : tie.Need-side-most-requires
-side-most-requires c κs = search needs
-
 crosses-requires : tie.Need-crosses-requires
 crosses-requires c κs = search needs
 
@@ -28,7 +25,6 @@ pub side-fits-spec : {M : Type 1} → statement M
 side-fits-spec =
     tie.close
     (tie.spec
-    side-most-requires
     crosses-requires
     held-requires
     crosses-requires-2

@@ -12,7 +12,7 @@ centre-most-requires c κs = search needs
 cast-result : tie.Need-cast-result
 cast-result c =
     let J = jobOf (c .before .before .args .rec .now) in
-    let (a, b) = caps-range (J .O) (J .D) (J .E) (c .before .before .pre .1) in
+    let (a, b) = caps-range (J .O) (J .D) (J .E) (c .before .before .pre .3) in
     omega (arith, c .centre-most .ensures)
 
 returns : tie.Need-returns

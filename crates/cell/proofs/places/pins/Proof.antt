@@ -30,8 +30,8 @@ forth-requires c κs = search needs
 add-starts : tie.Need-add-starts
 add-starts c = search needs
 
-extra-requires : tie.Need-extra-requires
-extra-requires c κs = search needs
+missing-most-requires : tie.Need-missing-most-requires
+missing-most-requires c κs = search needs
 
 cast-passes : tie.Need-cast-passes
 cast-passes c = search needs
@@ -51,7 +51,7 @@ returns c =
     let straight = c .before .before .before .forth .ensures .0 ∙ ap forthPart (c .before .before .before .before .near .ensures) in
     cc (pins-read bytes (rowOf x) (columnOf x) _ _ _ _ _ _ (map-read (isPin (jobOf bytes)) _ (s .pre .3) x (omega arith) (omega arith)) (c .before .before .before .before .before .before .before .byte .ensures)
     (c .before .before .before .before .before .before .back-sum .ensures .0 ∙ missing-arrivals bytes x (omega arith) (omega arith)) (legs ∙ missing-departures bytes x (omega arith) (omega arith))
-    (ap₂ _+_ legs straight ∙ pin-departures bytes x (omega arith) (omega arith)) (c .before .before .extra .ensures .0))
+    (ap₂ _+_ legs straight ∙ pin-departures bytes x (omega arith) (omega arith)) (c .before .before .missing-most .ensures .0))
 
 pub pins-spec : {M : Type 1} → statement M
 pins-spec =
@@ -63,7 +63,7 @@ pins-spec =
     near-requires
     forth-requires
     add-starts
-    extra-requires
+    missing-most-requires
     cast-passes
     element-copy-out-result
     element-copy-out-result-2

@@ -16,7 +16,7 @@ through-centre-requires c κs =
     omega (arith, grid-of _ _ _ (c .before .open-at .ensures) (c .if1 .taken))
 
 centre-most-requires : tie.Need-centre-most-requires
-centre-most-requires c κs = search needs
+centre-most-requires c κs = omega (arith, grid-of _ _ _ (c .before .before .open-at .ensures) (c .before .if1 .taken))
 
 returns : tie.Need-returns
 returns c =

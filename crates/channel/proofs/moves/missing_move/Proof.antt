@@ -15,15 +15,15 @@ through-missing-requires : tie.Need-through-missing-requires
 through-missing-requires c κs =
     omega (arith, grid-of _ _ _ (c .before .missing-at .ensures) (c .if1 .taken))
 
-extra-requires : tie.Need-extra-requires
-extra-requires c κs = search needs
+missing-most-requires : tie.Need-missing-most-requires
+missing-most-requires c κs = search needs
 
 returns : tie.Need-returns
 returns c =
     let s = c .before .before .before .before .before .before in
     missing-open (jobOf (s .args .job .now)) (s .args .loads .now) (s .args .d) (is-dart (s .pre .2)) (s .pre .3)
     (sym (c .before .before .before .missing-at .ensures) ∙ c .before .before .if1 .taken) _ _
-    (c .before .through-missing .ensures .0) (c .extra .ensures .0)
+    (c .before .through-missing .ensures .0) (c .missing-most .ensures .0)
 
 returns-2 : tie.Need-returns-2
 returns-2 c =
@@ -33,4 +33,4 @@ returns-2 c =
 pub missing-move-spec : {M : Type 1} → statement M
 missing-move-spec =
     tie.close
-    (tie.spec missing-at-requires through-missing-requires extra-requires returns returns-2)
+    (tie.spec missing-at-requires through-missing-requires missing-most-requires returns returns-2)

@@ -15,7 +15,7 @@ use Rattle.sums.specs.Tests.{and-right}
 use Rattle.sums.specs.Totals.{total-has}
 use Rattle.flow.specs.Network.{Path, here, along}
 use Rattle.flow.specs.Cancel.{Loaded}
-use Rattle.model.specs.Job.{Job, arrayFits, centreLimit, isPin, isTile, isOpen, isChosen, isMissing}
+use Rattle.model.specs.Job.{Job, arrayFits, centreLimit, tileD, extraLimit, isPin, isTile, isOpen, isChosen, isMissing}
 use Rattle.model.specs.Links.{Compass, north, east, south, west, compassCode, PlaceKind, pin, missing, centre, nowhere, side, Place, at, theOutside, isPlace, leg, spoke, pinAt, Step, come, head, tail, turn, may, pass, around}
 use Rattle.model.specs.Near.{spot, entryOf, exitOf, entry, exit}
 use Rattle.model.specs.Loads.{arrivals, Feasible, Trail}
@@ -199,8 +199,8 @@ module _ (J : Job) (fits : T (arrayFits (J .rows) (J .columns))) (rec : List ℕ
     through : (k : PlaceKind) (r c : ℕ) → T (isPlace J (at k r c)) → 0 < arrivals f (at k r c) → Lower (entry (at k r c)) (exit (at k r c))
     unfolding entryOf exitOf
     through pin r c t h b = omega arith
-    through missing r c t h b = passed (at missing r c) (J .E) t refl h b
-    through centre r c t h b = passed (at centre r c) (centreLimit (J .O) (J .D)) t refl h b
+    through missing r c t h b = passed (at missing r c) (extraLimit J) t refl h b
+    through centre r c t h b = passed (at centre r c) (centreLimit (J .O) (tileD J r c)) t refl h b
     through PlaceKind.outside r c t h b = absurd t
     through nowhere r c t h b = absurd t
     through (side d) r c t h b = omega arith

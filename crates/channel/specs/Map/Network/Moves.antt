@@ -15,7 +15,7 @@ use Rattle.sums.specs.Tests.{and-left, and-right, and-both, or-by}
 use Rattle.sums.specs.Sums.{when-so, when-some}
 use Rattle.sums.specs.Totals.{total-has}
 use Rattle.flow.specs.Residual.{Residual, undo, room, unlimited, Closed}
-use Rattle.model.specs.Job.{Job, arrayFits, centreLimit}
+use Rattle.model.specs.Job.{Job, arrayFits, centreLimit, northLimit, westLimit, tileD, extraLimit}
 use Rattle.model.specs.Links.{Compass, north, east, south, west, pin, missing, Place, at, theOutside, isPlace, LinkKind, northSide, westSide, corner, spoke, leg, direct, link, behindOf, aheadOf, limitOf, Step, turn, head, tail, may, limit, pass, around}
 use Rattle.model.specs.Near.{size, entryOf, exitOf, entry, exit}
 use Rattle.model.specs.Loads.{arrivals, departures, Feasible}
@@ -69,21 +69,21 @@ module _ (J : Job) where
   free-ends s = by (s .link .kind) (s .link .row) (s .link .column) (s .forth)
     where
       passed : (t : Bool) (r c : ℕ) → ((k : ℕ) → elim t [ true ↦ none | false ↦ some 1 ] ≡ some k → ⊥)
-          → pass J (elim t [ true ↦ at missing r c | false ↦ at pin r c ]) ≡ some (J .E)
+          → pass J (elim t [ true ↦ at missing r c | false ↦ at pin r c ]) ≡ some (extraLimit J)
       passed true r c n = refl
       passed false r c n = absurd (n 1 refl)
 
       by : (k : LinkKind) (r c : ℕ) (b : Bool) → ((m : ℕ) → limitOf J k r c ≡ some m → ⊥)
           → Ends (head J (record { link = link k r c; forth = b })) (tail J (record { link = link k r c; forth = b }))
           ⊎ Ends (tail J (record { link = link k r c; forth = b })) (head J (record { link = link k r c; forth = b }))
-      by northSide r c b n = absurd (n (J .O) refl)
-      by westSide r c b n = absurd (n (J .O) refl)
+      by northSide r c b n = absurd (n (northLimit J r c) refl)
+      by westSide r c b n = absurd (n (westLimit J r c) refl)
       by (corner d) r c b n = absurd (n (J .O / 2) refl)
-      by (spoke d) r c true n = inr (ends (centreLimit (J .O) (J .D)) refl refl)
-      by (spoke d) r c false n = inl (ends (centreLimit (J .O) (J .D)) refl refl)
-      by (leg d) r c true n = inr (ends (J .E) (passed (eqb (J .mark r c) 2) r c n) (ahead-plain d r c))
+      by (spoke d) r c true n = inr (ends (centreLimit (J .O) (tileD J r c)) refl refl)
+      by (spoke d) r c false n = inl (ends (centreLimit (J .O) (tileD J r c)) refl refl)
+      by (leg d) r c true n = inr (ends (extraLimit J) (passed (eqb (J .mark r c) 2) r c n) (ahead-plain d r c))
       by direct r c b n = absurd (n 1 refl)
-      by (leg d) r c false n = inl (ends (J .E) (passed (eqb (J .mark r c) 2) r c n) (ahead-plain d r c))
+      by (leg d) r c false n = inl (ends (extraLimit J) (passed (eqb (J .mark r c) 2) r c n) (ahead-plain d r c))
 
   -- ---- loaded darts
 

@@ -2,7 +2,7 @@
 use mathlib.Core.Path.{ap}
 use native.Mathlib.Omega.{arith}
 use borrow.Author.Needs.{needs}
-use Rattle.service.specs.Answers.{asAnswer}
+use Rattle.answers.specs.Answers.{asAnswer}
 use Rattle.talusdish.specs.Words.{value}
 use Rattle.talusdish.proofs.word.value_of.Statement.{statement}
 use Rattle.talusdish.proofs.word.value_of.Tie as tie

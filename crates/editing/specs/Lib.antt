@@ -1,0 +1,2 @@
+-- what Mark and Close answer and store
+pub mod Edits

@@ -1,0 +1,2 @@
+-- what New and Read text answer
+pub mod Anew

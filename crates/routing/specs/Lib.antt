@@ -1,0 +1,4 @@
+-- what Part answers
+pub mod Parts
+-- what Step and Shortfall answer
+pub mod Wiring
