@@ -24,12 +24,6 @@ module _ (G : Net) (f : ℕ → ℕ) where
     begin : {u : ℕ} → A u → Reach A u
     move : {d u v : ℕ} → Reach A u → d < G .darts → G .tail d ≡ u → Residual d → head G d ≡ v → Reach A v
 
--- loads that agree on every dart have the same residual moves
-pub residual-cong : {G : Net} {f g : ℕ → ℕ} {d : ℕ} → ((x : ℕ) → x < G .darts → g x ≡ f x) → d < G .darts → Residual G g d → Residual G f d
-residual-cong {G} {d = d} e l (undo h) = undo (omega (arith, e (G .rev d) (G .rev< d l)))
-residual-cong {d = d} e l (room h) = room (omega (arith, e d l))
-residual-cong e l (unlimited h) = unlimited h
-
 -- What is reachable is closed under residual moves.
 pub reach-closed : {G : Net} {f : ℕ → ℕ} {A : ℕ → Type 0} {S : ℕ → Bool} → ((u : ℕ) → u < G .nodes → T (S u) ↔ Reach G f A u) → Closed G f S
 reach-closed {G} e =

@@ -5,8 +5,9 @@ pub mod Uses
 pub mod Bound
 pub mod Unique
 pub mod Empty
--- Lanes from left to right.
+-- Lanes from left to right; the links around a place, clockwise.
 pub mod LaneOrder
+pub mod Clockwise
 -- Records: of a job with loads, of a job without, and the rest of a longer buffer.
 pub mod Added
 pub mod RecordOf
@@ -25,6 +26,7 @@ pub mod ReadsWritten
 pub mod RoundTrip
 -- Examples of document 01 by computed tests.
 pub mod Tables
+pub mod Refusals
 pub mod ByTest
 pub mod Edges
 pub mod Least
@@ -38,4 +40,5 @@ pub mod BothWays
 pub mod FourPins
 pub mod DirectExit
 pub mod LaneExamples
+pub mod Measures
 pub mod TextExamples

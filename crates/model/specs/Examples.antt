@@ -2,6 +2,7 @@
 -- of each row is proved in proofs/. Assumes nothing.
 use mathlib.Core.Bool.{Bool, true, false, _||_}
 use mathlib.Core.List.{List, [], _∷_}
+use mathlib.Core.Option.{Option, none, some}
 use Prim.Native.Nat.{ℕ}
 use lib.Dec.{eqb}
 use Rattle.model.specs.Job.{Job, fresh, marked, closed}
@@ -45,6 +46,41 @@ caps o d e b = record { O = o; D = d; E = e; fits = b }
 
 abbrev pub capacities : List Caps
 capacities = caps 8 16 16 true ∷ caps 2 5 0 false ∷ caps 2 1 0 false ∷ caps 1 1 0 true ∷ caps 0 0 0 false ∷ caps 9 9 0 false ∷ caps 1 1 17 false ∷ []
+
+-- ---- refusals: the number with which a call is refused, none for an accepted one
+
+-- New, on a record that is long enough: "Array 40 by 40 accepted, 1 by 2 and 41 by 2 refused 2. Caps 8 16 16 accepted; 2 5 0 and 2 1 0 refused 3", and both faults
+pub record Opening : Type 0 where
+  pub rows : ℕ
+  pub columns : ℕ
+  pub O : ℕ
+  pub D : ℕ
+  pub E : ℕ
+  pub number : Option ℕ
+
+abbrev pub opening : ℕ → ℕ → ℕ → ℕ → ℕ → Option ℕ → Opening
+opening r c o d e n = record { rows = r; columns = c; O = o; D = d; E = e; number = n }
+
+abbrev pub openings : List Opening
+openings =
+    opening 40 40 1 2 0 none ∷ opening 1 2 1 2 0 (some 2) ∷ opening 41 2 1 2 0 (some 2) ∷ opening 2 2 8 16 16 none ∷ opening 2 2 2 5 0 (some 3)
+    ∷ opening 2 2 2 1 0 (some 3) ∷ opening 41 2 2 5 0 (some 2) ∷ opening 1 2 2 1 0 (some 2) ∷ []
+
+-- Mark and Close on an idle, open job of 2 by 2 pins: 4 before 5
+pub record Edit : Type 0 where
+  pub row : ℕ
+  pub column : ℕ
+  pub value : ℕ
+  pub number : Option ℕ
+
+abbrev pub edit : ℕ → ℕ → ℕ → Option ℕ → Edit
+edit r c v n = record { row = r; column = c; value = v; number = n }
+
+abbrev pub markings : List Edit
+markings = edit 1 1 2 none ∷ edit 0 0 0 none ∷ edit 2 0 1 (some 4) ∷ edit 0 2 1 (some 4) ∷ edit 1 1 3 (some 5) ∷ edit 2 0 3 (some 4) ∷ []
+
+abbrev pub closings : List Edit
+closings = edit 0 0 1 none ∷ edit 0 0 0 none ∷ edit 1 0 1 (some 4) ∷ edit 0 1 1 (some 4) ∷ edit 0 0 2 (some 5) ∷ edit 1 0 2 (some 4) ∷ []
 
 -- ---- pairing: which positions arrive, and the pairs in the order in which they are joined
 
@@ -123,8 +159,20 @@ shortMissing =
           spot 1 1 1 ∷ spot 1 1 2 ∷ spot 2 0 1 ∷ spot 3 0 1 ∷ spot 4 0 1 ∷ spot 5 0 1 ∷ spot 6 0 1 ∷ spot 7 0 1 ∷ spot 0 0 1 ∷ spot 1 0 1 ∷ [];
     }
 
+-- The same with E = 0. The links to the missing pin have no limit, so its entry is near; it passes nothing, and its exit is not.
+abbrev pub jobEntry : Job
+jobEntry = marked (oneOpen 1 2 0) 0 1 2
+
+abbrev pub shortEntry : Short
+shortEntry =
+    record {
+      job = jobEntry;
+      greatest = 1;
+      near = spot 1 1 1 ∷ spot 1 1 2 ∷ spot 2 0 1 ∷ spot 3 0 1 ∷ spot 4 0 1 ∷ spot 5 0 1 ∷ spot 6 0 1 ∷ spot 7 0 1 ∷ spot 0 0 1 ∷ [];
+    }
+
 abbrev pub shorts : List Short
-shorts = shortShut ∷ short34 ∷ shortRim ∷ shortMissing ∷ []
+shorts = shortShut ∷ short34 ∷ shortRim ∷ shortMissing ∷ shortEntry ∷ []
 
 -- ---- jobs whose chosen pins can all have a route
 

@@ -1,0 +1,125 @@
+-- Document 01, "Settled by hand" and "Record and operations": with which number New, Mark and Close are refused, on rows with one fault and with two; that a value
+-- already there changes nothing; that Shortfall tests the scratch before the output; and how far the scratch is cleared. Assumes nothing.
+use mathlib.Core.Path.{_≡_, refl, sym, ap, _∙_}
+use mathlib.Core.Bool.{Bool, true, false, _&&_}
+use mathlib.Core.List.{List, [], _∷_, List·Memᴰ}
+use mathlib.Core.Option.{Option, none, some}
+use Prim.Native.Nat.{ℕ, _+_, _-_, _≤_, _<_}
+use native.Mathlib.Omega.{arith}
+use borrow.Author.Tests.{le-leb}
+use lib.Dec.{T, eqb, leb, eqb→eq, eqb-refl}
+use lib.ListN.{length, getD, replicate, drop, length-replicate, getD-replicate, List·getD-append}
+use lib.Seq.{getD-append-add, getD-drop}
+use Rattle.sums.specs.Tests.{and-left, and-right, every, every-at}
+use Rattle.model.specs.Job.{Job, arrayFits, capsAdmitted, fresh, marked, closed, isPin, isTile}
+use Rattle.model.specs.Record.{recordSize, scratchSize, jobOf, unwiredRecord, over}
+use Rattle.model.specs.Calls.{Answer, refused, done, refusal, After, after, cleared, Test, test, asked, newly, edited, markedBy, closedBy, Lacks}
+use Rattle.model.specs.Examples.{Opening, openings, Edit, markings, closings}
+use Rattle.model.proofs.Asked.{hold-both, asked-holds, asked-all}
+
+-- the number of the first of two tests that fails
+abbrev firstOf : Bool → ℕ → Bool → ℕ → Option ℕ
+firstOf a j b k = elim a [ true ↦ elim b [ true ↦ none | false ↦ some k ] | false ↦ some j ]
+
+two-tests : (a : Bool) (j : ℕ) (b : Bool) (k : ℕ) (rec : List ℕ) (x : After) → refusal (x .answer) ≡ none
+    → refusal (asked (test a j ∷ test b k ∷ []) rec [] x .answer) ≡ firstOf a j b k
+two-tests true j true k rec x e = e
+two-tests true j false k rec x e = refl
+two-tests false j b k rec x e = refl
+
+-- the numbers of a row, as a test
+abbrev sameNumber : Option ℕ → Option ℕ → Bool
+sameNumber none none = true
+sameNumber none (some k) = false
+sameNumber (some j) none = false
+sameNumber (some j) (some k) = eqb j k
+
+same-number : (x y : Option ℕ) → T (sameNumber x y) → x ≡ y
+same-number none none t = refl
+same-number none (some k) t = absurd t
+same-number (some j) none t = absurd t
+same-number (some j) (some k) t = ap some (eqb→eq j k t)
+
+-- ---- New
+
+pub openings-hold : (x : Opening) → List·Memᴰ x openings → (rec : List ℕ) → recordSize ≤ length rec
+    → refusal (newly (x .rows) (x .columns) (x .O) (x .D) (x .E) rec .answer) ≡ x .number
+unfolding every
+openings-hold x m rec long =
+    let made : After = after done (over (unwiredRecord (fresh (x .rows) (x .columns) (x .O) (x .D) (x .E))) rec) [] [] in
+    let ts : List Test = test (arrayFits (x .rows) (x .columns)) 2 ∷ test (capsAdmitted (x .O) (x .D) (x .E)) 3 ∷ [] in
+    ap (λ (a : After). refusal (a .answer)) (asked-holds rec [] made (leb recordSize (length rec)) 1 ts (le-leb recordSize (length rec) long))
+    ∙ (two-tests (arrayFits (x .rows) (x .columns)) 2 (capsAdmitted (x .O) (x .D) (x .E)) 3 rec made refl
+    ∙ same-number _ _
+    (every-at openings (λ y. sameNumber (firstOf (arrayFits (y .rows) (y .columns)) 2 (capsAdmitted (y .O) (y .D) (y .E)) 3) (y .number)) tt m))
+
+-- ---- Mark and Close, on a record of the smallest array
+
+abbrev small : Job
+small = fresh 2 2 1 2 0
+
+edited-accepted : (b : Bool) (K : Job) (rec : List ℕ) → refusal (edited b K rec .answer) ≡ none
+edited-accepted true K rec = refl
+edited-accepted false K rec = refl
+
+pub markings-hold : (x : Edit) → List·Memᴰ x markings → (rec : List ℕ) → jobOf rec ≡ small
+    → refusal (markedBy (x .row) (x .column) (x .value) rec .answer) ≡ x .number
+unfolding every
+markings-hold x m rec e =
+    two-tests (isPin (jobOf rec) (x .row) (x .column)) 4 (leb (x .value) 2) 5 rec _
+    (edited-accepted (eqb (jobOf rec .mark (x .row) (x .column)) (x .value)) (marked (jobOf rec) (x .row) (x .column) (x .value)) rec)
+    ∙ (ap (λ (J : Job). firstOf (isPin J (x .row) (x .column)) 4 (leb (x .value) 2) 5) e
+    ∙ same-number _ _ (every-at markings (λ y. sameNumber (firstOf (isPin small (y .row) (y .column)) 4 (leb (y .value) 2) 5) (y .number)) tt m))
+
+pub closings-hold : (x : Edit) → List·Memᴰ x closings → (rec : List ℕ) → jobOf rec ≡ small
+    → refusal (closedBy (x .row) (x .column) (x .value) rec .answer) ≡ x .number
+unfolding every
+closings-hold x m rec e =
+    two-tests (isTile (jobOf rec) (x .row) (x .column)) 4 (leb (x .value) 1) 5 rec _
+    (edited-accepted (eqb (jobOf rec .state (x .row) (x .column)) (x .value)) (closed (jobOf rec) (x .row) (x .column) (x .value)) rec)
+    ∙ (ap (λ (J : Job). firstOf (isTile J (x .row) (x .column)) 4 (leb (x .value) 1) 5) e
+    ∙ same-number _ _ (every-at closings (λ y. sameNumber (firstOf (isTile small (y .row) (y .column)) 4 (leb (y .value) 1) 5) (y .number)) tt m))
+
+-- "A value already there changes nothing."
+already : (ts : List Test) (rec : List ℕ) (v m : ℕ) (K : Job) → v ≡ m → asked ts rec [] (edited (eqb v m) K rec) ≡ asked ts rec [] (after done rec [] [])
+already ts rec v m K e = ap (λ (b : Bool). asked ts rec [] (edited b K rec)) (ap (λ (n : ℕ). eqb n m) e ∙ is-true (eqb m m) (eqb-refl m))
+  where
+    is-true : (b : Bool) → T b → b ≡ true
+    is-true true t = refl
+    is-true false t = absurd t
+
+pub already-marked : (rec : List ℕ) (r c m : ℕ) → T (isPin (jobOf rec) r c) → T (leb m 2) → jobOf rec .mark r c ≡ m → markedBy r c m rec ≡ after done rec [] []
+already-marked rec r c m t u e =
+    let ts : List Test = test (isPin (jobOf rec) r c) 4 ∷ test (leb m 2) 5 ∷ [] in
+    already ts rec (jobOf rec .mark r c) m (marked (jobOf rec) r c m) e ∙ asked-all rec [] (after done rec [] []) ts (hold-both (isPin (jobOf rec) r c) (leb m 2) t u)
+
+pub already-closed : (rec : List ℕ) (r c v : ℕ) → T (isTile (jobOf rec) r c) → T (leb v 1) → jobOf rec .state r c ≡ v
+    → closedBy r c v rec ≡ after done rec [] []
+already-closed rec r c v t u e =
+    let ts : List Test = test (isTile (jobOf rec) r c) 4 ∷ test (leb v 1) 5 ∷ [] in
+    already ts rec (jobOf rec .state r c) v (closed (jobOf rec) r c v) e ∙ asked-all rec [] (after done rec [] []) ts (hold-both (isTile (jobOf rec) r c) (leb v 1) t u)
+
+-- ---- Shortfall
+
+-- with both buffers too short it is 8
+pub scratch-first : (scratch output rec : List ℕ) (a : After) → Lacks scratch output rec a → length scratch < scratchSize → length output < recordSize
+    → refusal (a .answer) ≡ some 8
+scratch-first scratch output rec a d l m = ap (λ (x : After). refusal (x .answer)) (d .small l)
+
+-- ---- the scratch
+
+-- "After an accepted call that takes scratch, it is all zero", its 65,536 bytes
+pub cleared-zero : (scratch : List ℕ) (i : ℕ) → i < scratchSize → getD (cleared scratch) i 0 ≡ 0
+cleared-zero scratch i l =
+    let z : List ℕ = replicate scratchSize 0 in
+    List·getD-append z (drop (length z) scratch) 0 i (omega (arith, length-replicate {A = ℕ} scratchSize 0)) ∙ getD-replicate scratchSize i 0 0 l
+
+-- "A longer buffer is used from its start and its rest is untouched."
+pub cleared-rest : (scratch : List ℕ) (i : ℕ) → scratchSize ≤ i → getD (cleared scratch) i 0 ≡ getD scratch i 0
+cleared-rest scratch i l =
+    let z : List ℕ = replicate scratchSize 0 in
+    let n : length z ≡ scratchSize = length-replicate {A = ℕ} scratchSize 0 in
+    let k : i ≡ length z + (i - scratchSize) = omega arith in
+    ap (λ (j : ℕ). getD (cleared scratch) j 0) k
+    ∙ (getD-append-add z (drop (length z) scratch) (i - scratchSize) 0
+    ∙ (getD-drop (length z) scratch (i - scratchSize) 0 ∙ ap (λ (j : ℕ). getD scratch j 0) (sym k)))
