@@ -1,23 +1,23 @@
--- Document 01, "Job text": the text of a proper job is read, as that job. The reader goes through the cells of each group in their turn; what it has named
--- is what the job names up to there, so at the end it has the job. Assumes nothing.
-use mathlib.Core.Path.{_≡_, refl, sym, subst, subst₂}
-use mathlib.Core.Logic.{_≢_}
+-- Document 01, "Job text": the text of a proper job is read, as that job. The reader goes through the cells of each group in their turn; the values it has
+-- are those of the job up to there, so at the end it has the job. Assumes nothing.
+use mathlib.Core.Path.{_≡_, refl, sym, ap, subst, subst₂, _∙_}
+use mathlib.Core.Logic.{_≢_, _⊎_, inl, inr}
 use mathlib.Core.Bool.{Bool, true, false, not, _&&_}
-use mathlib.Core.List.{List, [], _++_, append-assoc, append-nil}
+use mathlib.Core.List.{List, [], _∷_, _++_, append-assoc, append-nil}
 use mathlib.Core.Option.{some}
 use Prim.Native.Nat.{ℕ, zero, suc, _+_, _*_, _≤_, _<_}
 use native.Mathlib.Omega.{arith}
-use lib.Dec.{T, not-T, eqb, leb, ltb, eqb→eq, le→leb, lt→ltb, ltb→lt, nltb→le}
+use lib.Dec.{T, not-T, eqb, leb, ltb, eqb→eq, eqb-refl, le→leb, lt→ltb, ltb→lt}
 use lib.ListN.{length, length-append}
 use Rattle.sums.specs.Counting.{when, only, each}
-use Rattle.sums.specs.Tests.{Same, same, other, same?, and-left, and-right, and-both, so, both-ways}
+use Rattle.sums.specs.Tests.{Same, same, other, same?, below-or, and-left, and-right, and-both}
 use Rattle.model.specs.Job.{Job, arrayFits, capsAdmitted, fresh, isPin, isTile, isChosen, isMissing, isClosed, Proper}
-use Rattle.model.specs.Text.{Group, chosenPins, missingPins, closedTiles, Line, arrayLine, groupLine, endLine, lineBytes, afterArray, finished, within}
-use Rattle.model.specs.Text.{rank, Reader, start, asking, inTurn, names, named, admit, Verdict, reads, Reads, ended, line, Reading, isNamed, groupText}
-use Rattle.model.specs.Text.{textOf}
+use Rattle.model.specs.Text.{Group, chosenPins, missingPins, closedTiles, groups, Line, arrayLine, groupLine, endLine, says, lineBytes, afterArray}
+use Rattle.model.specs.Text.{finished, within, rank, keyOf, Reader, start, asking, inTurn, names, named, admit, Verdict, reads, Reads, ended, line}
+use Rattle.model.specs.Text.{Reading, valueAt, valueLine, groupText, listed, textOf}
 use Rattle.model.proofs.TextProper.{fresh-proper, named-proper}
-use Rattle.model.proofs.TextNames.{turn, due, rank-group, turn-same, named-inside, proper-size, fresh-none, named-here, named-else, Alike, named-alike}
-use Rattle.model.proofs.TextNames.{job-known}
+use Rattle.model.proofs.TextNames.{turn, due, rank-group, turn-same, Ranked, groups-ranked, when-so, when-not, when-some, zero-so, names-inside}
+use Rattle.model.proofs.TextNames.{value-inside, value-line, proper-size, fresh-none, named-here, named-else, Alike, named-alike, job-known}
 
 -- ---- reading on
 
@@ -60,75 +60,100 @@ leads-each (suc n) Q s R q = leads-append (leads-each n Q (λ i l. s i (omega ar
 
 -- ---- the reader in the midst of the job
 
--- the job read so far names what J names before the turn p
+before : (t p n : ℕ) → t < p → when (ltb t p) n ≡ n
+before t p n l = when-so (ltb t p) n (lt→ltb t p l)
+
+behind : (t p n : ℕ) → p ≤ t → when (ltb t p) n ≡ 0
+behind t p n l = when-not (ltb t p) n (λ u. omega (arith, ltb→lt t p u))
+
+-- a later bound, with nothing between
+before-more : (t p q n : ℕ) → p ≤ q → (p ≤ t → t < q → n ≡ 0) → when (ltb t p) n ≡ when (ltb t q) n
+before-more t p q n l z = by (below-or t p) (below-or t q)
+  where
+    by : (t < p) ⊎ (p ≤ t) → (t < q) ⊎ (q ≤ t) → when (ltb t p) n ≡ when (ltb t q) n
+    by (inl a) b = before t p n a ∙ sym (before t q n (omega arith))
+    by (inr a) (inl b) = behind t p n a ∙ sym (before t q n b ∙ z a b)
+    by (inr a) (inr b) = behind t p n a ∙ sym (behind t q n b)
+
+-- numbers that are equal wherever one is not 0
+equal-some : (n m : ℕ) → (0 < n → n ≡ m) → (0 < m → n ≡ m) → n ≡ m
+equal-some zero zero f g = refl
+equal-some zero (suc m) f g = g (omega arith)
+equal-some (suc n) m f g = f (omega arith)
+
+-- the job read so far has the values of J before the turn p
 record Partly (J : Job) (p : ℕ) (R : Reader) : Type 0 where
   stage : (1 ≤ rank (R .stage)) × (rank (R .stage) ≤ 4)
   next : due R ≤ p
   proper : Proper (R .job)
   alike : Alike (R .job) J
-  agree : (h : Group) (i j : ℕ) → isNamed (R .job) h i j ≡ (isNamed J h i j && ltb (turn h i j) p)
+  agree : (h : Group) (i j e : ℕ) → valueAt (R .job) h i j e ≡ when (ltb (turn h i j e) p) (valueAt J h i j e)
 
-partly-before : (J : Job) (p : ℕ) (R : Reader) → Partly J p R → (h : Group) (i j : ℕ) → T (isNamed (R .job) h i j) → T (isNamed J h i j) × (turn h i j < p)
-partly-before J p R s h i j t =
-    let a : Bool = isNamed J h i j in
-    let b : Bool = ltb (turn h i j) p in
-    let u : T (a && b) = subst T (s .agree h i j) t in
-    (and-left a b u, ltb→lt (turn h i j) p (and-right a b u))
+partly-before : (J : Job) (p : ℕ) (R : Reader) → Partly J p R → (h : Group) (i j e : ℕ) → 0 < valueAt (R .job) h i j e
+    → (turn h i j e < p) × (valueAt (R .job) h i j e ≡ valueAt J h i j e)
+partly-before J p R s h i j e l =
+    let t : turn h i j e < p = ltb→lt (turn h i j e) p (when-some (ltb (turn h i j e) p) (valueAt J h i j e) (omega (arith, s .agree h i j e))) in
+    (t, s .agree h i j e ∙ before (turn h i j e) p (valueAt J h i j e) t)
 
-partly-named : (J : Job) (p : ℕ) (R : Reader) → Partly J p R → (h : Group) (i j : ℕ) → T (isNamed J h i j) → turn h i j < p → T (isNamed (R .job) h i j)
-partly-named J p R s h i j t l = subst T (sym (s .agree h i j)) (and-both (isNamed J h i j) _ t (lt→ltb (turn h i j) p l))
-
--- how to show that they agree
-agrees : (J K : Job) (p : ℕ) (h : Group) (i j : ℕ) → (T (isNamed K h i j) → T (isNamed J h i j) × (turn h i j < p))
-    → (T (isNamed J h i j) → turn h i j < p → T (isNamed K h i j)) → isNamed K h i j ≡ (isNamed J h i j && ltb (turn h i j) p)
-agrees J K p h i j f g =
-    let a : Bool = isNamed J h i j in
-    let b : Bool = ltb (turn h i j) p in
-    both-ways (isNamed K h i j) (a && b) (λ t. let (x, y) = f t in and-both a b x (lt→ltb (turn h i j) p y))
-    (λ t. g (and-left a b t) (ltb→lt (turn h i j) p (and-right a b t)))
-
--- nothing is named from p to q
-partly-skip : (J : Job) (p q : ℕ) (R : Reader) → Partly J p R → p ≤ q → ((h : Group) (i j : ℕ) → T (isNamed J h i j) → p ≤ turn h i j → turn h i j < q → ⊥)
-    → Partly J q R
-partly-skip J p q R s l none-named =
+-- nothing has a value from p to q
+partly-skip : (J : Job) (p q : ℕ) (R : Reader) → Partly J p R → p ≤ q
+    → ((h : Group) (i j e : ℕ) → 0 < valueAt J h i j e → p ≤ turn h i j e → turn h i j e < q → ⊥) → Partly J q R
+partly-skip J p q R s l none-here =
     record {
       stage = s .stage;
       next = omega (arith, s .next);
       proper = s .proper;
       alike = s .alike;
-      agree = λ h i j.
-          agrees J (R .job) q h i j (λ t. let (x, y) = partly-before J p R s h i j t in (x, omega arith))
-          (λ t k. partly-named J p R s h i j t (by h i j t k (ltb (turn h i j) p) (ltb→lt (turn h i j) p) (nltb→le (turn h i j) p)));
+      agree = λ h i j e.
+          s .agree h i j e
+          ∙ before-more (turn h i j e) p q (valueAt J h i j e) l
+          (λ a b. zero-so (valueAt J h i j e) (λ k. none-here h i j e k a b));
     }
-  where
-    by : (h : Group) (i j : ℕ) → T (isNamed J h i j) → turn h i j < q → (b : Bool) → (T b → turn h i j < p) → (T (not b) → p ≤ turn h i j) → turn h i j < p
-    by h i j t k true f g = f tt
-    by h i j t k false f g = absurd (none-named h i j t (g tt) k)
 
 -- ---- a line that the job writes may stand
 
-may-name : (J K : Job) → Alike K J → ((h : Group) (i j : ℕ) → T (isNamed K h i j) → T (isNamed J h i j)) → (g : Group) (r c : ℕ) → T (isNamed J g r c)
-    → T (names K g r c)
+-- what the word says of an entry that is told
+told : (d n : ℕ) (b : Bool) → 0 < when (eqb d 0 && b) n → T (eqb d 0 && eqb (when (eqb d 0 && b) n) n)
+told d n b l =
+    let t : T (eqb d 0 && b) = when-some (eqb d 0 && b) n l in
+    and-both (eqb d 0) (eqb (when (eqb d 0 && b) n) n) (and-left (eqb d 0) b t)
+    (subst (λ (m : ℕ). T (eqb m n)) (sym (when-so (eqb d 0 && b) n t)) (eqb-refl n))
+
+may-name : (J K : Job) → Alike K J → ((h : Group) (i j e : ℕ) → 0 < valueAt K h i j e → valueAt K h i j e ≡ valueAt J h i j e)
+    → (g : Group) (r c d : ℕ) → 0 < valueAt J g r c d → T (names K g r c d (valueAt J g r c d))
 unfolding isChosen isMissing isClosed
-may-name J K a f chosenPins r c t =
-    subst₂ (λ (n m : ℕ). T (ltb r n && ltb c m)) (sym (a .rows)) (sym (a .columns)) (and-left (isPin J r c) (eqb (J .mark r c) 1) t)
-may-name J K a f missingPins r c t =
+may-name J K a f chosenPins r c d l =
+    let t : T (isChosen J r c) = and-right (eqb d 0) (isChosen J r c) (when-some (eqb d 0 && isChosen J r c) 1 l) in
+    and-both (isPin K r c) (says chosenPins d (valueAt J chosenPins r c d))
+    (subst₂ (λ (n m : ℕ). T (ltb r n && ltb c m)) (sym (a .rows)) (sym (a .columns)) (and-left (isPin J r c) (eqb (J .mark r c) 1) t))
+    (told d 1 (isChosen J r c) l)
+may-name J K a f missingPins r c d l =
+    let t : T (isMissing J r c) = and-right (eqb d 0) (isMissing J r c) (when-some (eqb d 0 && isMissing J r c) 2 l) in
     let two : J .mark r c ≡ 2 = eqb→eq (J .mark r c) 2 (and-right (isPin J r c) (eqb (J .mark r c) 2) t) in
     let pin : T (isPin K r c) =
     subst₂ (λ (n m : ℕ). T (ltb r n && ltb c m)) (sym (a .rows)) (sym (a .columns)) (and-left (isPin J r c) (eqb (J .mark r c) 2) t) in
-    and-both (isPin K r c) _ pin (not-T (eqb (K .mark r c) 1) (λ u.
-    absurd (omega (arith, two, eqb→eq (J .mark r c) 1 (and-right (isPin J r c) _ (f chosenPins r c (and-both (isPin K r c) _ pin u)))))))
-may-name J K a f closedTiles r c t =
-    subst₂ (λ (n m : ℕ). T (ltb (suc r) n && ltb (suc c) m)) (sym (a .rows)) (sym (a .columns)) (and-left (isTile J r c) (eqb (J .state r c) 1) t)
+    let chosen : T (eqb (K .mark r c) 1) → T (isChosen J r c) =
+    λ u. let one : valueAt K chosenPins r c 0 ≡ 1 = when-so (isPin K r c && eqb (K .mark r c) 1) 1 (and-both (isPin K r c) (eqb (K .mark r c) 1) pin u) in
+    when-some (isChosen J r c) 1 (omega (arith, one, f chosenPins r c 0 (omega arith))) in
+    let unchosen : Bool = not (eqb (K .mark r c) 1) in
+    and-both (isPin K r c && unchosen) (says missingPins d (valueAt J missingPins r c d))
+    (and-both (isPin K r c) unchosen pin (not-T (eqb (K .mark r c) 1) (λ u.
+    absurd (omega (arith, two, eqb→eq (J .mark r c) 1 (and-right (isPin J r c) (eqb (J .mark r c) 1) (chosen u)))))))
+    (told d 2 (isMissing J r c) l)
+may-name J K a f closedTiles r c d l =
+    let t : T (isClosed J r c) = and-right (eqb d 0) (isClosed J r c) (when-some (eqb d 0 && isClosed J r c) 1 l) in
+    and-both (isTile K r c) (says closedTiles d (valueAt J closedTiles r c d))
+    (subst₂ (λ (n m : ℕ). T (ltb (suc r) n && ltb (suc c) m)) (sym (a .rows)) (sym (a .columns)) (and-left (isTile J r c) (eqb (J .state r c) 1) t))
+    (told d 1 (isClosed J r c) l)
 
-in-turn : (R : Reader) (g : Group) (r c : ℕ) → 1 ≤ rank (R .stage) → due R ≤ turn g r c → r < 40 → c < 40 → T (inTurn R g r c)
-in-turn R g r c a d lr lc =
+in-turn : (R : Reader) (g : Group) (r c d : ℕ) → 1 ≤ rank (R .stage) → due R ≤ turn g r c d → r < 40 → c < 40 → d < 4 → T (inTurn R g r c d)
+in-turn R g r c d a l lr lc ld =
     let n : ℕ = rank (R .stage) in
     let m : ℕ = rank (within g) in
     and-both (leb 1 n) _ (le→leb 1 n a)
-    (and-both (leb n m) _ (le→leb n m (omega arith)) (le→leb (when (eqb n m) (R .from)) (40 * r + c) (by (eqb n m) (same? n m))))
+    (and-both (leb n m) _ (le→leb n m (omega arith)) (le→leb (when (eqb n m) (R .from)) (keyOf r c d) (by (eqb n m) (same? n m))))
   where
-    by : (b : Bool) → Same (rank (R .stage)) (rank (within g)) b → when b (R .from) ≤ 40 * r + c
+    by : (b : Bool) → Same (rank (R .stage)) (rank (within g)) b → when b (R .from) ≤ keyOf r c d
     by true (same e) = omega arith
     by false (other e) = omega arith
 
@@ -139,95 +164,106 @@ asking-so false R t = absurd t
 -- ---- cell by cell
 
 module _ (J : Job) (proper : Proper J) where
-  -- what J names lies below 40 by 40
-  small : (h : Group) (i j : ℕ) → T (isNamed J h i j) → (i < 40) × (j < 40)
-  small h i j t =
-      let (a, b) = named-inside J h i j t in
+  -- what has a value lies below 40 by 40
+  small : (h : Group) (i j e : ℕ) → 0 < valueAt J h i j e → (i < 40) × (j < 40) × (e < 4)
+  small h i j e l =
+      let (a, b, d) = value-inside J h i j e l in
       let (n, m) = proper-size J proper in
       omega arith
 
-  module _ (g : Group) (r c : ℕ) (here : T (isNamed J g r c)) where
-    -- one turn, one cell
-    moved : (P : Group → ℕ → ℕ → Type 0) (h : Group) (i j : ℕ) → i < 40 → j < 40 → turn g r c ≡ turn h i j → P g r c → P h i j
-    moved P h i j li lj e p =
-        let (lr, lc) = small g r c here in
-        let (x, y, z) = turn-same g h r c i j lr lc li lj e in
-        subst (λ (k : Group). P k i j) x (subst₂ (λ (k l : ℕ). P g k l) y z p)
+  module _ (g : Group) (r c d : ℕ) (here : 0 < valueAt J g r c d) where
+    abbrev value : ℕ
+    value = valueAt J g r c d
 
     after : Reader → Reader
-    after R = record { stage = within g; from = 40 * r + c + 1; job = named (R .job) g r c }
+    after R = record { stage = within g; from = keyOf r c d + 1; job = named (R .job) g r c d value }
 
-    line-agrees : (R : Reader) → Partly J (turn g r c) R → T (names (R .job) g r c) → (h : Group) (i j : ℕ)
-        → isNamed (named (R .job) g r c) h i j ≡ (isNamed J h i j && ltb (turn h i j) (turn g r (suc c)))
-    line-agrees R s may h i j =
-        let b : Bool = eqb (turn h i j) (turn g r c) in
-        let v : Same (turn h i j) (turn g r c) b = same? (turn h i j) (turn g r c) in
-        agrees J (named (R .job) g r c) (turn g r (suc c)) h i j (forth b v) (back b v)
+    line-agrees : (R : Reader) → Partly J (turn g r c d) R → T (names (R .job) g r c d value) → (h : Group) (i j e : ℕ)
+        → valueAt (named (R .job) g r c d value) h i j e ≡ when (ltb (turn h i j e) (turn g r c (suc d))) (valueAt J h i j e)
+    line-agrees R s may h i j e = by (eqb (turn h i j e) (turn g r c d)) (same? (turn h i j e) (turn g r c d))
       where
-        others : turn h i j ≢ turn g r c → isNamed (named (R .job) g r c) h i j ≡ isNamed (R .job) h i j
-        others = named-else (R .job) g r c may (λ k l t. absurd (omega (arith, partly-before J (turn g r c) R s k r c t .1))) h i j
+        others : turn h i j e ≢ turn g r c d → valueAt (named (R .job) g r c d value) h i j e ≡ valueAt (R .job) h i j e
+        others =
+            named-else (R .job) g r c d value may
+            (λ k x l p. omega (arith, l, partly-before J (turn g r c d) R s k r c x p .0, names-inside (R .job) g r c d value may .2)) h i j e
 
-        forth : (b : Bool) → Same (turn h i j) (turn g r c) b → T (isNamed (named (R .job) g r c) h i j)
-            → T (isNamed J h i j) × (turn h i j < turn g r (suc c))
-        forth true (same e) t =
-            let (li, lj) = named-inside (named (R .job) g r c) h i j t in
-            let (n, m) = proper-size (named (R .job) g r c) (named-proper (R .job) g r c (s .proper) may) in
-            (moved (λ k x y. T (isNamed J k x y)) h i j (omega arith) (omega arith) (sym e) here, omega arith)
-        forth false (other d) t =
-            let (x, y) = partly-before J (turn g r c) R s h i j (subst T (others d) t) in
-            (x, omega arith)
+        moved : (i < 40) × (j < 40) × (e < 4) → turn h i j e ≡ turn g r c d → valueAt (named (R .job) g r c d value) h i j e ≡ valueAt J h i j e
+        moved l q =
+            let (x, y, z, w) = turn-same h g i j e r c d l (small g r c d here) q in
+            (λ t. valueAt (named (R .job) g r c d value) (x t) (y t) (z t) (w t))
+            ∙ (named-here (R .job) g r c d value may ∙ sym (λ t. valueAt J (x t) (y t) (z t) (w t)))
 
-        back : (b : Bool) → Same (turn h i j) (turn g r c) b → T (isNamed J h i j) → turn h i j < turn g r (suc c)
-            → T (isNamed (named (R .job) g r c) h i j)
-        back true (same e) t l =
-            let (li, lj) = small h i j t in
-            moved (λ k x y. T (isNamed (named (R .job) g r c) k x y)) h i j li lj (sym e) (named-here (R .job) g r c may)
-        back false (other d) t l = subst T (sym (others d)) (partly-named J (turn g r c) R s h i j t (omega arith))
+        inside : 0 < valueAt (named (R .job) g r c d value) h i j e → (i < 40) × (j < 40) × (e < 4)
+        inside l =
+            let (a, b, x) = value-inside (named (R .job) g r c d value) h i j e l in
+            let (n, m) = proper-size (named (R .job) g r c d value) (named-proper (R .job) g r c d value (s .proper) may) in
+            omega arith
 
-    partly-line : (R : Reader) → Partly J (turn g r c) R → Leads R (lineBytes (groupLine g r c)) (Partly J (turn g r (suc c)))
+        by : (b : Bool) → Same (turn h i j e) (turn g r c d) b → valueAt (named (R .job) g r c d value) h i j e ≡ when (ltb (turn h i j e) (turn g r c (suc d))) (valueAt J h i j e)
+        by true (same q) =
+            equal-some (valueAt (named (R .job) g r c d value) h i j e) (valueAt J h i j e) (λ l. moved (inside l) q) (λ l. moved (small h i j e l) q)
+            ∙ sym (before (turn h i j e) (turn g r c (suc d)) (valueAt J h i j e) (omega arith))
+        by false (other n) =
+            others n
+            ∙ (s .agree h i j e
+            ∙ before-more (turn h i j e) (turn g r c d) (turn g r c (suc d)) (valueAt J h i j e) (omega arith) (λ a b. absurd (n (omega arith))))
+
+    partly-line : (R : Reader) → Partly J (turn g r c d) R → Leads R (lineBytes (groupLine g r c d value)) (Partly J (turn g r c (suc d)))
     unfolding admit after
     partly-line R s =
-        let (lr, lc) = small g r c here in
-        let may : T (names (R .job) g r c) = may-name J (R .job) (s .alike) (λ h i j t. partly-before J (turn g r c) R s h i j t .0) g r c here in
-        let turns : T (inTurn R g r c) = in-turn R g r c (s .stage .0) (s .next) lr lc in
-        leads-line (groupLine g r c) (after R)
-        (asking-so (inTurn R g r c && names (R .job) g r c) (after R) (and-both (inTurn R g r c) _ turns may))
+        let (lr, lc, ld) = small g r c d here in
+        let may : T (names (R .job) g r c d value) =
+        may-name J (R .job) (s .alike) (λ h i j e l. partly-before J (turn g r c d) R s h i j e l .1) g r c d here in
+        let turns : T (inTurn R g r c d) = in-turn R g r c d (s .stage .0) (s .next) lr lc ld in
+        leads-line (groupLine g r c d value) (after R)
+        (asking-so (inTurn R g r c d && names (R .job) g r c d value) (after R) (and-both (inTurn R g r c d) _ turns may))
         (record {
           stage = omega (arith, rank-group g .0, rank-group g .1);
           next = omega arith;
-          proper = named-proper (R .job) g r c (s .proper) may;
-          alike = named-alike (R .job) J g r c (s .alike);
+          proper = named-proper (R .job) g r c d value (s .proper) may;
+          alike = named-alike (R .job) J g r c d value (s .alike);
           agree = line-agrees R s may;
         })
 
-  partly-cell : (g : Group) (r c : ℕ) → r < J .rows → c < J .columns → (R : Reader) → Partly J (turn g r c) R
-      → Leads R (only (isNamed J g r c) (lineBytes (groupLine g r c))) (Partly J (turn g r (suc c)))
-  partly-cell g r c lr lc R s = by (isNamed J g r c) refl
+  partly-side : (g : Group) (r c d : ℕ) → r < J .rows → c < J .columns → d < 4 → (R : Reader) → Partly J (turn g r c d) R
+      → Leads R (valueLine g r c d (valueAt J g r c d)) (Partly J (turn g r c (suc d)))
+  partly-side g r c d lr lc ld R s = by (valueAt J g r c d) refl
     where
-      by : (b : Bool) → isNamed J g r c ≡ b → Leads R (only b (lineBytes (groupLine g r c))) (Partly J (turn g r (suc c)))
-      by true e = partly-line g r c (so e) R s
-      by false e =
+      by : (n : ℕ) → valueAt J g r c d ≡ n → Leads R (valueLine g r c d n) (Partly J (turn g r c (suc d)))
+      by zero e =
           let (n, m) = proper-size J proper in
-          leads-none (partly-skip J (turn g r c) (turn g r (suc c)) R s (omega arith)
-          (λ h i j t a b. subst T e (moved h i j t (λ k x y. T (isNamed J k x y)) g r c (omega arith) (omega arith) (omega arith) t)))
+          leads-none (partly-skip J (turn g r c d) (turn g r c (suc d)) R s (omega arith) (λ h i j k l a b.
+          let (x, y, z, w) = turn-same h g i j k r c d (small h i j k l) (omega arith) (omega arith) in
+          let q : valueAt J h i j k ≡ valueAt J g r c d = λ t. valueAt J (x t) (y t) (z t) (w t) in
+          omega arith))
+      by (suc n) e =
+          let l : 0 < valueAt J g r c d = omega arith in
+          subst (λ (X : List ℕ). Leads R X (Partly J (turn g r c (suc d)))) (sym (value-line g r c d (valueAt J g r c d) l) ∙ ap (valueLine g r c d) e)
+          (partly-line g r c d l R s)
 
-  partly-row : (g : Group) (r : ℕ) → r < J .rows → (R : Reader) → Partly J (turn g r 0) R
-      → Leads R (each (J .columns) (λ c. only (isNamed J g r c) (lineBytes (groupLine g r c)))) (Partly J (turn g (suc r) 0))
+  partly-cell : (g : Group) (r c : ℕ) → r < J .rows → c < J .columns → (R : Reader) → Partly J (turn g r c 0) R
+      → Leads R (each 4 (λ d. valueLine g r c d (valueAt J g r c d))) (Partly J (turn g r (suc c) 0))
+  partly-cell g r c lr lc R s =
+      leads-then (leads-each 4 (λ d. Partly J (turn g r c d)) (λ d ld. partly-side g r c d lr lc ld) R s)
+      (λ S q. partly-skip J (turn g r c 4) (turn g r (suc c) 0) S q (omega arith) (λ h i j e l a b. omega arith))
+
+  partly-row : (g : Group) (r : ℕ) → r < J .rows → (R : Reader) → Partly J (turn g r 0 0) R
+      → Leads R (each (J .columns) (λ c. each 4 (λ d. valueLine g r c d (valueAt J g r c d)))) (Partly J (turn g (suc r) 0 0))
   partly-row g r lr R s =
       let (n, m) = proper-size J proper in
-      leads-then (leads-each (J .columns) (λ c. Partly J (turn g r c)) (λ c lc. partly-cell g r c lr lc) R s)
-      (λ S q. partly-skip J (turn g r (J .columns)) (turn g (suc r) 0) S q (omega arith) (λ h i j t a b.
-      let (li, lj) = named-inside J h i j t in
+      leads-then (leads-each (J .columns) (λ c. Partly J (turn g r c 0)) (λ c lc. partly-cell g r c lr lc) R s)
+      (λ S q. partly-skip J (turn g r (J .columns) 0) (turn g (suc r) 0 0) S q (omega arith) (λ h i j e l a b.
+      let (li, lj, le) = value-inside J h i j e l in
       let x : rank (within h) ≡ rank (within g) = omega arith in
       let y : i ≡ r = omega arith in
       omega arith))
 
-  partly-group : (g : Group) (R : Reader) → Partly J (turn g 0 0) R → Leads R (groupText J g) (Partly J (turn g 40 0))
+  partly-group : (g : Group) (R : Reader) → Partly J (turn g 0 0 0) R → Leads R (groupText J g) (Partly J (turn g 40 0 0))
   partly-group g R s =
       let (n, m) = proper-size J proper in
-      leads-then (leads-each (J .rows) (λ r. Partly J (turn g r 0)) (λ r lr. partly-row g r lr) R s)
-      (λ S q. partly-skip J (turn g (J .rows) 0) (turn g 40 0) S q (omega arith) (λ h i j t a b.
-      let (li, lj) = named-inside J h i j t in
+      leads-then (leads-each (J .rows) (λ r. Partly J (turn g r 0 0)) (λ r lr. partly-row g r lr) R s)
+      (λ S q. partly-skip J (turn g (J .rows) 0 0) (turn g 40 0 0) S q (omega arith) (λ h i j e l a b.
+      let (li, lj, le) = value-inside J h i j e l in
       let x : rank (within h) ≡ rank (within g) = omega arith in
       omega arith))
 
@@ -237,7 +273,7 @@ module _ (J : Job) (proper : Proper J) where
   plain : Reader
   plain = record { stage = afterArray; from = 0; job = fresh (J .rows) (J .columns) (J .O) (J .D) (J .E) }
 
-  partly-array : Leads start (lineBytes (arrayLine (J .rows) (J .columns) (J .O) (J .D) (J .E))) (Partly J (turn chosenPins 0 0))
+  partly-array : Leads start (lineBytes (arrayLine (J .rows) (J .columns) (J .O) (J .D) (J .E))) (Partly J (6400 * 2))
   unfolding admit plain
   partly-array =
       leads-line (arrayLine (J .rows) (J .columns) (J .O) (J .D) (J .E)) plain
@@ -248,16 +284,16 @@ module _ (J : Job) (proper : Proper J) where
         next = omega arith;
         proper = fresh-proper (J .rows) (J .columns) (J .O) (J .D) (J .E) (proper .array) (proper .caps);
         alike = record { rows = refl; columns = refl; O = refl; D = refl; E = refl };
-        agree = λ h i j.
-            agrees J (plain .job) (turn chosenPins 0 0) h i j (λ t. absurd (fresh-none (J .rows) (J .columns) (J .O) (J .D) (J .E) h i j t))
-            (λ t l. absurd (omega (arith, rank-group h .0)));
+        agree = λ h i j e.
+            fresh-none (J .rows) (J .columns) (J .O) (J .D) (J .E) h i j e
+            ∙ sym (behind (turn h i j e) (6400 * 2) (valueAt J h i j e) (omega (arith, rank-group h .0)));
       })
 
   -- the end is reached with the job
   Done : Reader → Type 0
   Done R = (R .stage ≡ finished) × (R .job ≡ J)
 
-  partly-end : (R : Reader) → Partly J (turn closedTiles 40 0) R → Leads R (lineBytes endLine) Done
+  partly-end : (R : Reader) → Partly J (6400 * 5) R → Leads R (lineBytes endLine) Done
   unfolding admit Done
   partly-end R s =
       let S : Reader = record { stage = finished; from = 0; job = R .job } in
@@ -265,17 +301,29 @@ module _ (J : Job) (proper : Proper J) where
       (asking-so (leb 1 (rank (R .stage)) && ltb (rank (R .stage)) 5) S
       (and-both (leb 1 (rank (R .stage))) _ (le→leb 1 (rank (R .stage)) (s .stage .0)) (lt→ltb (rank (R .stage)) 5 (omega (arith, s .stage .1))))) (
         refl,
-        job-known (R .job) J (s .proper) proper (s .alike) (λ h i j.
-            both-ways (isNamed (R .job) h i j) (isNamed J h i j) (λ t. partly-before J (turn closedTiles 40 0) R s h i j t .0)
-            (λ t. let (li, lj) = small h i j t in partly-named J (turn closedTiles 40 0) R s h i j t (omega (arith, rank-group h .1)))),
+        job-known (R .job) J (s .proper) proper (s .alike) (λ h i j e.
+            s .agree h i j e
+            ∙ equal-some (when (ltb (turn h i j e) (6400 * 5)) (valueAt J h i j e)) (valueAt J h i j e)
+            (λ l. before (turn h i j e) (6400 * 5) (valueAt J h i j e) (ltb→lt _ _ (when-some (ltb (turn h i j e) (6400 * 5)) (valueAt J h i j e) l)))
+            (λ l. let (li, lj, le) = small h i j e l in
+            before (turn h i j e) (6400 * 5) (valueAt J h i j e) (omega (arith, rank-group h .1)))),
       )
+
+  -- the groups from one rank on, and the end
+  partly-groups : (n : ℕ) (l : List Group) → Ranked n l → n + length l ≡ 5 → (R : Reader) → Partly J (6400 * n) R
+      → Leads R (listed (groupText J) l (lineBytes endLine)) Done
+  partly-groups n [] q e R s =
+      let i : n ≡ 5 = omega arith in
+      partly-end R (subst (λ (m : ℕ). Partly J (6400 * m) R) i s)
+  partly-groups n (g ∷ l) (q, k) e R s =
+      let i : 6400 * n ≡ turn g 0 0 0 = omega arith in
+      let j : turn g 40 0 0 ≡ 6400 * suc n = omega arith in
+      leads-append (partly-group g R (subst (λ (m : ℕ). Partly J m R) i s))
+      (λ S t. partly-groups (suc n) l k (omega arith) S (subst (λ (m : ℕ). Partly J m S) j t))
 
   reads-text : Leads start (textOf J) Done
   unfolding textOf
-  reads-text =
-      leads-append partly-array
-      (λ A s. leads-append (partly-group chosenPins A s)
-      (λ B t. leads-append (partly-group missingPins B t) (λ C u. leads-append (partly-group closedTiles C u) partly-end)))
+  reads-text = leads-append partly-array (partly-groups 2 groups groups-ranked refl)
 
 pub reads-written : (J : Job) → Proper J → Reading (textOf J) (reads J)
 unfolding Done

@@ -14,7 +14,7 @@ use Rattle.model.specs.Job.{Job, fresh, marked, closed, isChosen, isMiss
 use Rattle.model.specs.Text.{chosenPins, missingPins, closedTiles, Line, arrayLine, groupLine, endLine, lineBytes, Stage, begin, afterArray, finished}
 use Rattle.model.specs.Text.{within, rank, Reader, admit, Verdict, reads, wrongAt, Reads, ended, line, wrong, Reading, textOf}
 use Rattle.model.specs.Examples.{job64}
-use Rattle.model.proofs.TextUnique.{line-unique, line-some}
+use Rattle.model.proofs.TextUnique.{Says, admit-says, line-unique, line-some}
 
 -- ---- the bytes
 
@@ -75,11 +75,11 @@ begun rest r = line (arrayLine 2 2 1 2 0) (after afterArray 0 plain) rest refl r
 
 chosen-read : {v : Verdict} (rest : List ℕ) → Reads chosenOnce 45 rest v → Reading (array64 ++ (chosen64 ++ rest)) v
 unfolding admit lineBytes
-chosen-read rest r = begun (chosen64 ++ rest) (line (groupLine chosenPins 0 0) chosenOnce rest refl refl r)
+chosen-read rest r = begun (chosen64 ++ rest) (line (groupLine chosenPins 0 0 0 1) chosenOnce rest refl refl r)
 
 closed-read : {v : Verdict} (rest : List ℕ) → Reads (after (within closedTiles) 1 job64) 58 rest v → Reading (array64 ++ (chosen64 ++ (closed64 ++ rest))) v
 unfolding admit lineBytes
-closed-read rest r = chosen-read (closed64 ++ rest) (line (groupLine closedTiles 0 0) (after (within closedTiles) 1 job64) rest refl refl r)
+closed-read rest r = chosen-read (closed64 ++ rest) (line (groupLine closedTiles 0 0 0 1) (after (within closedTiles) 1 job64) rest refl refl r)
 
 end-read : {v : Verdict} (rest : List ℕ) → Reads (after finished 0 job64) 64 rest v → Reading (text64 ++ rest) v
 unfolding admit lineBytes
@@ -91,9 +91,10 @@ none-some : (R : Reader) → _≢_ {A = Option Reader} none (some R)
 none-some R e = let w : _≡_ {A = ℕ} 0 1 = cc in absurd (omega arith)
 
 -- a line that may not stand here
-line-refused : {R : Reader} {o : ℕ} (l : Line) (rest : List ℕ) → admit R l ≡ none → Reads R o (lineBytes l ++ rest) (wrongAt o)
-line-refused {R} l rest e =
-    wrong (λ s q. line-some l rest (sym q)) (λ m R′ more a q. none-some R′ (sym e ∙ (ap (admit R) (line-unique l m rest more q .0) ∙ a)))
+line-refused : {R : Reader} {o : ℕ} (l : Line) (rest : List ℕ) → Says l → admit R l ≡ none → Reads R o (lineBytes l ++ rest) (wrongAt o)
+line-refused {R} l rest t e =
+    wrong (λ s q. line-some l rest (sym q))
+    (λ m R′ more a q. none-some R′ (sym e ∙ (ap (admit R) (line-unique l m rest more t (admit-says R m R′ a) q .0) ∙ a)))
 
 -- bytes that begin no line
 abbrev NoLine : List ℕ → Type 0
@@ -113,9 +114,9 @@ byte i e = ap (λ (l : List ℕ). getD l i 0) e
 short : (text : List ℕ) → getD text 1 0 ≡ 0 → NoLine text
 unfolding lineBytes
 short text z (arrayLine a b c d e) rest q = omega (arith, byte 1 q)
-short text z (groupLine chosenPins r c) rest q = omega (arith, byte 1 q)
-short text z (groupLine missingPins r c) rest q = omega (arith, byte 1 q)
-short text z (groupLine closedTiles r c) rest q = omega (arith, byte 1 q)
+short text z (groupLine chosenPins r c d v) rest q = omega (arith, byte 1 q)
+short text z (groupLine missingPins r c d v) rest q = omega (arith, byte 1 q)
+short text z (groupLine closedTiles r c d v) rest q = omega (arith, byte 1 q)
 short text z endLine rest q = omega (arith, byte 1 q)
 
 -- ---- the 64-byte text
@@ -135,8 +136,8 @@ missing64 =
     let J : Job = marked (marked plain 0 0 1) 0 1 2 in
     let K : Job = closed J 0 0 1 in
     chosen-read (missingForm zeroOne ++ (closed64 ++ end64))
-    (line (groupLine missingPins 0 1) (after (within missingPins) 2 J) (closed64 ++ end64) refl refl
-    (line (groupLine closedTiles 0 0) (after (within closedTiles) 1 K) end64 refl refl (line endLine (after finished 0 K) [] refl refl (ended refl refl))))
+    (line (groupLine missingPins 0 1 0 2) (after (within missingPins) 5 J) (closed64 ++ end64) refl refl
+    (line (groupLine closedTiles 0 0 0 1) (after (within closedTiles) 1 K) end64 refl refl (line endLine (after finished 0 K) [] refl refl (ended refl refl))))
 
 -- ---- a line that may not stand there
 
@@ -145,18 +146,18 @@ pub swapped64 : Reading (array64 ++ (closed64 ++ (chosen64 ++ end64))) (wrongAt 
 unfolding admit lineBytes
 swapped64 =
     begun (closed64 ++ (chosen64 ++ end64))
-    (line (groupLine closedTiles 0 0) (after (within closedTiles) 1 (closed plain 0 0 1)) (chosen64 ++ end64) refl refl
-    (line-refused (groupLine chosenPins 0 0) end64 refl))
+    (line (groupLine closedTiles 0 0 0 1) (after (within closedTiles) 1 (closed plain 0 0 1)) (chosen64 ++ end64) refl refl
+    (line-refused (groupLine chosenPins 0 0 0 1) end64 tt refl))
 
 -- the chosen pin twice: not strictly rising
 pub twice64 : Reading (array64 ++ (chosen64 ++ (chosen64 ++ (closed64 ++ end64)))) (wrongAt 45)
 unfolding admit lineBytes
-twice64 = chosen-read (chosen64 ++ (closed64 ++ end64)) (line-refused (groupLine chosenPins 0 0) (closed64 ++ end64) refl)
+twice64 = chosen-read (chosen64 ++ (closed64 ++ end64)) (line-refused (groupLine chosenPins 0 0 0 1) (closed64 ++ end64) tt refl)
 
 -- the chosen pin missing too: "No pin in two groups."
 pub both64 : Reading (array64 ++ (chosen64 ++ (missingForm zeroZero ++ (closed64 ++ end64)))) (wrongAt 45)
 unfolding admit lineBytes
-both64 = chosen-read (missingForm zeroZero ++ (closed64 ++ end64)) (line-refused (groupLine missingPins 0 0) (closed64 ++ end64) refl)
+both64 = chosen-read (missingForm zeroZero ++ (closed64 ++ end64)) (line-refused (groupLine missingPins 0 0 0 2) (closed64 ++ end64) tt refl)
 
 -- ---- bytes that begin no line
 
@@ -179,9 +180,9 @@ unfinished64 = closed-read endForm (bytes-refused (unfinished (within closedTile
   where
     none-begins : NoLine endForm
     none-begins (arrayLine a b c d e) rest q = omega (arith, byte 1 q)
-    none-begins (groupLine chosenPins r c) rest q = omega (arith, byte 1 q)
-    none-begins (groupLine missingPins r c) rest q = omega (arith, byte 1 q)
-    none-begins (groupLine closedTiles r c) rest q = omega (arith, byte 1 q)
+    none-begins (groupLine chosenPins r c d v) rest q = omega (arith, byte 1 q)
+    none-begins (groupLine missingPins r c d v) rest q = omega (arith, byte 1 q)
+    none-begins (groupLine closedTiles r c d v) rest q = omega (arith, byte 1 q)
     none-begins endLine rest q = omega (arith, byte 5 q)
 
 -- (chosen 00 0): "no leading zeros"
@@ -195,7 +196,7 @@ zeros64 = begun (chosenForm (48 ∷ zeroZero) ++ (closed64 ++ end64)) (bytes-ref
 
     none-begins : NoLine (chosenForm (48 ∷ zeroZero) ++ (closed64 ++ end64))
     none-begins (arrayLine a b c d e) rest q = omega (arith, byte 1 q)
-    none-begins (groupLine chosenPins r c) rest q = no-number (leb 10 r) r _ _ (leb→le 10 r) (ap (drop 8) (simp append-assoc at q))
-    none-begins (groupLine missingPins r c) rest q = omega (arith, byte 1 q)
-    none-begins (groupLine closedTiles r c) rest q = omega (arith, byte 2 q)
+    none-begins (groupLine chosenPins r c d v) rest q = no-number (leb 10 r) r _ _ (leb→le 10 r) (ap (drop 8) (simp append-assoc at q))
+    none-begins (groupLine missingPins r c d v) rest q = omega (arith, byte 1 q)
+    none-begins (groupLine closedTiles r c d v) rest q = omega (arith, byte 2 q)
     none-begins endLine rest q = omega (arith, byte 1 q)

@@ -1,48 +1,84 @@
--- Document 01, "Job text": what a job names in its three groups. Every line of a group has its turn, a number that rises along the text; naming a pin or
--- tile changes nothing else that is named; and a proper job is known by its five numbers and what it names. Assumes nothing.
+-- Document 01, "Job text": the values that a job has in its groups. Every line of a group has its turn, a number that rises along the text; a value given
+-- at one turn changes none at another; and a proper job is known by its five numbers and its values. Assumes nothing.
 use mathlib.Core.Path.{_≡_, refl, sym, ap, ap₂, subst, _∙_}
 use mathlib.Core.Logic.{_≢_}
 use mathlib.Core.Bool.{Bool, true, false, not, _&&_}
+use mathlib.Core.List.{List, [], _∷_}
 use Prim.Native.Nat.{ℕ, zero, suc, _+_, _*_, _≤_, _<_}
 use native.Mathlib.Omega.{arith}
-use lib.Dec.{T, T-not, eqb, leb, ltb, eqb→eq, eqb-refl, leb→le, ltb→lt}
-use Rattle.sums.specs.Counting.{when}
-use Rattle.sums.specs.Tests.{and-left, and-right, and-both}
+use lib.Dec.{T, T-not, eqb, leb, ltb, eqb→eq, eqb-refl, leb→le, ltb→lt, lt→ltb}
+use Rattle.sums.specs.Counting.{when, only}
+use Rattle.sums.specs.Tests.{Same, same, other, same?, and-left, and-right, and-both}
 use Rattle.model.specs.Job.{Job, inRange, fresh, put, isPin, isTile, isChosen, isMissing, isClosed, Proper}
-use Rattle.model.specs.Text.{Group, chosenPins, missingPins, closedTiles, within, rank, Reader, names, named, isNamed}
+use Rattle.model.specs.Text.{Group, chosenPins, missingPins, closedTiles, groups, groupLine, says, lineBytes, within, rank, groupOf, keyOf, Reader}
+use Rattle.model.specs.Text.{names, named, valueAt, valueLine}
 use Rattle.model.proofs.Added.{nothing-known}
+use Rattle.model.proofs.TextProper.{by-word, names-says}
 
 -- ---- turns
 
--- the turn of a line: the groups in their order, each by row and then column
-abbrev pub turn : Group → ℕ → ℕ → ℕ
-turn g r c = 1600 * rank (within g) + (40 * r + c)
+-- the turn of a line: the groups in their order, each by row, then column, then side
+abbrev pub turn : Group → ℕ → ℕ → ℕ → ℕ
+turn g r c d = 6400 * rank (within g) + keyOf r c d
 
 -- the least turn that a line of a group may still have
 abbrev pub due : Reader → ℕ
-due R = 1600 * rank (R .stage) + R .from
+due R = 6400 * rank (R .stage) + R .from
 
 pub rank-group : (g : Group) → (2 ≤ rank (within g)) × (rank (within g) ≤ 4)
 rank-group chosenPins = omega arith
 rank-group missingPins = omega arith
 rank-group closedTiles = omega arith
 
-rank-same : (g h : Group) → rank (within g) ≡ rank (within h) → g ≡ h
-rank-same chosenPins chosenPins e = refl
-rank-same chosenPins missingPins e = absurd (omega arith)
-rank-same chosenPins closedTiles e = absurd (omega arith)
-rank-same missingPins chosenPins e = absurd (omega arith)
-rank-same missingPins missingPins e = refl
-rank-same missingPins closedTiles e = absurd (omega arith)
-rank-same closedTiles chosenPins e = absurd (omega arith)
-rank-same closedTiles missingPins e = absurd (omega arith)
-rank-same closedTiles closedTiles e = refl
+pub of-rank : (g : Group) → groupOf (rank (within g)) ≡ g
+unfolding groupOf
+of-rank chosenPins = refl
+of-rank missingPins = refl
+of-rank closedTiles = refl
 
-pub turn-same : (g h : Group) (r c i j : ℕ) → r < 40 → c < 40 → i < 40 → j < 40 → turn g r c ≡ turn h i j → (g ≡ h) × (r ≡ i) × (c ≡ j)
-turn-same g h r c i j lr lc li lj e =
+pub rank-same : (g h : Group) → rank (within g) ≡ rank (within h) → g ≡ h
+rank-same g h e = sym (of-rank g) ∙ (ap groupOf e ∙ of-rank h)
+
+-- groups in the order of their ranks, from n on
+abbrev pub Ranked : ℕ → List Group → Type 0
+Ranked n [] = Unit {0}
+Ranked n (g ∷ l) = (rank (within g) ≡ n) × Ranked (suc n) l
+
+pub groups-ranked : Ranked 2 groups
+groups-ranked = (refl, (refl, (refl, tt)))
+
+pub turn-same : (g h : Group) (r c d i j e : ℕ) → (r < 40) × (c < 40) × (d < 4) → (i < 40) × (j < 40) × (e < 4) → turn g r c d ≡ turn h i j e
+    → (g ≡ h) × (r ≡ i) × (c ≡ j) × (d ≡ e)
+turn-same g h r c d i j e (lr, lc, ld) (li, lj, le) q =
     let x : rank (within g) ≡ rank (within h) = omega arith in
     let y : r ≡ i = omega arith in
-    (rank-same g h x, y, omega arith)
+    let z : c ≡ j = omega arith in
+    (rank-same g h x, y, z, omega arith)
+
+-- ---- numbers under a condition
+
+pub when-so : (b : Bool) (n : ℕ) → T b → when b n ≡ n
+when-so true n t = refl
+when-so false n t = absurd t
+
+pub when-not : (b : Bool) (n : ℕ) → (T b → ⊥) → when b n ≡ 0
+when-not true n f = absurd (f tt)
+when-not false n f = refl
+
+pub when-some : (b : Bool) (n : ℕ) → 0 < when b n → T b
+when-some true n l = tt
+when-some false n l = absurd (omega arith)
+
+pub zero-so : (n : ℕ) → (0 < n → ⊥) → n ≡ 0
+zero-so zero f = refl
+zero-so (suc n) f = absurd (f (omega arith))
+
+pub value-line : (g : Group) (r c d v : ℕ) → 0 < v → valueLine g r c d v ≡ lineBytes (groupLine g r c d v)
+value-line g r c d v l = by (ltb 0 v) (lt→ltb 0 v l)
+  where
+    by : (b : Bool) → T b → only b (lineBytes (groupLine g r c d v)) ≡ lineBytes (groupLine g r c d v)
+    by true t = refl
+    by false t = absurd t
 
 -- ---- what is named
 
@@ -55,16 +91,43 @@ pin-inside K r c t =
 tile-inside : (K : Job) (r c : ℕ) → T (isTile K r c) → (r < K .rows) × (c < K .columns)
 tile-inside K r c t = let (x, y) = pin-inside K (suc r) (suc c) t in omega arith
 
-pub names-inside : (K : Job) (g : Group) (r c : ℕ) → T (names K g r c) → (r < K .rows) × (c < K .columns)
-names-inside K chosenPins r c t = pin-inside K r c t
-names-inside K missingPins r c t = pin-inside K r c (and-left (isPin K r c) (not (eqb (K .mark r c) 1)) t)
-names-inside K closedTiles r c t = tile-inside K r c t
+pub says-some : (g : Group) (d v : ℕ) → T (says g d v) → (d < 4) × (0 < v)
+says-some chosenPins d v t = let (x, y) = by-word d v 1 t in omega arith
+says-some missingPins d v t = let (x, y) = by-word d v 2 t in omega arith
+says-some closedTiles d v t = let (x, y) = by-word d v 1 t in omega arith
 
-pub named-inside : (K : Job) (g : Group) (r c : ℕ) → T (isNamed K g r c) → (r < K .rows) × (c < K .columns)
+names-cell : (K : Job) (g : Group) (r c d v : ℕ) → T (names K g r c d v) → (r < K .rows) × (c < K .columns)
+names-cell K chosenPins r c d v t = pin-inside K r c (and-left (isPin K r c) (says chosenPins d v) t)
+names-cell K missingPins r c d v t =
+    let unchosen : Bool = not (eqb (K .mark r c) 1) in
+    pin-inside K r c (and-left (isPin K r c) unchosen (and-left (isPin K r c && unchosen) (says missingPins d v) t))
+names-cell K closedTiles r c d v t = tile-inside K r c (and-left (isTile K r c) (says closedTiles d v) t)
+
+pub names-inside : (K : Job) (g : Group) (r c d v : ℕ) → T (names K g r c d v) → (r < K .rows) × (c < K .columns) × (d < 4)
+names-inside K g r c d v t =
+    let (x, y) = names-cell K g r c d v t in
+    (x, y, says-some g d v (names-says K g r c d v t) .0)
+
+-- a value that the word says, by its test
+word-value : (d n : ℕ) (b : Bool) → 0 < when (eqb d 0 && b) n → (d < 4) × T b
+word-value d n b l =
+    let t : T (eqb d 0 && b) = when-some (eqb d 0 && b) n l in
+    (omega (arith, eqb→eq d 0 (and-left (eqb d 0) b t)), and-right (eqb d 0) b t)
+
+pub value-inside : (K : Job) (g : Group) (r c d : ℕ) → 0 < valueAt K g r c d → (r < K .rows) × (c < K .columns) × (d < 4)
 unfolding isChosen isMissing isClosed
-named-inside K chosenPins r c t = pin-inside K r c (and-left (isPin K r c) (eqb (K .mark r c) 1) t)
-named-inside K missingPins r c t = pin-inside K r c (and-left (isPin K r c) (eqb (K .mark r c) 2) t)
-named-inside K closedTiles r c t = tile-inside K r c (and-left (isTile K r c) (eqb (K .state r c) 1) t)
+value-inside K chosenPins r c d l =
+    let (x, t) = word-value d 1 (isChosen K r c) l in
+    let (y, z) = pin-inside K r c (and-left (isPin K r c) (eqb (K .mark r c) 1) t) in
+    (y, z, x)
+value-inside K missingPins r c d l =
+    let (x, t) = word-value d 2 (isMissing K r c) l in
+    let (y, z) = pin-inside K r c (and-left (isPin K r c) (eqb (K .mark r c) 2) t) in
+    (y, z, x)
+value-inside K closedTiles r c d l =
+    let (x, t) = word-value d 1 (isClosed K r c) l in
+    let (y, z) = tile-inside K r c (and-left (isTile K r c) (eqb (K .state r c) 1) t) in
+    (y, z, x)
 
 pub proper-size : (K : Job) → Proper K → (K .rows ≤ 40) × (K .columns ≤ 40)
 proper-size K p =
@@ -73,11 +136,15 @@ proper-size K p =
     let most : (n : ℕ) → T (inRange 2 40 n) → n ≤ 40 = λ n t. leb→le n 40 (and-right (leb 2 n) (leb n 40) t) in
     (most (K .rows) (and-left a b (p .array)), most (K .columns) (and-right a b (p .array)))
 
-pub fresh-none : (rows columns O D E : ℕ) (g : Group) (r c : ℕ) → T (isNamed (fresh rows columns O D E) g r c) → ⊥
+-- where no test of an entry is met
+untold : (a b : Bool) (n : ℕ) → when (a && (b && false)) n ≡ 0
+untold a b n = when-not (a && (b && false)) n (λ t. and-right b false (and-right a (b && false) t))
+
+pub fresh-none : (rows columns O D E : ℕ) (g : Group) (r c d : ℕ) → valueAt (fresh rows columns O D E) g r c d ≡ 0
 unfolding isChosen isMissing isClosed
-fresh-none rows columns O D E chosenPins r c t = and-right (isPin (fresh rows columns O D E) r c) false t
-fresh-none rows columns O D E missingPins r c t = and-right (isPin (fresh rows columns O D E) r c) false t
-fresh-none rows columns O D E closedTiles r c t = and-right (isTile (fresh rows columns O D E) r c) false t
+fresh-none rows columns O D E chosenPins r c d = untold (eqb d 0) (isPin (fresh rows columns O D E) r c) 1
+fresh-none rows columns O D E missingPins r c d = untold (eqb d 0) (isPin (fresh rows columns O D E) r c) 2
+fresh-none rows columns O D E closedTiles r c d = untold (eqb d 0) (isTile (fresh rows columns O D E) r c) 1
 
 put-here : (f : ℕ → ℕ → ℕ) (r c v : ℕ) → put f r c v r c ≡ v
 put-here f r c v = by (eqb r r && eqb c c) (and-both (eqb r r) (eqb c c) (eqb-refl r) (eqb-refl c))
@@ -105,33 +172,63 @@ fails : (b : Bool) → (T b → ⊥) → false ≡ b
 fails true n = absurd (n tt)
 fails false n = refl
 
-pub named-here : (K : Job) (g : Group) (r c : ℕ) → T (names K g r c) → T (isNamed (named K g r c) g r c)
-unfolding isChosen isMissing isClosed
-named-here K chosenPins r c t = and-both (isPin K r c) _ t (subst (λ (m : ℕ). T (eqb m 1)) (sym (put-here (K .mark) r c 1)) tt)
-named-here K missingPins r c t =
-    and-both (isPin K r c) _ (and-left (isPin K r c) (not (eqb (K .mark r c) 1)) t) (subst (λ (m : ℕ). T (eqb m 2)) (sym (put-here (K .mark) r c 2)) tt)
-named-here K closedTiles r c t = and-both (isTile K r c) _ t (subst (λ (m : ℕ). T (eqb m 1)) (sym (put-here (K .state) r c 1)) tt)
+-- the value that a word says of a pin or tile, at the entry changed
+put-value : (f : ℕ → ℕ → ℕ) (b : Bool) (r c d v n : ℕ) → T (eqb d 0 && eqb v n) → T b → when (eqb d 0 && (b && eqb (put f r c v r c) n)) n ≡ v
+put-value f b r c d v n t u =
+    let (x, y) = by-word d v n t in
+    let w : Bool = eqb (put f r c v r c) n in
+    let here : T w = subst (λ (m : ℕ). T (eqb m n)) (sym (put-here f r c v)) (and-right (eqb d 0) (eqb v n) t) in
+    when-so (eqb d 0 && (b && w)) n (and-both (eqb d 0) (b && w) (and-left (eqb d 0) (eqb v n) t) (and-both b w u here)) ∙ sym y
 
--- where no later group names the pin
-pub named-else : (K : Job) (g : Group) (r c : ℕ) → T (names K g r c) → ((h : Group) → rank (within g) < rank (within h) → T (isNamed K h r c) → ⊥)
-    → (h : Group) (i j : ℕ) → turn h i j ≢ turn g r c → isNamed (named K g r c) h i j ≡ isNamed K h i j
+pub named-here : (K : Job) (g : Group) (r c d v : ℕ) → T (names K g r c d v) → valueAt (named K g r c d v) g r c d ≡ v
 unfolding isChosen isMissing isClosed
-named-else K chosenPins r c t f chosenPins i j n =
-    ap (λ (b : Bool). isPin K i j && b) (put-test (K .mark) r c 1 1 i j (λ x y. absurd (n (ap₂ (turn chosenPins) x y))))
-named-else K chosenPins r c t f missingPins i j n =
-    ap (λ (b : Bool). isPin K i j && b)
-    (put-test (K .mark) r c 1 2 i j (λ x y. fails (eqb (K .mark r c) 2) (λ u. f missingPins (omega arith) (and-both (isPin K r c) _ t u))))
-named-else K chosenPins r c t f closedTiles i j n = refl
-named-else K missingPins r c t f chosenPins i j n =
-    ap (λ (b : Bool). isPin K i j && b)
-    (put-test (K .mark) r c 2 1 i j (λ x y. fails (eqb (K .mark r c) 1) (T-not (eqb (K .mark r c) 1) (and-right (isPin K r c) _ t))))
-named-else K missingPins r c t f missingPins i j n =
-    ap (λ (b : Bool). isPin K i j && b) (put-test (K .mark) r c 2 2 i j (λ x y. absurd (n (ap₂ (turn missingPins) x y))))
-named-else K missingPins r c t f closedTiles i j n = refl
-named-else K closedTiles r c t f chosenPins i j n = refl
-named-else K closedTiles r c t f missingPins i j n = refl
-named-else K closedTiles r c t f closedTiles i j n =
-    ap (λ (b : Bool). isTile K i j && b) (put-test (K .state) r c 1 1 i j (λ x y. absurd (n (ap₂ (turn closedTiles) x y))))
+named-here K chosenPins r c d v t =
+    put-value (K .mark) (isPin K r c) r c d v 1 (names-says K chosenPins r c d v t) (and-left (isPin K r c) (says chosenPins d v) t)
+named-here K missingPins r c d v t =
+    let unchosen : Bool = not (eqb (K .mark r c) 1) in
+    put-value (K .mark) (isPin K r c) r c d v 2 (names-says K missingPins r c d v t)
+    (and-left (isPin K r c) unchosen (and-left (isPin K r c && unchosen) (says missingPins d v) t))
+named-here K closedTiles r c d v t =
+    put-value (K .state) (isTile K r c) r c d v 1 (names-says K closedTiles r c d v t) (and-left (isTile K r c) (says closedTiles d v) t)
+
+-- a value that a word says is as before, if its test is so at the entry changed
+put-keeps : (f : ℕ → ℕ → ℕ) (b : Bool) (r c v n i j e : ℕ) → (e ≡ 0 → i ≡ r → j ≡ c → eqb v n ≡ eqb (f r c) n)
+    → when (eqb e 0 && (b && eqb (put f r c v i j) n)) n ≡ when (eqb e 0 && (b && eqb (f i j) n)) n
+put-keeps f b r c v n i j e h = by (eqb e 0) (same? e 0)
+  where
+    by : (x : Bool) → Same e 0 x → when (x && (b && eqb (put f r c v i j) n)) n ≡ when (x && (b && eqb (f i j) n)) n
+    by true (same z) = ap (λ (y : Bool). when (b && y) n) (put-test f r c v n i j (h z))
+    by false (other z) = refl
+
+-- where no later group has the pin
+pub named-else : (K : Job) (g : Group) (r c d v : ℕ) → T (names K g r c d v)
+    → ((h : Group) (e : ℕ) → rank (within g) < rank (within h) → 0 < valueAt K h r c e → ⊥)
+    → (h : Group) (i j e : ℕ) → turn h i j e ≢ turn g r c d → valueAt (named K g r c d v) h i j e ≡ valueAt K h i j e
+unfolding isChosen isMissing isClosed
+named-else K chosenPins r c d v t f chosenPins i j e n =
+    let (p, q) = by-word d v 1 (names-says K chosenPins r c d v t) in
+    put-keeps (K .mark) (isPin K i j) r c v 1 i j e (λ z x y. absurd (n (omega arith)))
+named-else K chosenPins r c d v t f missingPins i j e n =
+    let (p, q) = by-word d v 1 (names-says K chosenPins r c d v t) in
+    let none-missing : T (eqb (K .mark r c) 2) → ⊥ =
+    λ u. f missingPins 0 (omega arith) (omega (arith, when-so (isPin K r c && eqb (K .mark r c) 2) 2 (and-both (isPin K r c) _ (and-left (isPin K r c) (says chosenPins d v) t) u))) in
+    put-keeps (K .mark) (isPin K i j) r c v 2 i j e (λ z x y. ap (λ (m : ℕ). eqb m 2) q ∙ fails (eqb (K .mark r c) 2) none-missing)
+named-else K chosenPins r c d v t f closedTiles i j e n = refl
+named-else K missingPins r c d v t f chosenPins i j e n =
+    let unchosen : Bool = not (eqb (K .mark r c) 1) in
+    let (p, q) = by-word d v 2 (names-says K missingPins r c d v t) in
+    let u : T unchosen = and-right (isPin K r c) unchosen (and-left (isPin K r c && unchosen) (says missingPins d v) t) in
+    put-keeps (K .mark) (isPin K i j) r c v 1 i j e
+    (λ z x y. ap (λ (m : ℕ). eqb m 1) q ∙ fails (eqb (K .mark r c) 1) (T-not (eqb (K .mark r c) 1) u))
+named-else K missingPins r c d v t f missingPins i j e n =
+    let (p, q) = by-word d v 2 (names-says K missingPins r c d v t) in
+    put-keeps (K .mark) (isPin K i j) r c v 2 i j e (λ z x y. absurd (n (omega arith)))
+named-else K missingPins r c d v t f closedTiles i j e n = refl
+named-else K closedTiles r c d v t f chosenPins i j e n = refl
+named-else K closedTiles r c d v t f missingPins i j e n = refl
+named-else K closedTiles r c d v t f closedTiles i j e n =
+    let (p, q) = by-word d v 1 (names-says K closedTiles r c d v t) in
+    put-keeps (K .state) (isTile K i j) r c v 1 i j e (λ z x y. absurd (n (omega arith)))
 
 -- ---- a job by what it names
 
@@ -143,10 +240,10 @@ pub record Alike (K J : Job) : Type 0 where
   pub D : K .D ≡ J .D
   pub E : K .E ≡ J .E
 
-pub named-alike : (K J : Job) (g : Group) (r c : ℕ) → Alike K J → Alike (named K g r c) J
-named-alike K J chosenPins r c a = record { rows = a .rows; columns = a .columns; O = a .O; D = a .D; E = a .E }
-named-alike K J missingPins r c a = record { rows = a .rows; columns = a .columns; O = a .O; D = a .D; E = a .E }
-named-alike K J closedTiles r c a = record { rows = a .rows; columns = a .columns; O = a .O; D = a .D; E = a .E }
+pub named-alike : (K J : Job) (g : Group) (r c d v : ℕ) → Alike K J → Alike (named K g r c d v) J
+named-alike K J chosenPins r c d v a = record { rows = a .rows; columns = a .columns; O = a .O; D = a .D; E = a .E }
+named-alike K J missingPins r c d v a = record { rows = a .rows; columns = a .columns; O = a .O; D = a .D; E = a .E }
+named-alike K J closedTiles r c d v a = record { rows = a .rows; columns = a .columns; O = a .O; D = a .D; E = a .E }
 
 -- an entry by its tests
 by-tests : (b : Bool) (m : ℕ) → T (leb m (when b 2)) → m ≡ when (b && eqb m 1) 1 + when (b && eqb m 2) 2
@@ -162,15 +259,15 @@ by-test true zero t = refl
 by-test true (suc zero) t = refl
 by-test true (suc (suc m)) t = absurd (omega (arith, leb→le (suc (suc m)) 1 t))
 
-mark-value : (K : Job) (r c : ℕ) → Proper K → K .mark r c ≡ when (isNamed K chosenPins r c) 1 + when (isNamed K missingPins r c) 2
+mark-value : (K : Job) (r c : ℕ) → Proper K → K .mark r c ≡ valueAt K chosenPins r c 0 + valueAt K missingPins r c 0
 unfolding isChosen isMissing
 mark-value K r c p = by-tests (isPin K r c) (K .mark r c) (p .marks r c)
 
-state-value : (K : Job) (r c : ℕ) → Proper K → K .state r c ≡ when (isNamed K closedTiles r c) 1
+state-value : (K : Job) (r c : ℕ) → Proper K → K .state r c ≡ valueAt K closedTiles r c 0
 unfolding isClosed
 state-value K r c p = by-test (isTile K r c) (K .state r c) (p .states r c)
 
-pub job-known : (K J : Job) → Proper K → Proper J → Alike K J → ((g : Group) (r c : ℕ) → isNamed K g r c ≡ isNamed J g r c) → K ≡ J
+pub job-known : (K J : Job) → Proper K → Proper J → Alike K J → ((g : Group) (r c d : ℕ) → valueAt K g r c d ≡ valueAt J g r c d) → K ≡ J
 job-known K J p q a e =
     λ t. record {
       rows = a .rows t;
@@ -184,7 +281,7 @@ job-known K J p q a e =
     }
   where
     marks : (r c : ℕ) → K .mark r c ≡ J .mark r c
-    marks r c = mark-value K r c p ∙ (ap₂ (λ (x y : Bool). when x 1 + when y 2) (e chosenPins r c) (e missingPins r c) ∙ sym (mark-value J r c q))
+    marks r c = mark-value K r c p ∙ (ap₂ _+_ (e chosenPins r c 0) (e missingPins r c 0) ∙ sym (mark-value J r c q))
 
     states : (r c : ℕ) → K .state r c ≡ J .state r c
-    states r c = state-value K r c p ∙ (ap (λ (x : Bool). when x 1) (e closedTiles r c) ∙ sym (state-value J r c q))
+    states r c = state-value K r c p ∙ (e closedTiles r c 0 ∙ sym (state-value J r c q))

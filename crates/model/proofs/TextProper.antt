@@ -10,8 +10,8 @@ use lib.Dec.{T, eqb, leb, ltb, eqb→eq, leb→le, le→leb}
 use Rattle.sums.specs.Counting.{when}
 use Rattle.sums.specs.Tests.{and-left, and-right}
 use Rattle.model.specs.Job.{Job, arrayFits, capsFit, capsAdmitted, fresh, marked, closed, put, isPin, isTile, Proper}
-use Rattle.model.specs.Text.{Group, chosenPins, missingPins, closedTiles, Line, arrayLine, groupLine, endLine, begin, rank, Reader, asking, inTurn, names}
-use Rattle.model.specs.Text.{named, admit, Verdict, reads, wrongAt, Reads, ended, line, wrong, Reading}
+use Rattle.model.specs.Text.{Group, chosenPins, missingPins, closedTiles, Line, arrayLine, groupLine, endLine, says, begin, rank, Reader, asking, inTurn}
+use Rattle.model.specs.Text.{names, named, admit, Verdict, reads, wrongAt, Reads, ended, line, wrong, Reading}
 use Rattle.model.proofs.Added.{nothing-fits, fits-kept}
 
 -- ---- proper jobs
@@ -77,10 +77,26 @@ pub asked : (b : Bool) (R R′ : Reader) → asking b R ≡ some R′ → T b ×
 asked true R R′ e = (tt, cc)
 asked false R R′ e = let z : _≡_ {A = ℕ} 0 1 = cc in absurd (omega arith)
 
-pub named-proper : (J : Job) (g : Group) (r c : ℕ) → Proper J → T (names J g r c) → Proper (named J g r c)
-named-proper J chosenPins r c p t = marked-proper J r c 1 p t tt
-named-proper J missingPins r c p t = marked-proper J r c 2 p (and-left (isPin J r c) (not (eqb (J .mark r c) 1)) t) tt
-named-proper J closedTiles r c p t = closed-proper J r c 1 p t tt
+-- a line without a tail has no side, and the value that its word says
+pub by-word : (d v n : ℕ) → T (eqb d 0 && eqb v n) → (d ≡ 0) × (v ≡ n)
+by-word d v n t = (eqb→eq d 0 (and-left (eqb d 0) (eqb v n) t), eqb→eq v n (and-right (eqb d 0) (eqb v n) t))
+
+pub names-says : (J : Job) (g : Group) (r c d v : ℕ) → T (names J g r c d v) → T (says g d v)
+names-says J chosenPins r c d v t = and-right (isPin J r c) (says chosenPins d v) t
+names-says J missingPins r c d v t = and-right (isPin J r c && not (eqb (J .mark r c) 1)) (says missingPins d v) t
+names-says J closedTiles r c d v t = and-right (isTile J r c) (says closedTiles d v) t
+
+pub named-proper : (J : Job) (g : Group) (r c d v : ℕ) → Proper J → T (names J g r c d v) → Proper (named J g r c d v)
+named-proper J chosenPins r c d v p t =
+    let (x, y) = by-word d v 1 (names-says J chosenPins r c d v t) in
+    marked-proper J r c v p (and-left (isPin J r c) (says chosenPins d v) t) (le→leb v 2 (omega arith))
+named-proper J missingPins r c d v p t =
+    let unchosen : Bool = not (eqb (J .mark r c) 1) in
+    let (x, y) = by-word d v 2 (names-says J missingPins r c d v t) in
+    marked-proper J r c v p (and-left (isPin J r c) unchosen (and-left (isPin J r c && unchosen) (says missingPins d v) t)) (le→leb v 2 (omega arith))
+named-proper J closedTiles r c d v p t =
+    let (x, y) = by-word d v 1 (names-says J closedTiles r c d v t) in
+    closed-proper J r c v p (and-left (isTile J r c) (says closedTiles d v) t) (le→leb v 1 (omega arith))
 
 abbrev Good : Reader → Type 0
 Good R = 1 ≤ rank (R .stage) → Proper (R .job)
@@ -94,12 +110,12 @@ admit-proper R (arrayLine rows columns O D E) R′ g e =
     let (t, q) = asked (a && (b && d)) _ R′ e in
     let u : T (b && d) = and-right a (b && d) t in
     subst (λ (S : Reader). Proper (S .job)) q (fresh-proper rows columns O D E (and-left b d u) (and-right b d u))
-admit-proper R (groupLine g r c) R′ good e =
-    let a : Bool = inTurn R g r c in
-    let b : Bool = names (R .job) g r c in
+admit-proper R (groupLine g r c d v) R′ good e =
+    let a : Bool = inTurn R g r c d in
+    let b : Bool = names (R .job) g r c d v in
     let (t, q) = asked (a && b) _ R′ e in
     let begun : T (leb 1 (rank (R .stage))) = and-left (leb 1 (rank (R .stage))) _ (and-left a b t) in
-    subst (λ (S : Reader). Proper (S .job)) q (named-proper (R .job) g r c (good (leb→le 1 (rank (R .stage)) begun)) (and-right a b t))
+    subst (λ (S : Reader). Proper (S .job)) q (named-proper (R .job) g r c d v (good (leb→le 1 (rank (R .stage)) begun)) (and-right a b t))
 admit-proper R endLine R′ good e =
     let a : Bool = leb 1 (rank (R .stage)) in
     let b : Bool = ltb (rank (R .stage)) 5 in

@@ -1,17 +1,20 @@
--- Document 01, "Job text": a text has one verdict at most. Two lines that begin the same text are the same line: their words differ in the second or
--- third byte, and a number ends where a byte below the digits stands. Assumes nothing.
-use mathlib.Core.Path.{_≡_, refl, sym, ap, ap₂, subst, _∙_}
+-- Document 01, "Job text": a text has one verdict at most. Two lines that begin the same text, each telling its side and value, are the same line: their
+-- words differ in the second byte, and a number ends where a byte below the digits stands. Assumes nothing.
+use mathlib.Core.Path.{_≡_, refl, sym, ap, subst, _∙_}
 use mathlib.Core.Logic.{_≢_}
-use mathlib.Core.Bool.{Bool, true, false, not}
+use mathlib.Core.Bool.{Bool, true, false, not, _&&_}
 use mathlib.Core.List.{List, [], _∷_, _++_, append-assoc}
 use mathlib.Core.Option.{Option, some}
 use Prim.Native.Nat.{ℕ, _+_, _/_, _%_, _<_}
 use native.Mathlib.Omega.{arith}
-use lib.Dec.{T, leb, nleb→lt}
+use lib.Dec.{T, eqb, leb, nleb→lt}
 use lib.ListN.{length, getD, drop}
+use lib.Seq.{drop-append-seam}
 use Rattle.sums.specs.Counting.{only}
-use Rattle.model.specs.Text.{Group, chosenPins, missingPins, closedTiles, Line, arrayLine, groupLine, endLine, lineBytes, Reader, finished, admit}
-use Rattle.model.specs.Text.{Verdict, reads, wrongAt, Reads, ended, line, wrong}
+use Rattle.sums.specs.Tests.{and-right}
+use Rattle.model.specs.Text.{Group, chosenPins, missingPins, closedTiles, Line, arrayLine, groupLine, endLine, groupWord, tailOf, says, lineBytes}
+use Rattle.model.specs.Text.{Reader, finished, inTurn, names, admit, Verdict, reads, wrongAt, Reads, ended, line, wrong}
+use Rattle.model.proofs.TextProper.{asked, by-word, names-says}
 
 -- ---- numbers
 
@@ -30,13 +33,49 @@ number-unique n m x y X Y p q = by (leb 10 n) (leb 10 m) (nleb→lt 10 n) (nleb�
     by false true f g e = absurd (omega (arith, ap (λ (l : List ℕ). getD l 1 0) e))
     by false false f g e = (omega (arith, f tt, g tt, ap (λ (l : List ℕ). getD l 0 0) e), ap (drop 1) e)
 
--- two numbers, a closing parenthesis and the end of the line
-pair-unique : (g : Group) (r c r′ c′ : ℕ) (X Y : List ℕ) → digits r (32 ∷ digits c (41 ∷ 10 ∷ X)) ≡ digits r′ (32 ∷ digits c′ (41 ∷ 10 ∷ Y))
-    → (groupLine g r c ≡ groupLine g r′ c′) × (X ≡ Y)
-pair-unique g r c r′ c′ X Y f =
-    let (p, e) = number-unique r r′ 32 32 (digits c (41 ∷ 10 ∷ X)) (digits c′ (41 ∷ 10 ∷ Y)) (omega arith) (omega arith) f in
-    let (q, h) = number-unique c c′ 41 41 (10 ∷ X) (10 ∷ Y) (omega arith) (omega arith) (ap (drop 1) e) in
-    (ap₂ (groupLine g) p q, ap (drop 2) h)
+-- ---- tails
+
+-- what follows a column
+abbrev ending : Group → ℕ → ℕ → List ℕ → List ℕ
+ending g d v X = tailOf g d v ++ (41 ∷ 10 ∷ X)
+
+-- its first byte is below the digits
+record Starts (l : List ℕ) : Type 0 where
+  byte : ℕ
+  more : List ℕ
+  low : byte < 48
+  is : l ≡ byte ∷ more
+
+ending-starts : (g : Group) (d v : ℕ) (X : List ℕ) → Starts (ending g d v X)
+ending-starts chosenPins d v X = record { byte = 41; more = 10 ∷ X; low = omega arith; is = refl }
+ending-starts missingPins d v X = record { byte = 41; more = 10 ∷ X; low = omega arith; is = refl }
+ending-starts closedTiles d v X = record { byte = 41; more = 10 ∷ X; low = omega arith; is = refl }
+
+-- two words without tails say the same
+word-unique : (n d v d′ v′ : ℕ) → T (eqb d 0 && eqb v n) → T (eqb d′ 0 && eqb v′ n) → (d ≡ d′) × (v ≡ v′)
+word-unique n d v d′ v′ t t′ =
+    let (x, y) = by-word d v n t in
+    let (x′, y′) = by-word d′ v′ n t′ in
+    (omega arith, omega arith)
+
+ending-unique : (g : Group) (d v d′ v′ : ℕ) (X Y : List ℕ) → T (says g d v) → T (says g d′ v′) → ending g d v X ≡ ending g d′ v′ Y
+    → ((d ≡ d′) × (v ≡ v′)) × (X ≡ Y)
+ending-unique chosenPins d v d′ v′ X Y t t′ e = (word-unique 1 d v d′ v′ t t′, ap (drop 2) e)
+ending-unique missingPins d v d′ v′ X Y t t′ e = (word-unique 2 d v d′ v′ t t′, ap (drop 2) e)
+ending-unique closedTiles d v d′ v′ X Y t t′ e = (word-unique 1 d v d′ v′ t t′, ap (drop 2) e)
+
+-- two numbers, the tail and the end of the line
+pair-unique : (g : Group) (r c d v r′ c′ d′ v′ : ℕ) (X Y : List ℕ) → T (says g d v) → T (says g d′ v′)
+    → digits r (32 ∷ digits c (ending g d v X)) ≡ digits r′ (32 ∷ digits c′ (ending g d′ v′ Y))
+    → (groupLine g r c d v ≡ groupLine g r′ c′ d′ v′) × (X ≡ Y)
+pair-unique g r c d v r′ c′ d′ v′ X Y t t′ f =
+    let s : Starts (ending g d v X) = ending-starts g d v X in
+    let s′ : Starts (ending g d′ v′ Y) = ending-starts g d′ v′ Y in
+    let (p, e) = number-unique r r′ 32 32 (digits c (ending g d v X)) (digits c′ (ending g d′ v′ Y)) (omega arith) (omega arith) f in
+    let (q, h) = number-unique c c′ (s .byte) (s′ .byte) (s .more) (s′ .more) (s .low) (s′ .low)
+    (sym (ap (digits c) (s .is)) ∙ (ap (drop 1) e ∙ ap (digits c′) (s′ .is))) in
+    let ((x, y), z) = ending-unique g d v d′ v′ X Y t t′ (s .is ∙ (h ∙ sym (s′ .is))) in
+    (λ i. groupLine g (p i) (q i) (x i) (y i), z)
 
 -- ---- lines
 
@@ -60,41 +99,79 @@ array-unique a b c d e a′ b′ c′ d′ e′ X Y q =
 differ : {A : Type 0} (i : ℕ) (X Y : List ℕ) → getD X i 0 ≢ getD Y i 0 → X ≡ Y → A
 differ i X Y n e = absurd (n (ap (λ (l : List ℕ). getD l i 0) e))
 
-group-unique : (g h : Group) (r c r′ c′ : ℕ) (X Y : List ℕ) → Same (groupLine g r c) (groupLine h r′ c′) X Y
+-- the group by the second byte of its word
+bySecond : ℕ → Group
+bySecond x = elim (eqb x 104) [ true ↦ chosenPins | false ↦ elim (eqb x 105) [ true ↦ missingPins | false ↦ closedTiles ] ]
+
+second-of : (g : Group) (X : List ℕ) → bySecond (getD (groupWord g ++ (32 ∷ X)) 1 0) ≡ g
+unfolding bySecond
+second-of chosenPins X = refl
+second-of missingPins X = refl
+second-of closedTiles X = refl
+
+-- what stands before a space is one group's word
+pub words-unique : (g h : Group) (X Y : List ℕ) → groupWord g ++ (32 ∷ X) ≡ groupWord h ++ (32 ∷ Y) → (g ≡ h) × (X ≡ Y)
+words-unique g h X Y e =
+    let x : g ≡ h = sym (second-of g X) ∙ (ap (λ (l : List ℕ). bySecond (getD l 1 0)) e ∙ second-of h Y) in
+    let f : groupWord g ++ (32 ∷ X) ≡ groupWord g ++ (32 ∷ Y) = e ∙ ap (λ (k : Group). groupWord k ++ (32 ∷ Y)) (sym x) in
+    let y : 32 ∷ X ≡ 32 ∷ Y =
+    sym (drop-append-seam (groupWord g) (32 ∷ X)) ∙ (ap (drop (length (groupWord g))) f ∙ drop-append-seam (groupWord g) (32 ∷ Y)) in
+    (x, ap (drop 1) y)
+
+group-bytes : (g : Group) (r c d v : ℕ) (X : List ℕ)
+    → lineBytes (groupLine g r c d v) ++ X ≡ 40 ∷ groupWord g ++ (32 ∷ digits r (32 ∷ digits c (ending g d v X)))
 unfolding lineBytes
-group-unique chosenPins chosenPins r c r′ c′ X Y q = pair-unique chosenPins r c r′ c′ X Y (ap (drop 8) (simp append-assoc at q))
-group-unique chosenPins missingPins r c r′ c′ X Y q = differ 1 _ _ (omega arith) q
-group-unique chosenPins closedTiles r c r′ c′ X Y q = differ 2 _ _ (omega arith) q
-group-unique missingPins chosenPins r c r′ c′ X Y q = differ 1 _ _ (omega arith) q
-group-unique missingPins missingPins r c r′ c′ X Y q = pair-unique missingPins r c r′ c′ X Y (ap (drop 9) (simp append-assoc at q))
-group-unique missingPins closedTiles r c r′ c′ X Y q = differ 1 _ _ (omega arith) q
-group-unique closedTiles chosenPins r c r′ c′ X Y q = differ 2 _ _ (omega arith) q
-group-unique closedTiles missingPins r c r′ c′ X Y q = differ 1 _ _ (omega arith) q
-group-unique closedTiles closedTiles r c r′ c′ X Y q = pair-unique closedTiles r c r′ c′ X Y (ap (drop 8) (simp append-assoc at q))
+group-bytes chosenPins r c d v X = simp append-assoc
+group-bytes missingPins r c d v X = simp append-assoc
+group-bytes closedTiles r c d v X = simp append-assoc
+
+group-unique : (g h : Group) (r c d v r′ c′ d′ v′ : ℕ) (X Y : List ℕ) → T (says g d v) → T (says h d′ v′)
+    → Same (groupLine g r c d v) (groupLine h r′ c′ d′ v′) X Y
+group-unique g h r c d v r′ c′ d′ v′ X Y t t′ q =
+    let (x, y) = words-unique g h _ _ (ap (drop 1) (sym (group-bytes g r c d v X) ∙ (q ∙ group-bytes h r′ c′ d′ v′ Y))) in
+    subst (λ (k : Group). T (says k d′ v′) → digits r (32 ∷ digits c (ending g d v X)) ≡ digits r′ (32 ∷ digits c′ (ending k d′ v′ Y))
+    → (groupLine g r c d v ≡ groupLine k r′ c′ d′ v′) × (X ≡ Y)) x (pair-unique g r c d v r′ c′ d′ v′ X Y t) t′ y
 
 -- the second byte of a line of a group is that of no other form
-apart : (g : Group) (r c : ℕ) (X : List ℕ) → (getD (lineBytes (groupLine g r c) ++ X) 1 0 ≢ 97) × (getD (lineBytes (groupLine g r c) ++ X) 1 0 ≢ 101)
+apart : (g : Group) (r c d v : ℕ) (X : List ℕ)
+    → (getD (lineBytes (groupLine g r c d v) ++ X) 1 0 ≢ 97) × (getD (lineBytes (groupLine g r c d v) ++ X) 1 0 ≢ 101)
 unfolding lineBytes
-apart chosenPins r c X = omega arith
-apart missingPins r c X = omega arith
-apart closedTiles r c X = omega arith
+apart chosenPins r c d v X = omega arith
+apart missingPins r c d v X = omega arith
+apart closedTiles r c d v X = omega arith
 
-pub line-unique : (l m : Line) (X Y : List ℕ) → lineBytes l ++ X ≡ lineBytes m ++ Y → (l ≡ m) × (X ≡ Y)
+-- the line tells its side and value
+abbrev pub Says : Line → Type 0
+Says (arrayLine a b c d e) = Unit {0}
+Says (groupLine g r c d v) = T (says g d v)
+Says endLine = Unit {0}
+
+-- as every line does that may stand somewhere
+pub admit-says : (R : Reader) (l : Line) (R′ : Reader) → admit R l ≡ some R′ → Says l
+unfolding admit
+admit-says R (arrayLine a b c d e) R′ q = tt
+admit-says R (groupLine g r c d v) R′ q =
+    let a : Bool = inTurn R g r c d in
+    let b : Bool = names (R .job) g r c d v in
+    names-says (R .job) g r c d v (and-right a b (asked (a && b) _ R′ q .0))
+admit-says R endLine R′ q = tt
+
+pub line-unique : (l m : Line) (X Y : List ℕ) → Says l → Says m → lineBytes l ++ X ≡ lineBytes m ++ Y → (l ≡ m) × (X ≡ Y)
 unfolding lineBytes
-line-unique (arrayLine a b c d e) (arrayLine a′ b′ c′ d′ e′) X Y q = array-unique a b c d e a′ b′ c′ d′ e′ X Y q
-line-unique (arrayLine a b c d e) (groupLine g r c′) X Y q = differ 1 _ _ (λ z. apart g r c′ Y .0 (sym z)) q
-line-unique (arrayLine a b c d e) endLine X Y q = differ 1 _ _ (omega arith) q
-line-unique (groupLine g r c) (arrayLine a′ b′ c′ d′ e′) X Y q = differ 1 _ _ (apart g r c X .0) q
-line-unique (groupLine g r c) (groupLine h r′ c′) X Y q = group-unique g h r c r′ c′ X Y q
-line-unique (groupLine g r c) endLine X Y q = differ 1 _ _ (apart g r c X .1) q
-line-unique endLine (arrayLine a′ b′ c′ d′ e′) X Y q = differ 1 _ _ (omega arith) q
-line-unique endLine (groupLine g r c) X Y q = differ 1 _ _ (λ z. apart g r c Y .1 (sym z)) q
-line-unique endLine endLine X Y q = (refl, ap (drop 6) q)
+line-unique (arrayLine a b c d e) (arrayLine a′ b′ c′ d′ e′) X Y t t′ q = array-unique a b c d e a′ b′ c′ d′ e′ X Y q
+line-unique (arrayLine a b c d e) (groupLine g r′ c′ d′ v′) X Y t t′ q = differ 1 _ _ (λ z. apart g r′ c′ d′ v′ Y .0 (sym z)) q
+line-unique (arrayLine a b c d e) endLine X Y t t′ q = differ 1 _ _ (omega arith) q
+line-unique (groupLine g r c d v) (arrayLine a′ b′ c′ d′ e′) X Y t t′ q = differ 1 _ _ (apart g r c d v X .0) q
+line-unique (groupLine g r c d v) (groupLine h r′ c′ d′ v′) X Y t t′ q = group-unique g h r c d v r′ c′ d′ v′ X Y t t′ q
+line-unique (groupLine g r c d v) endLine X Y t t′ q = differ 1 _ _ (apart g r c d v X .1) q
+line-unique endLine (arrayLine a′ b′ c′ d′ e′) X Y t t′ q = differ 1 _ _ (omega arith) q
+line-unique endLine (groupLine g r c d v) X Y t t′ q = differ 1 _ _ (λ z. apart g r c d v Y .1 (sym z)) q
+line-unique endLine endLine X Y t t′ q = (refl, ap (drop 6) q)
 
 pub line-some : (l : Line) (X : List ℕ) → [] ≢ lineBytes l ++ X
 unfolding lineBytes
 line-some (arrayLine a b c d e) X q = omega (arith, ap (λ (l : List ℕ). getD l 0 0) q)
-line-some (groupLine g r c) X q = omega (arith, ap (λ (l : List ℕ). getD l 0 0) q)
+line-some (groupLine g r c d v) X q = omega (arith, ap (λ (l : List ℕ). getD l 0 0) q)
 line-some endLine X q = omega (arith, ap (λ (l : List ℕ). getD l 0 0) q)
 
 -- ---- verdicts
@@ -111,7 +188,7 @@ at-line : {R : Reader} {o : ℕ} {text : List ℕ} {v w : Verdict} (l : Line) (R
     → ((w : Verdict) → Reads R′ (o + length (lineBytes l)) rest w → v ≡ w) → Reads R o text w → v ≡ w
 at-line l R′ rest a q k (ended g e) = absurd (line-some l rest (sym e ∙ q))
 at-line {R} {o} {text} {v} {w} l R′ rest a q k (line m S more b p r) =
-    let (x, y) = line-unique l m rest more (sym q ∙ p) in
+    let (x, y) = line-unique l m rest more (admit-says R l R′ a) (admit-says R m S b) (sym q ∙ p) in
     let z : R′ ≡ S = some-inj R′ S (sym a ∙ (ap (admit R) x ∙ b)) in
     k w (subst (λ (T : Reader). Reads T (o + length (lineBytes l)) rest w) (sym z)
     (subst (λ (n : Line). Reads S (o + length (lineBytes n)) rest w) (sym x) (subst (λ (X : List ℕ). Reads S (o + length (lineBytes m)) X w) (sym y) r)))

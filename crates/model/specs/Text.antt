@@ -16,10 +16,14 @@ use Rattle.model.specs.Job.{Job, arrayFits, capsAdmitted, fresh, marked,
 pub data Group : Type 0 where
   chosenPins missingPins closedTiles : Group
 
--- "One form a line": the array, one pin or tile of a group, the end
+-- in their order: "the chosen pins, the missing pins, the closed tiles"
+abbrev pub groups : List Group
+groups = chosenPins ∷ missingPins ∷ closedTiles ∷ []
+
+-- "One form a line": the array, one pin or tile of a group with the value that it gets on a side, the end
 pub data Line : Type 0 where
   arrayLine : (rows columns O D E : ℕ) → Line
-  groupLine : Group → (row column : ℕ) → Line
+  groupLine : Group → (row column side value : ℕ) → Line
   endLine : Line
 
 -- ---- the bytes of a line
@@ -55,6 +59,18 @@ groupWord chosenPins = 99 ∷ 104 ∷ 111 ∷ 115 ∷ 101 ∷ 110 ∷ []
 groupWord missingPins = 109 ∷ 105 ∷ 115 ∷ 115 ∷ 105 ∷ 110 ∷ 103 ∷ []
 groupWord closedTiles = 99 ∷ 108 ∷ 111 ∷ 115 ∷ 101 ∷ 100 ∷ []
 
+-- what a line has behind row and column to tell side and value
+abbrev pub tailOf : Group → ℕ → ℕ → List ℕ
+tailOf chosenPins d v = []
+tailOf missingPins d v = []
+tailOf closedTiles d v = []
+
+-- the sides and values that a line tells: a line without a tail has no side, and its word alone says the mark or the state
+abbrev pub says : Group → ℕ → ℕ → Bool
+says chosenPins d v = eqb d 0 && eqb v 1
+says missingPins d v = eqb d 0 && eqb v 2
+says closedTiles d v = eqb d 0 && eqb v 1
+
 -- end
 abbrev pub endWord : List ℕ
 endWord = 101 ∷ 110 ∷ 100 ∷ []
@@ -63,7 +79,7 @@ endWord = 101 ∷ 110 ∷ 100 ∷ []
 abbrev pub formOf : Line → List ℕ
 formOf (arrayLine rows columns O D E) =
     40 ∷ arrayWord ++ (32 ∷ form pinsWord (rows ∷ columns ∷ []) ++ (32 ∷ form capsWord (O ∷ D ∷ E ∷ []) ++ (41 ∷ [])))
-formOf (groupLine g r c) = form (groupWord g) (r ∷ c ∷ [])
+formOf (groupLine g r c d v) = 40 ∷ groupWord g ++ (numbers (r ∷ c ∷ []) ++ (tailOf g d v ++ (41 ∷ [])))
 formOf endLine = form endWord []
 
 -- "each ended by byte 10"
@@ -86,7 +102,15 @@ rank (within missingPins) = 3
 rank (within closedTiles) = 4
 rank finished = 5
 
--- the stage, the least 40 r + c that the group of the last line may still name, and the job so far
+-- the group of a rank
+unfoldable pub groupOf : ℕ → Group
+groupOf n = elim (eqb n 2) [ true ↦ chosenPins | false ↦ elim (eqb n 3) [ true ↦ missingPins | false ↦ closedTiles ] ]
+
+-- the order within a group: by row, then column, then side
+abbrev pub keyOf : ℕ → ℕ → ℕ → ℕ
+keyOf r c d = 4 * (40 * r + c) + d
+
+-- the stage, the least key that the group of the last line may still have, and the job so far
 pub record Reader : Type 0 where
   pub stage : Stage
   pub from : ℕ
@@ -100,29 +124,29 @@ asking true R = some R
 asking false R = none
 
 -- "each group strictly rising by row and then column", the groups in their order, after the array
-abbrev pub inTurn : Reader → Group → ℕ → ℕ → Bool
-inTurn R g r c =
+abbrev pub inTurn : Reader → Group → ℕ → ℕ → ℕ → Bool
+inTurn R g r c d =
     leb (rank afterArray) (rank (R .stage))
-    && (leb (rank (R .stage)) (rank (within g)) && leb (when (eqb (rank (R .stage)) (rank (within g))) (R .from)) (40 * r + c))
+    && (leb (rank (R .stage)) (rank (within g)) && leb (when (eqb (rank (R .stage)) (rank (within g))) (R .from)) (keyOf r c d))
 
 -- "A number out of range makes its line wrong." "No pin in two groups."
-abbrev pub names : Job → Group → ℕ → ℕ → Bool
-names J chosenPins r c = isPin J r c
-names J missingPins r c = isPin J r c && not (eqb (J .mark r c) 1)
-names J closedTiles r c = isTile J r c
+abbrev pub names : Job → Group → ℕ → ℕ → ℕ → ℕ → Bool
+names J chosenPins r c d v = isPin J r c && says chosenPins d v
+names J missingPins r c d v = (isPin J r c && not (eqb (J .mark r c) 1)) && says missingPins d v
+names J closedTiles r c d v = isTile J r c && says closedTiles d v
 
--- the job with the pin or tile in its group
-abbrev pub named : Job → Group → ℕ → ℕ → Job
-named J chosenPins r c = marked J r c 1
-named J missingPins r c = marked J r c 2
-named J closedTiles r c = closed J r c 1
+-- the job with the value at the pin or tile
+abbrev pub named : Job → Group → ℕ → ℕ → ℕ → ℕ → Job
+named J chosenPins r c d v = marked J r c v
+named J missingPins r c d v = marked J r c v
+named J closedTiles r c d v = closed J r c v
 
 unfoldable pub admit : Reader → Line → Option Reader
 admit R (arrayLine rows columns O D E) =
     asking (eqb (rank (R .stage)) (rank begin) && (arrayFits rows columns && capsAdmitted O D E))
     (record { stage = afterArray; from = 0; job = fresh rows columns O D E })
-admit R (groupLine g r c) =
-    asking (inTurn R g r c && names (R .job) g r c) (record { stage = within g; from = 40 * r + c + 1; job = named (R .job) g r c })
+admit R (groupLine g r c d v) =
+    asking (inTurn R g r c d && names (R .job) g r c d v) (record { stage = within g; from = keyOf r c d + 1; job = named (R .job) g r c d v })
 admit R endLine =
     asking (leb (rank afterArray) (rank (R .stage)) && ltb (rank (R .stage)) (rank finished)) (record { stage = finished; from = 0; job = R .job })
 
@@ -151,18 +175,27 @@ Reading text v = Reads start 0 text v
 abbrev pub cells : Job → (ℕ → ℕ → List ℕ) → List ℕ
 cells J f = each (J .rows) (λ r. each (J .columns) (λ c. f r c))
 
-abbrev pub isNamed : Job → Group → ℕ → ℕ → Bool
-isNamed J chosenPins r c = isChosen J r c
-isNamed J missingPins r c = isMissing J r c
-isNamed J closedTiles r c = isClosed J r c
+-- the value that the job has in a group, at a pin or tile and on a side: 0 for none
+abbrev pub valueAt : Job → Group → ℕ → ℕ → ℕ → ℕ
+valueAt J chosenPins r c d = when (eqb d 0 && isChosen J r c) 1
+valueAt J missingPins r c d = when (eqb d 0 && isMissing J r c) 2
+valueAt J closedTiles r c d = when (eqb d 0 && isClosed J r c) 1
+
+-- the line for a value, and none for 0
+abbrev pub valueLine : Group → ℕ → ℕ → ℕ → ℕ → List ℕ
+valueLine g r c d v = only (ltb 0 v) (lineBytes (groupLine g r c d v))
 
 abbrev pub groupText : Job → Group → List ℕ
-groupText J g = cells J (λ r c. only (isNamed J g r c) (lineBytes (groupLine g r c)))
+groupText J g = cells J (λ r c. each 4 (λ d. valueLine g r c d (valueAt J g r c d)))
+
+-- f for each group of a list, and then the rest
+abbrev pub listed : (Group → List ℕ) → List Group → List ℕ → List ℕ
+listed f [] rest = rest
+listed f (g ∷ l) rest = f g ++ listed f l rest
 
 unfoldable pub textOf : Job → List ℕ
 textOf J =
-    lineBytes (arrayLine (J .rows) (J .columns) (J .O) (J .D) (J .E))
-    ++ (groupText J chosenPins ++ (groupText J missingPins ++ (groupText J closedTiles ++ lineBytes endLine)))
+    lineBytes (arrayLine (J .rows) (J .columns) (J .O) (J .D) (J .E)) ++ listed (groupText J) groups (lineBytes endLine)
 
 -- Demand 2: "job text is read and written by its grammar, and each undoes the other for a job without wires."
 pub record RoundTrip : Type 0 where
