@@ -3,32 +3,38 @@ use mathlib.Core.Path.{_≡_}
 use mathlib.Core.Logic.{_≢_}
 use mathlib.Core.List.{List, [], _∷_, _++_}
 use Prim.Native.Nat.{ℕ, _≤_, _<_}
+use lib.Dec.{T}
 use lib.ListN.{length, drop}
-use Rattle.model.specs.Text.{Group as TextGroup, groupWord, arrayLine, groupLine, endLine, lineBytes, rank, within}
+use Rattle.model.specs.Text.{decimal, Group as TextGroup, groupWord, tailOf, says, arrayLine, groupLine, endLine, lineBytes, rank, within}
 use Rattle.line.specs.declared.lines.Line.{Line}
 use Rattle.line.specs.declared.lines.Line.the-variants.{Group, End, Wrong}
 use Rattle.line.specs.declared.lines.Opening.{Opening}
 use Rattle.line.specs.declared.lines.Opening.the-variants.{Array, Wrong as WrongOpening}
-use Rattle.line.specs.Scan.{two}
 
 -- what a line of a group begins with: ( word, and a space
 abbrev pub opening : TextGroup → List ℕ
 opening g = 40 ∷ groupWord g ++ (32 ∷ [])
 
--- two numbers and the end of the line
-abbrev pub PairAt : List ℕ → ℕ → ℕ → Line → Type 0
-PairAt text at group (Group g r c next) = (g ≡ group) × (r < 100) × (c < 100) × (next ≤ length text) × (drop at text ≡ two r c (10 ∷ drop next text))
-PairAt text at group (End next) = ⊥
-PairAt text at group Wrong = (r c : ℕ) (X : List ℕ) → r < 100 → c < 100 → drop at text ≢ two r c (10 ∷ X)
+-- what a line of a group has behind its opening
+abbrev pub behind : TextGroup → ℕ → ℕ → ℕ → ℕ → List ℕ → List ℕ
+behind g r c d v X = decimal r ++ (32 ∷ (decimal c ++ (tailOf g d v ++ (41 ∷ 10 ∷ X))))
 
--- a line of a group, by the group's rank, or the end line
+-- a line of a group from there on, by the group's rank
+abbrev pub RestAt : List ℕ → ℕ → TextGroup → Line → Type 0
+RestAt text at g (Group n r c v next) =
+    (n ≡ rank (within g)) × T (says g 0 v) × (r < 100) × (c < 100) × (v < 100) × (next ≤ length text)
+    × (drop at text ≡ behind g r c 0 v (drop next text))
+RestAt text at g (End next) = ⊥
+RestAt text at g Wrong = (r c d v : ℕ) (X : List ℕ) → r < 100 → c < 100 → drop at text ≢ behind g r c d v X
+
+-- a line of a group, or the end line
 abbrev pub LineAt : List ℕ → ℕ → Line → Type 0
-LineAt text at (Group n r c next) =
-    (g : TextGroup) × (n ≡ rank (within g)) × (r < 100) × (c < 100) × (next ≤ length text)
-    × (drop at text ≡ lineBytes (groupLine g r c) ++ drop next text)
+LineAt text at (Group n r c v next) =
+    (g : TextGroup) × (n ≡ rank (within g)) × T (says g 0 v) × (r < 100) × (c < 100) × (v < 100) × (next ≤ length text)
+    × (drop at text ≡ lineBytes (groupLine g r c 0 v) ++ drop next text)
 LineAt text at (End next) = (next ≤ length text) × (drop at text ≡ lineBytes endLine ++ drop next text)
 LineAt text at Wrong =
-    ((g : TextGroup) (r c : ℕ) (X : List ℕ) → r < 100 → c < 100 → drop at text ≢ lineBytes (groupLine g r c) ++ X)
+    ((g : TextGroup) (r c d v : ℕ) (X : List ℕ) → r < 100 → c < 100 → drop at text ≢ lineBytes (groupLine g r c d v) ++ X)
     × ((X : List ℕ) → drop at text ≢ lineBytes endLine ++ X)
 
 pub record Below100 (a b o d e : ℕ) : Type 0 where

@@ -13,16 +13,21 @@ use crate::words::CLOSED;
 use crate::words::END;
 use crate::words::GROUP_END;
 use crate::words::MISSING;
-ghost use Prim.Native.Nat.{_≤_};
+ghost use Prim.Native.Nat.{_≤_, _<_};
+ghost use lib.Dec.{T};
 ghost use lib.ListN.{length};
-ghost use Rattle.line.specs.Lines.{PairAt, LineAt, ArrayAt};
+ghost use Rattle.model.specs.Text.{says, groupOf};
+ghost use Rattle.line.specs.Scan.{WordAt};
+ghost use Rattle.line.specs.Lines.{opening, RestAt, LineAt, ArrayAt};
 
-// A line after the array line, with the offset past it. The groups are 2 chosen, 3 missing, 4 closed.
+// A line after the array line, with the offset past it. The groups are 2 chosen, 3 missing, 4 closed; the value is the mark or the state that the pin or
+// tile gets.
 pub enum Line {
     Group {
         group: usize,
         row: usize,
         column: usize,
+        value: usize,
         next: usize,
     },
     End {
@@ -31,10 +36,31 @@ pub enum Line {
     Wrong,
 }
 
-// A row and a column at an offset, to the end of the line.
-fn pair_at(text: &[u8], at: usize, group: usize) -> Line
+// What a line of a group begins with, at an offset.
+fn opening_at(text: &[u8], at: usize, group: usize) -> Word
     requires { ⌜ at ≤ length (now text) ⌝ }
-    ensures { λ r. ⌜ PairAt (now (text .entry)) at group r ⌝ }
+    ensures { λ r. ⌜ WordAt (now (text .entry)) at (opening (groupOf group)) r ⌝ }
+{
+    if group == 2 {
+        return word_at(text, at, &CHOSEN);
+    }
+    if group == 3 {
+        return word_at(text, at, &MISSING);
+    }
+    word_at(text, at, &CLOSED)
+}
+
+// The mark or the state that a group's word says.
+fn value_of(group: usize) -> usize
+    ensures { λ r. ⌜ T (says (groupOf group) 0 r) × (r < 100) ⌝ }
+{
+    if group == 3 { 2 } else { 1 }
+}
+
+// A line of a group behind its opening: a row and a column, to the end of the line.
+fn rest_at(text: &[u8], at: usize, group: usize) -> Line
+    requires { ⌜ (at ≤ length (now text)) × (2 ≤ group) × (group ≤ 4) ⌝ }
+    ensures { λ r. ⌜ RestAt (now (text .entry)) at (groupOf group) r ⌝ }
 {
     let Two::Are(row, column, end) = two_at(text, at) else {
         return Line::Wrong;
@@ -42,10 +68,12 @@ fn pair_at(text: &[u8], at: usize, group: usize) -> Line
     let Word::Ends(next) = word_at(text, end, &GROUP_END) else {
         return Line::Wrong;
     };
+    let value = value_of(group);
     Line::Group {
         group,
         row,
         column,
+        value,
         next,
     }
 }
@@ -55,14 +83,11 @@ pub fn line_at(text: &[u8], at: usize) -> Line
     requires { ⌜ at ≤ length (now text) ⌝ }
     ensures { λ r. ⌜ LineAt (now (text .entry)) at r ⌝ }
 {
-    if let Word::Ends(n) = word_at(text, at, &CHOSEN) {
-        return pair_at(text, n, 2);
-    }
-    if let Word::Ends(n) = word_at(text, at, &MISSING) {
-        return pair_at(text, n, 3);
-    }
-    if let Word::Ends(n) = word_at(text, at, &CLOSED) {
-        return pair_at(text, n, 4);
+    for k in 0..3 {
+        let group = 2 + k;
+        if let Word::Ends(n) = opening_at(text, at, group) {
+            return rest_at(text, n, group);
+        }
     }
     let Word::Ends(next) = word_at(text, at, &END) else {
         return Line::Wrong;

@@ -1,161 +1,121 @@
--- `line_at` compares the words of the groups and the end line in turn. Assumes nothing.
+-- `line_at` compares the openings of the groups and the end line in turn: at the loop's head no opening of a group passed stands there. Assumes nothing.
 use mathlib.Core.Path.{subst}
 use mathlib.Core.List.{[], _∷_}
+use Prim.Native.Nat.{ℕ, _+_, _-_, _≤_, _<_}
+use native.Mathlib.Omega.{arith}
 use denote.Ref.{now}
+use borrow.Author.Count.{below-more}
 use borrow.Author.Needs.{needs}
-use Rattle.model.specs.Text.{chosenPins, missingPins, closedTiles}
+use Rattle.model.specs.Text.{groupOf}
+use Rattle.line.specs.declared.scan.Word.the-variants.{Differs}
 use Rattle.line.specs.Scan.{WordAt}
 use Rattle.line.specs.Lines.{opening}
 use Rattle.line.proofs.Lined.{line-group, line-end, line-none, each-opening}
 use Rattle.line.proofs.lines.line_at.Statement.{statement}
 use Rattle.line.proofs.lines.line_at.Tie as tie
 
-slice-aggregate-word-at : tie.Need-slice-aggregate-word-at
-slice-aggregate-word-at c = search needs
+abbrev Inv-loop : tie.InvT-loop
+Inv-loop text at k₀ t7 k = (k ≤ 3) × ((i : ℕ) → i < k → WordAt text at (opening (groupOf (2 + i))) Differs)
 
-word-at-requires : tie.Need-word-at-requires
-word-at-requires c κs = search needs
+abbrev μ-loop : tie.MeasureT-loop
+μ-loop text at k₀ t7 k = 3 - k
 
-enum-known-n : tie.Need-enum-known-n
+loop-holds : tie.Need-loop-holds Inv-loop μ-loop
+loop-holds c = (omega arith, λ i l. absurd (omega arith))
+
+add-group : tie.Need-add-group Inv-loop μ-loop
+add-group c = search needs
+
+opening-at-requires : tie.Need-opening-at-requires Inv-loop μ-loop
+opening-at-requires c κs = search needs
+
+enum-known-n : tie.Need-enum-known-n Inv-loop μ-loop
 enum-known-n c = search needs
 
-pair-at-requires : tie.Need-pair-at-requires
-pair-at-requires c κs =
+rest-at-requires : tie.Need-rest-at-requires Inv-loop μ-loop
+rest-at-requires c κs =
     let c3 = c .before .before .before in
-    let c6 = c3 .before .before .before in
-    let a = c6 .args in
-    subst (WordAt (now (a .text)) (a .at) (opening chosenPins)) (c .before .n .given .1) (c3 .word-at .ensures) .0
+    let c5 = c3 .before .before in
+    let a = c5 .before .before .args in
+    let f = subst (WordAt (now (a .text)) (a .at) (opening (groupOf (2 + c5 .loop .k)))) (c .before .n .given .1) (c3 .opening-at .ensures) in
+    (f .0, omega arith, omega (arith, c3 .before .loop-test .taken))
 
-returns : tie.Need-returns
+returns : tie.Need-returns Inv-loop μ-loop
 returns c =
     let c2 = c .before .before in
     let c4 = c2 .before .before in
-    let c7 = c4 .before .before .before in
-    let a = c7 .args in
-    let f = subst (WordAt (now (a .text)) (a .at) (opening chosenPins)) (c2 .n .given .1) (c4 .word-at .ensures) in
-    line-group (now (a .text)) (a .at) chosenPins (c2 .n .given .0 .0) (f .1) (c .pair-at .result) (c .pair-at .ensures)
+    let c6 = c4 .before .before in
+    let a = c6 .before .before .args in
+    let g = groupOf (2 + c6 .loop .k) in
+    let f = subst (WordAt (now (a .text)) (a .at) (opening g)) (c2 .n .given .1) (c4 .opening-at .ensures) in
+    line-group (now (a .text)) (a .at) g (c2 .n .given .0 .0) (f .1) (c .rest-at .result) (c .rest-at .ensures)
 
-enum-told : tie.Need-enum-told
+enum-told : tie.Need-enum-told Inv-loop μ-loop
 enum-told c = search needs
 
-slice-aggregate-word-at-2 : tie.Need-slice-aggregate-word-at-2
-slice-aggregate-word-at-2 c = search needs
+add-k : tie.Need-add-k Inv-loop μ-loop
+add-k c = search needs
 
-word-at-requires-2 : tie.Need-word-at-requires-2
-word-at-requires-2 c κs = search needs
+loop-less : tie.Need-loop-less Inv-loop μ-loop
+loop-less c = search needs
 
-enum-known-n-2 : tie.Need-enum-known-n-2
-enum-known-n-2 c = search needs
-
-pair-at-requires-2 : tie.Need-pair-at-requires-2
-pair-at-requires-2 c κs =
-    let c3 = c .before .before .before in
-    let c10 = c3 .before .before .before .before .before .before .before in
-    let a = c10 .args in
-    subst (WordAt (now (a .text)) (a .at) (opening missingPins)) (c .before .n2 .given .1) (c3 .word-at2 .ensures) .0
-
-returns-2 : tie.Need-returns-2
-returns-2 c =
+loop-again : tie.Need-loop-again Inv-loop μ-loop
+loop-again c =
     let c2 = c .before .before in
     let c4 = c2 .before .before in
-    let c11 = c4 .before .before .before .before .before .before .before in
-    let a = c11 .args in
-    let f = subst (WordAt (now (a .text)) (a .at) (opening missingPins)) (c2 .n2 .given .1) (c4 .word-at2 .ensures) in
-    line-group (now (a .text)) (a .at) missingPins (c2 .n2 .given .0 .0) (f .1) (c .pair-at2 .result) (c .pair-at2 .ensures)
+    let a = c4 .before .before .args in (
+      omega arith,
+      below-more _ _ (c4 .loop .inv .1)
+          (subst (WordAt (now (a .text)) (a .at) (opening (groupOf (2 + c4 .loop .k)))) (c .enum-told .given .1) (c2 .opening-at .ensures)),
+    )
 
-enum-told-2 : tie.Need-enum-told-2
-enum-told-2 c = search needs
+slice-aggregate-word-at : tie.Need-slice-aggregate-word-at Inv-loop μ-loop
+slice-aggregate-word-at c = search needs
 
-slice-aggregate-word-at-3 : tie.Need-slice-aggregate-word-at-3
-slice-aggregate-word-at-3 c = search needs
+word-at-requires : tie.Need-word-at-requires Inv-loop μ-loop
+word-at-requires c κs = search needs
 
-word-at-requires-3 : tie.Need-word-at-requires-3
-word-at-requires-3 c κs = search needs
-
-enum-known-n-3 : tie.Need-enum-known-n-3
-enum-known-n-3 c = search needs
-
-pair-at-requires-3 : tie.Need-pair-at-requires-3
-pair-at-requires-3 c κs =
-    let c3 = c .before .before .before in
-    let c14 = c3 .before .before .before .before .before .before .before .before .before .before .before in
-    let a = c14 .args in
-    subst (WordAt (now (a .text)) (a .at) (opening closedTiles)) (c .before .n3 .given .1) (c3 .word-at3 .ensures) .0
-
-returns-3 : tie.Need-returns-3
-returns-3 c =
-    let c2 = c .before .before in
-    let c4 = c2 .before .before in
-    let c15 = c4 .before .before .before .before .before .before .before .before .before .before .before in
-    let a = c15 .args in
-    let f = subst (WordAt (now (a .text)) (a .at) (opening closedTiles)) (c2 .n3 .given .1) (c4 .word-at3 .ensures) in
-    line-group (now (a .text)) (a .at) closedTiles (c2 .n3 .given .0 .0) (f .1) (c .pair-at3 .result) (c .pair-at3 .ensures)
-
-enum-told-3 : tie.Need-enum-told-3
-enum-told-3 c = search needs
-
-slice-aggregate-word-at-4 : tie.Need-slice-aggregate-word-at-4
-slice-aggregate-word-at-4 c = search needs
-
-word-at-requires-4 : tie.Need-word-at-requires-4
-word-at-requires-4 c κs = search needs
-
-enum-known-next : tie.Need-enum-known-next
+enum-known-next : tie.Need-enum-known-next Inv-loop μ-loop
 enum-known-next c = search needs
 
-enum-told-4 : tie.Need-enum-told-4
-enum-told-4 c = search needs
+enum-told-2 : tie.Need-enum-told-2 Inv-loop μ-loop
+enum-told-2 c = search needs
 
-returns-4 : tie.Need-returns-4
-returns-4 c =
+returns-2 : tie.Need-returns-2 Inv-loop μ-loop
+returns-2 c =
     let c2 = c .before .before in
-    let c4 = c2 .before .before in
-    let c6 = c4 .before .before in
-    let c8 = c6 .before .before in
-    let c10 = c8 .before .before in
-    let c12 = c10 .before .before in
-    let c14 = c12 .before .before in
-    let c17 = c14 .before .before .before in
-    let a = c17 .args in
-    line-none (now (a .text)) (a .at)
-    (each-opening (now (a .text)) (a .at) (subst (WordAt (now (a .text)) (a .at) (opening chosenPins)) (c12 .enum-told .given .1) (c14 .word-at .ensures))
-    (subst (WordAt (now (a .text)) (a .at) (opening missingPins)) (c8 .enum-told2 .given .1) (c10 .word-at2 .ensures))
-    (subst (WordAt (now (a .text)) (a .at) (opening closedTiles)) (c4 .enum-told3 .given .1) (c6 .word-at3 .ensures)))
-    (subst (WordAt (now (a .text)) (a .at) (40 ∷ 101 ∷ 110 ∷ 100 ∷ 41 ∷ 10 ∷ [])) (c .enum-told4 .given .1) (c2 .word-at4 .ensures))
+    let c5 = c2 .before .before .before in
+    let a = c5 .before .before .args in
+    line-none (now (a .text)) (a .at) (each-opening (now (a .text)) (a .at) (λ i l. c5 .loop .inv .1 i (omega arith)))
+    (subst (WordAt (now (a .text)) (a .at) (40 ∷ 101 ∷ 110 ∷ 100 ∷ 41 ∷ 10 ∷ [])) (c .enum-told2 .given .1) (c2 .word-at .ensures))
 
-returns-5 : tie.Need-returns-5
-returns-5 c =
+returns-3 : tie.Need-returns-3 Inv-loop μ-loop
+returns-3 c =
     let c3 = c .before .before .before in
-    let c18 = c3 .before .before .before .before .before .before .before .before .before .before .before .before .before .before .before in
-    let a = c18 .args in
-    let f = subst (WordAt (now (a .text)) (a .at) (40 ∷ 101 ∷ 110 ∷ 100 ∷ 41 ∷ 10 ∷ [])) (c .before .next .given .1) (c3 .word-at4 .ensures) in
+    let c6 = c3 .before .before .before in
+    let a = c6 .before .before .args in
+    let f = subst (WordAt (now (a .text)) (a .at) (40 ∷ 101 ∷ 110 ∷ 100 ∷ 41 ∷ 10 ∷ [])) (c .before .next .given .1) (c3 .word-at .ensures) in
     (f .0, line-end (now (a .text)) (a .at) (c .before .next .given .0 .0) (f .1))
 
 pub line-at-spec : {M : Type 1} → statement M
 line-at-spec =
     tie.close
     (tie.spec
-    slice-aggregate-word-at
-    word-at-requires
+    Inv-loop
+    μ-loop
+    loop-holds
+    add-group
+    opening-at-requires
     enum-known-n
-    pair-at-requires
+    rest-at-requires
     returns
     enum-told
-    slice-aggregate-word-at-2
-    word-at-requires-2
-    enum-known-n-2
-    pair-at-requires-2
-    returns-2
-    enum-told-2
-    slice-aggregate-word-at-3
-    word-at-requires-3
-    enum-known-n-3
-    pair-at-requires-3
-    returns-3
-    enum-told-3
-    slice-aggregate-word-at-4
-    word-at-requires-4
+    add-k
+    loop-less
+    loop-again
+    slice-aggregate-word-at
+    word-at-requires
     enum-known-next
-    enum-told-4
-    returns-4
-    returns-5)
+    enum-told-2
+    returns-2
+    returns-3)

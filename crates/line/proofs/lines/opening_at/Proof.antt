@@ -1,0 +1,61 @@
+-- `opening_at` compares the word that the group's number stands for. Assumes nothing.
+use mathlib.Core.Path.{sym, subst}
+use denote.Ref.{now}
+use borrow.Author.Needs.{needs}
+use Rattle.model.specs.Text.{Group}
+use Rattle.line.specs.Scan.{WordAt}
+use Rattle.line.specs.Lines.{opening}
+use Rattle.line.proofs.Lined.{group-two, group-three, group-else}
+use Rattle.line.proofs.lines.opening_at.Statement.{statement}
+use Rattle.line.proofs.lines.opening_at.Tie as tie
+
+slice-aggregate-word-at : tie.Need-slice-aggregate-word-at
+slice-aggregate-word-at c = search needs
+
+word-at-requires : tie.Need-word-at-requires
+word-at-requires c κs = search needs
+
+returns : tie.Need-returns
+returns c =
+    let c2 = c .before .before in
+    let a = c2 .before .before .args in
+    subst (λ (g : Group). WordAt (now (a .text)) (a .at) (opening g) (c .word-at .result)) (sym (group-two (a .group) (c2 .if1 .taken))) (c .word-at .ensures)
+
+slice-aggregate-word-at-2 : tie.Need-slice-aggregate-word-at-2
+slice-aggregate-word-at-2 c = search needs
+
+word-at-requires-2 : tie.Need-word-at-requires-2
+word-at-requires-2 c κs = search needs
+
+returns-2 : tie.Need-returns-2
+returns-2 c =
+    let c2 = c .before .before in
+    let a = c2 .before .before .before .args in
+    subst (λ (g : Group). WordAt (now (a .text)) (a .at) (opening g) (c .word-at2 .result)) (sym (group-three (a .group) (c2 .if2 .taken))) (c .word-at2 .ensures)
+
+slice-aggregate-word-at-3 : tie.Need-slice-aggregate-word-at-3
+slice-aggregate-word-at-3 c = search needs
+
+word-at-requires-3 : tie.Need-word-at-requires-3
+word-at-requires-3 c κs = search needs
+
+returns-3 : tie.Need-returns-3
+returns-3 c =
+    let c2 = c .before .before in
+    let a = c2 .before .before .before .args in
+    subst (λ (g : Group). WordAt (now (a .text)) (a .at) (opening g) (c .word-at3 .result))
+    (sym (group-else (a .group) (c2 .before .if1 .left) (c2 .if2 .left))) (c .word-at3 .ensures)
+
+pub opening-at-spec : {M : Type 1} → statement M
+opening-at-spec =
+    tie.close
+    (tie.spec
+    slice-aggregate-word-at
+    word-at-requires
+    returns
+    slice-aggregate-word-at-2
+    word-at-requires-2
+    returns-2
+    slice-aggregate-word-at-3
+    word-at-requires-3
+    returns-3)
