@@ -9,15 +9,17 @@ use native.Mathlib.Numerals.{add-one}
 use native.Mathlib.Omega.{arith}
 use lib.Dec.{eqb}
 use lib.ListN.{length, length-append}
-use Rattle.sums.specs.Counting.{only, each}
+use Rattle.sums.specs.Counting.{each}
 use Rattle.sums.specs.Tests.{Same, same, other, same?}
 use Rattle.model.specs.Job.{Job}
-use Rattle.model.specs.Text.{Group, chosenPins, missingPins, closedTiles, decimal, arrayLine, groupLine, endLine, lineBytes, isNamed, groupText, textOf}
+use Rattle.model.specs.Text.{Group, chosenPins, missingPins, closedTiles, decimal, arrayLine, groupLine, endLine, lineBytes, valueAt, valueLine, groupOf}
+use Rattle.model.specs.Text.{groupText, textOf}
+use Rattle.model.proofs.TextNames.{value-line}
 use Rattle.line.specs.Scan.{two}
 use Rattle.line.specs.Lines.{opening}
-use Rattle.writing.specs.Writer.{groupOf, ended, arrayText, cellText, rowText}
+use Rattle.writing.specs.Writer.{ended, arrayText, plainLine, cellText, rowText, groupsText}
 use Rattle.line.proofs.Scanned.{decimal-one, decimal-two}
-use Rattle.line.proofs.Lined.{group-bytes, pinsPart, capsPart, endPart}
+use Rattle.line.proofs.Lined.{group-bytes, behind-two, pinsPart, capsPart, endPart}
 
 -- ---- entry by entry
 
@@ -38,26 +40,6 @@ each-room {A} (suc n) i f l = by (eqb i n) (same? i n) (each-room n i f)
     by true (same e) r = omega (arith, length-append (each n f) (f n), ap (λ (k : ℕ). length (each k f) + length (f k)) e)
     by false (other e) r = omega (arith, length-append (each n f) (f n), r (omega arith))
 
--- ---- groups
-
-pub group-two : (n : ℕ) → n ≡ 2 → groupOf n ≡ chosenPins
-unfolding groupOf
-group-two n e = ap (λ (k : ℕ). groupOf k) e
-
-pub group-three : (n : ℕ) → n ≡ 3 → groupOf n ≡ missingPins
-unfolding groupOf
-group-three n e = ap (λ (k : ℕ). groupOf k) e
-
-pub group-else : (n : ℕ) → (n ≡ 2 → ⊥) → (n ≡ 3 → ⊥) → groupOf n ≡ closedTiles
-unfolding groupOf
-group-else n p q = by (eqb n 2) (same? n 2) (eqb n 3) (same? n 3)
-  where
-    by : (a : Bool) → Same n 2 a → (b : Bool) → Same n 3 b
-        → elim a as (λ x. Group) [ true ↦ chosenPins | false ↦ elim b as (λ x. Group) [ true ↦ missingPins | false ↦ closedTiles ] ] ≡ closedTiles
-    by true (same e) b s = absurd (p e)
-    by false (other e) true (same f) = absurd (q f)
-    by false (other e) false (other f) = refl
-
 -- ---- numbers
 
 pub digits-one : (n : ℕ) → n < 10 → length (decimal n) ≡ 1
@@ -77,14 +59,15 @@ two-length a b = omega (arith, length-append (decimal a) (32 ∷ ended b 41), en
 
 -- ---- lines
 
--- a line of a group: what it begins with, two numbers, and the end of the line
-pub line-parts : (g : Group) (r c : ℕ) → opening g ++ (two r c [] ++ (10 ∷ [])) ≡ lineBytes (groupLine g r c)
-line-parts g r c =
-    ap (λ (X : List ℕ). opening g ++ X) (simp append-assoc) ∙ (sym (group-bytes g r c []) ∙ append-nil (lineBytes (groupLine g r c)))
+line-plain : (g : Group) (r c d v : ℕ) → lineBytes (groupLine g r c d v) ≡ plainLine g r c
+line-plain g r c d v =
+    let e : two r c (10 ∷ []) ≡ two r c [] ++ (10 ∷ []) = simp append-assoc in
+    sym (append-nil (lineBytes (groupLine g r c d v)))
+    ∙ (group-bytes g r c d v [] ∙ ap (λ (X : List ℕ). opening g ++ X) (behind-two g r c d v [] ∙ e))
 
-pub line-counted : (g : Group) (r c : ℕ) → length (lineBytes (groupLine g r c)) ≡ length (opening g) + length (decimal r) + length (decimal c) + 3
+pub line-counted : (g : Group) (r c : ℕ) → length (plainLine g r c) ≡ length (opening g) + length (decimal r) + length (decimal c) + 3
 line-counted g r c =
-    omega (arith, ap length (line-parts g r c), length-append (opening g) (two r c [] ++ (10 ∷ [])), length-append (two r c []) (10 ∷ []), two-length r c)
+    omega (arith, length-append (opening g) (two r c [] ++ (10 ∷ [])), length-append (two r c []) (10 ∷ []), two-length r c)
 
 -- the array line: what follows O, the word of the caps, the pins, the first word
 abbrev pub afterO : ℕ → ℕ → List ℕ
@@ -123,13 +106,26 @@ array-counted K =
 
 -- ---- cells
 
-pub cell-named : (K : Job) (g : Group) (r c : ℕ) → isNamed K g r c ≡ true → cellText K g r c ≡ lineBytes (groupLine g r c)
-unfolding cellText
-cell-named K g r c e = ap (λ (b : Bool). only b (lineBytes (groupLine g r c))) e
+-- four entries of which the first alone has something
+first-only : (f : ℕ → List ℕ) → f 1 ≡ [] → f 2 ≡ [] → f 3 ≡ [] → each 4 f ≡ f 0
+unfolding each
+first-only f a b c = (λ i. ((f 0 ++ a i) ++ b i) ++ c i) ∙ simp append-nil
 
-pub cell-none : (K : Job) (g : Group) (r c : ℕ) → isNamed K g r c ≡ false → cellText K g r c ≡ []
+-- no group has sides
+cell-first : (K : Job) (g : Group) (r c : ℕ) → cellText K g r c ≡ valueLine g r c 0 (valueAt K g r c 0)
 unfolding cellText
-cell-none K g r c e = ap (λ (b : Bool). only b (lineBytes (groupLine g r c))) e
+cell-first K chosenPins r c = first-only (λ d. valueLine chosenPins r c d (valueAt K chosenPins r c d)) refl refl refl
+cell-first K missingPins r c = first-only (λ d. valueLine missingPins r c d (valueAt K missingPins r c d)) refl refl refl
+cell-first K closedTiles r c = first-only (λ d. valueLine closedTiles r c d (valueAt K closedTiles r c d)) refl refl refl
+
+pub cell-some : (K : Job) (g : Group) (r c n : ℕ) → n ≡ valueAt K g r c 0 → 0 < n → cellText K g r c ≡ plainLine g r c
+cell-some K g r c n e l =
+    cell-first K g r c ∙ (ap (valueLine g r c 0) (sym e) ∙ (value-line g r c 0 n l ∙ line-plain g r c 0 n))
+
+pub cell-none : (K : Job) (g : Group) (r c n : ℕ) → n ≡ valueAt K g r c 0 → n ≤ 0 → cellText K g r c ≡ []
+cell-none K g r c n e l =
+    let z : valueAt K g r c 0 ≡ 0 = omega arith in
+    cell-first K g r c ∙ ap (valueLine g r c 0) z
 
 pub group-rows : (K : Job) (g : Group) → each (K .rows) (rowText K g) ≡ groupText K g
 unfolding rowText cellText
@@ -137,32 +133,18 @@ group-rows K g = refl
 
 -- ---- the text
 
--- what follows the missing pins, the chosen pins, the array
-abbrev pub afterMissing : Job → List ℕ
-afterMissing K = groupText K closedTiles ++ lineBytes endLine
+pub text-parts : (K : Job) → arrayText K ++ (groupsText K 3 ++ lineBytes endLine) ≡ textOf K
+unfolding textOf arrayText groupsText each groupOf
+text-parts K = simp append-assoc
 
-abbrev pub afterChosen : Job → List ℕ
-afterChosen K = groupText K missingPins ++ afterMissing K
-
-abbrev pub afterArray : Job → List ℕ
-afterArray K = groupText K chosenPins ++ afterChosen K
-
-pub text-parts : (K : Job) → arrayText K ++ afterArray K ≡ textOf K
-unfolding textOf arrayText
-text-parts K = refl
-
-pub text-counted : (K : Job)
-    → length (textOf K)
-    ≡ length (arrayText K) + length (groupText K chosenPins) + length (groupText K missingPins) + length (groupText K closedTiles) + 6
+pub text-counted : (K : Job) → length (textOf K) ≡ length (arrayText K) + length (groupsText K 3) + 6
 unfolding lineBytes
 text-counted K =
     omega (
       arith,
       ap length (text-parts K),
-      length-append (arrayText K) (afterArray K),
-      length-append (groupText K chosenPins) (afterChosen K),
-      length-append (groupText K missingPins) (afterMissing K),
-      length-append (groupText K closedTiles) (lineBytes endLine),
+      length-append (arrayText K) (groupsText K 3 ++ lineBytes endLine),
+      length-append (groupsText K 3) (lineBytes endLine),
     )
 
 pub end-word : lineBytes endLine ≡ 40 ∷ 101 ∷ 110 ∷ 100 ∷ 41 ∷ 10 ∷ []

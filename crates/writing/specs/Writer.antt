@@ -1,25 +1,22 @@
 -- What is written of a job: the parts of its text, cell by cell, what a part put at an offset of an output leaves there, and the paper's answer for each
 -- outcome of writing. Assumes nothing.
 use mathlib.Core.Path.{_≡_}
-use mathlib.Core.Bool.{true, false}
 use mathlib.Core.List.{List, [], _∷_, _++_}
 use Prim.Native.Nat.{ℕ, _+_, _≤_}
-use lib.Dec.{T, eqb}
+use lib.Dec.{T}
 use lib.ListN.{length}
 use lib.Seq.{sets}
-use Rattle.sums.specs.Counting.{only, each}
+use Rattle.sums.specs.Counting.{each}
 use Rattle.model.specs.Job.{Job, arrayFits, capsFit}
 use Rattle.model.specs.Record.{recordSize, jobOf}
-use Rattle.model.specs.Text.{Group, chosenPins, missingPins, closedTiles, decimal, arrayLine, groupLine, lineBytes, isNamed}
+use Rattle.model.specs.Text.{Group, decimal, arrayLine, lineBytes, valueAt, valueLine, groupText, groupOf}
 use Rattle.model.specs.Calls.{Answer, refused, wrote, After, after}
+use Rattle.line.specs.Scan.{two}
+use Rattle.line.specs.Lines.{opening}
 use Rattle.writing.specs.declared.writer.Written.{Written}
 use Rattle.writing.specs.declared.writer.Written.the-variants.{Wrote, Short}
 
 -- ---- the parts of a text
-
--- the groups by the reader's numbers: 2 chosen, 3 missing, 4 closed
-unfoldable pub groupOf : ℕ → Group
-groupOf n = elim (eqb n 2) [ true ↦ chosenPins | false ↦ elim (eqb n 3) [ true ↦ missingPins | false ↦ closedTiles ] ]
 
 -- a number and the byte that ends it
 abbrev pub ended : ℕ → ℕ → List ℕ
@@ -28,13 +25,21 @@ ended n end = decimal n ++ (end ∷ [])
 unfoldable pub arrayText : Job → List ℕ
 arrayText J = lineBytes (arrayLine (J .rows) (J .columns) (J .O) (J .D) (J .E))
 
--- what a group has at a cell
+-- a line without a tail: what it begins with, two numbers, and the end of the line
+abbrev pub plainLine : Group → ℕ → ℕ → List ℕ
+plainLine g r c = opening g ++ (two r c [] ++ (10 ∷ []))
+
+-- what a group has at a cell, side by side
 unfoldable pub cellText : Job → Group → ℕ → ℕ → List ℕ
-cellText J g r c = only (isNamed J g r c) (lineBytes (groupLine g r c))
+cellText J g r c = each 4 (λ d. valueLine g r c d (valueAt J g r c d))
 
 -- what it has in a row
 unfoldable pub rowText : Job → Group → ℕ → List ℕ
 rowText J g r = each (J .columns) (λ c. cellText J g r c)
+
+-- what the first n groups have
+unfoldable pub groupsText : Job → ℕ → List ℕ
+groupsText J n = each n (λ k. groupText J (groupOf (2 + k)))
 
 -- ---- writing
 

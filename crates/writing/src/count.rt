@@ -10,10 +10,11 @@ use line::words::MISSING;
 ghost use mathlib.Core.Path.{_≡_};
 ghost use Prim.Native.Nat.{_≤_};
 ghost use lib.ListN.{length};
+ghost use Rattle.sums.specs.Counting.{when};
 ghost use Rattle.model.specs.Record.{recordSize, jobOf};
-ghost use Rattle.model.specs.Text.{decimal, isNamed, groupText, textOf};
+ghost use Rattle.model.specs.Text.{decimal, valueAt, groupText, textOf, groupOf};
 ghost use Rattle.line.specs.Lines.{opening};
-ghost use Rattle.writing.specs.Writer.{groupOf, arrayText, cellText, rowText};
+ghost use Rattle.writing.specs.Writer.{arrayText, cellText, rowText, groupsText};
 
 // The digits of a number.
 fn digits(n: usize) -> usize
@@ -22,18 +23,26 @@ fn digits(n: usize) -> usize
     if n < 10 { 1 } else { 2 }
 }
 
-// Whether the group names the pin or tile.
-pub fn is_named(rec: &[u8], group: usize, row: usize, column: usize) -> bool
+// A number where a test is met, else 0.
+fn number_if(test: bool, n: usize) -> usize
+    ensures { λ r. ⌜ r ≡ when test n ⌝ }
+{
+    if test { n } else { 0 }
+}
+
+// The value that the job has in a group at a pin or tile: 0 for none.
+pub fn value_at(rec: &[u8], group: usize, row: usize, column: usize) -> usize
     requires { ⌜ recordSize ≤ length (now rec) ⌝ }
-    ensures { λ r. ⌜ r ≡ isNamed (jobOf (now (rec .entry))) (groupOf group) row column ⌝ }
+    ensures { λ r. ⌜ r ≡ valueAt (jobOf (now (rec .entry))) (groupOf group) row column 0 ⌝ }
 {
     if group == 2 {
-        return channel::is_chosen(rec, row, column);
+        return number_if(channel::is_chosen(rec, row, column), 1);
     }
     if group == 3 {
-        return channel::is_missing(rec, row, column);
+        return number_if(channel::is_missing(rec, row, column), 2);
     }
-    channel::is_tile(rec, row, column) & (channel::state_of(rec, row, column) == 1)
+    let closed = channel::is_tile(rec, row, column) & (channel::state_of(rec, row, column) == 1);
+    number_if(closed, 1)
 }
 
 // The length of a group's first word, with its parenthesis and its space.
@@ -54,7 +63,7 @@ fn count_cell(rec: &[u8], group: usize, row: usize, column: usize) -> usize
     requires { ⌜ recordSize ≤ length (now rec) ⌝ }
     ensures { λ r. ⌜ (r ≡ length (cellText (jobOf (now (rec .entry))) (groupOf group) row column)) × (r ≤ 16) ⌝ }
 {
-    if is_named(rec, group, row, column) {
+    if value_at(rec, group, row, column) > 0 {
         count_opening(group) + digits(row) + digits(column) + 2 + GROUP_END.len()
     } else {
         0
@@ -87,6 +96,18 @@ fn count_group(rec: &[u8], group: usize) -> usize
     n
 }
 
+// The length of the groups' lines.
+fn count_groups(rec: &[u8]) -> usize
+    requires { ⌜ recordSize ≤ length (now rec) ⌝ }
+    ensures { λ r. ⌜ (r ≡ length (groupsText (jobOf (now (rec .entry))) 3)) × (r ≤ 4194304) ⌝ }
+{
+    let mut n = 0;
+    for k in 0..3 {
+        n += count_group(rec, 2 + k);
+    }
+    n
+}
+
 // The length of the array line.
 fn count_array(rec: &[u8]) -> usize
     requires { ⌜ recordSize ≤ length (now rec) ⌝ }
@@ -104,6 +125,5 @@ pub fn count_text(rec: &[u8]) -> usize
     requires { ⌜ recordSize ≤ length (now rec) ⌝ }
     ensures { λ r. ⌜ r ≡ length (textOf (jobOf (now (rec .entry)))) ⌝ }
 {
-    let pins = count_group(rec, 2) + count_group(rec, 3);
-    count_array(rec) + pins + count_group(rec, 4) + END.len()
+    count_array(rec) + count_groups(rec) + END.len()
 }

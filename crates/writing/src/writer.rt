@@ -1,6 +1,6 @@
 // The text of a record's job, written line by line. Its length is counted first, so an output that is too short keeps every byte.
 use crate::count::count_text;
-use crate::count::is_named;
+use crate::count::value_at;
 use crate::put::put_number;
 use crate::put::put_two;
 use crate::put::put_word;
@@ -16,10 +16,10 @@ ghost use mathlib.Core.Path.{_≡_};
 ghost use Prim.Native.Nat.{_≤_, _<_};
 ghost use lib.ListN.{length};
 ghost use Rattle.model.specs.Record.{recordSize, jobOf, Legal};
-ghost use Rattle.model.specs.Text.{arrayLine, groupLine, lineBytes, groupText, textOf};
+ghost use Rattle.model.specs.Text.{arrayLine, lineBytes, groupText, textOf, groupOf};
 ghost use Rattle.model.specs.Calls.{written};
 ghost use Rattle.line.specs.Lines.{opening, Below100};
-ghost use Rattle.writing.specs.Writer.{groupOf, arrayText, cellText, rowText, Sized, Room, Puts, wroteText};
+ghost use Rattle.writing.specs.Writer.{arrayText, plainLine, cellText, rowText, groupsText, Sized, Room, Puts, wroteText};
 
 // What writing a text came to: its length, or an output that is shorter.
 pub enum Written {
@@ -44,8 +44,8 @@ fn put_opening(out: &mut [u8], at: usize, group: usize) -> usize
 // The line of a group for a pin or tile.
 fn put_line(out: &mut [u8], at: usize, group: usize, row: usize, column: usize) -> usize
     requires { ⌜ (row < 100) × (column < 100) ⌝ }
-    requires { ⌜ Room (now out) at (lineBytes (groupLine (groupOf group) row column)) ⌝ }
-    ensures { λ r. ⌜ Puts (now (out .entry)) at (lineBytes (groupLine (groupOf group) row column)) (now (out .exit)) r ⌝ }
+    requires { ⌜ Room (now out) at (plainLine (groupOf group) row column) ⌝ }
+    ensures { λ r. ⌜ Puts (now (out .entry)) at (plainLine (groupOf group) row column) (now (out .exit)) r ⌝ }
 {
     let first = put_opening(out, at, group);
     let end = put_two(out, first, row, column);
@@ -59,7 +59,7 @@ fn put_cell(rec: &[u8], out: &mut [u8], at: usize, group: usize, row: usize, col
     requires { ⌜ Room (now out) at (cellText (jobOf (now rec)) (groupOf group) row column) ⌝ }
     ensures { λ r. ⌜ Puts (now (out .entry)) at (cellText (jobOf (now (rec .entry))) (groupOf group) row column) (now (out .exit)) r ⌝ }
 {
-    if is_named(rec, group, row, column) {
+    if value_at(rec, group, row, column) > 0 {
         return put_line(out, at, group, row, column);
     }
     at
@@ -90,6 +90,19 @@ fn put_group(rec: &[u8], out: &mut [u8], at: usize, group: usize) -> usize
     let mut next = at;
     for row in 0..rows {
         next = put_row(rec, out, next, group, row);
+    }
+    next
+}
+
+// The groups' lines.
+fn put_groups(rec: &[u8], out: &mut [u8], at: usize) -> usize
+    requires { ⌜ Sized (now rec) ⌝ }
+    requires { ⌜ Room (now out) at (groupsText (jobOf (now rec)) 3) ⌝ }
+    ensures { λ r. ⌜ Puts (now (out .entry)) at (groupsText (jobOf (now (rec .entry))) 3) (now (out .exit)) r ⌝ }
+{
+    let mut next = at;
+    for k in 0..3 {
+        next = put_group(rec, out, next, 2 + k);
     }
     next
 }
@@ -136,10 +149,8 @@ fn put_text(rec: &[u8], out: &mut [u8]) -> usize
     ensures { λ r. ⌜ Puts (now (out .entry)) 0 (textOf (jobOf (now (rec .entry)))) (now (out .exit)) r ⌝ }
 {
     let first = put_array(rec, out);
-    let chosen = put_group(rec, out, first, 2);
-    let missing = put_group(rec, out, chosen, 3);
-    let closed = put_group(rec, out, missing, 4);
-    put_word(out, closed, &END)
+    let last = put_groups(rec, out, first);
+    put_word(out, last, &END)
 }
 
 // The text of the record's job, if the output has room for it.

@@ -6,7 +6,8 @@ use denote.Ref.{now}
 use lib.ListN.{length}
 use Rattle.sums.specs.Counting.{each}
 use Rattle.model.specs.Record.{jobOf}
-use Rattle.writing.specs.Writer.{groupOf, rowText}
+use Rattle.model.specs.Text.{groupOf}
+use Rattle.writing.specs.Writer.{rowText}
 use Rattle.writing.proofs.Counted.{each-length, group-rows}
 use Rattle.writing.proofs.count.count_group.Statement.{statement}
 use Rattle.writing.proofs.count.count_group.Tie as tie

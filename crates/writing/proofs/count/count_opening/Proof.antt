@@ -4,7 +4,7 @@ use native.Mathlib.Omega.{arith}
 use lib.ListN.{length}
 use Rattle.model.specs.Text.{Group}
 use Rattle.line.specs.Lines.{opening}
-use Rattle.writing.proofs.Counted.{group-two, group-three, group-else}
+use Rattle.line.proofs.Lined.{group-two, group-three, group-else}
 use Rattle.writing.proofs.count.count_opening.Statement.{statement}
 use Rattle.writing.proofs.count.count_opening.Tie as tie
 

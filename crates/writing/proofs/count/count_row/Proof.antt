@@ -6,7 +6,8 @@ use denote.Ref.{now}
 use lib.ListN.{length}
 use Rattle.sums.specs.Counting.{each}
 use Rattle.model.specs.Record.{jobOf}
-use Rattle.writing.specs.Writer.{groupOf, cellText, rowText}
+use Rattle.model.specs.Text.{groupOf}
+use Rattle.writing.specs.Writer.{cellText, rowText}
 use Rattle.writing.proofs.Counted.{each-length}
 use Rattle.writing.proofs.count.count_row.Statement.{statement}
 use Rattle.writing.proofs.count.count_row.Tie as tie

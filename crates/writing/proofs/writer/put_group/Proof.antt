@@ -5,7 +5,8 @@ use native.Mathlib.Omega.{arith}
 use denote.Ref.{now}
 use Rattle.sums.specs.Counting.{each}
 use Rattle.model.specs.Record.{jobOf}
-use Rattle.writing.specs.Writer.{groupOf, rowText, Puts}
+use Rattle.model.specs.Text.{groupOf}
+use Rattle.writing.specs.Writer.{rowText, Puts}
 use Rattle.line.proofs.Ranges.{array-small}
 use Rattle.writing.proofs.Counted.{group-rows}
 use Rattle.writing.proofs.Placed.{puts-none, puts-as, puts-each, puts-length, room-as, room-each}

@@ -2,7 +2,7 @@
 use mathlib.Core.Path.{sym, ap}
 use borrow.Author.Needs.{needs}
 use Rattle.line.specs.Lines.{opening}
-use Rattle.writing.proofs.Counted.{group-two, group-three, group-else}
+use Rattle.line.proofs.Lined.{group-two, group-three, group-else}
 use Rattle.writing.proofs.Placed.{puts-as, room-as}
 use Rattle.writing.proofs.writer.put_opening.Statement.{statement}
 use Rattle.writing.proofs.writer.put_opening.Tie as tie
