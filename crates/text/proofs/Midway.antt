@@ -4,7 +4,7 @@ use mathlib.Core.Path.{_≡_, refl, sym, ap, subst, _∙_}
 use mathlib.Core.Bool.{Bool, true, false, not, _&&_}
 use mathlib.Core.List.{List, [], _∷_, _++_}
 use mathlib.Core.Option.{some}
-use Prim.Native.Nat.{ℕ, _+_, _-_, _*_, _≤_, _<_}
+use Prim.Native.Nat.{ℕ, _+_, _*_, _/_, _≤_, _<_}
 use native.Mathlib.Omega.{arith}
 use lib.Dec.{T, eqb, leb, ltb, eqb→eq, leb→le, ltb→lt}
 use lib.ListN.{length, getD, drop, set, replicate, length-append, length-drop, length-set, length-replicate, getD-replicate, drop-of-length-le}
@@ -13,10 +13,11 @@ use Rattle.sums.specs.Counting.{when}
 use Rattle.sums.specs.Tests.{Same, same, other, same?, and-left, and-right, and-both}
 use Rattle.model.specs.Job.{fresh, put, arrayFits, capsAdmitted, isPin}
 use Rattle.model.specs.Text.{Group, chosenPins, missingPins, closedTiles, Line, arrayLine, groupLine, endLine, lineBytes, Stage, begin, afterArray, finished}
-use Rattle.model.specs.Text.{within, rank, Reader, start, asking, inTurn, names, admit, Verdict, reads, wrongAt, Reads, ended, line, wrong, Reading}
+use Rattle.model.specs.Text.{within, rank, Reader, start, asking, inTurn, names, named, admit, Verdict, reads, wrongAt, Reads, ended, line, wrong}
+use Rattle.model.specs.Text.{Reading, says, keyOf}
 use Rattle.model.proofs.TextUnique.{line-some}
-use Rattle.model.proofs.TextProper.{asked}
-use Rattle.model.proofs.TextNames.{rank-group, names-inside}
+use Rattle.model.proofs.TextProper.{asked, by-word, names-says}
+use Rattle.model.proofs.TextNames.{rank-group, names-inside, Alike, named-alike}
 use Rattle.channel.specs.Written.{put-at, put-else}
 use Rattle.line.specs.declared.lines.Opening.the-variants.{Array}
 use Rattle.text.specs.declared.reader.Cursor.{Cursor}
@@ -58,13 +59,13 @@ finished-none R (arrayLine a b o d e) R′ z q =
     let x : Bool = eqb (rank (R .stage)) 0 in
     let (t, y) = asked (x && (arrayFits a b && capsAdmitted o d e)) _ R′ q in
     omega (arith, ap rank z, eqb→eq (rank (R .stage)) 0 (and-left x (arrayFits a b && capsAdmitted o d e) t))
-finished-none R (groupLine g r c) R′ z q =
+finished-none R (groupLine g r c d v) R′ z q =
     let x : Bool = leb 1 (rank (R .stage)) in
     let u : Bool = leb (rank (R .stage)) (rank (within g)) in
-    let v : Bool = leb (when (eqb (rank (R .stage)) (rank (within g))) (R .from)) (40 * r + c) in
-    let (t, y) = asked (inTurn R g r c && names (R .job) g r c) _ R′ q in
-    let p : T (u && v) = and-right x (u && v) (and-left (inTurn R g r c) (names (R .job) g r c) t) in
-    omega (arith, ap rank z, rank-group g .1, leb→le (rank (R .stage)) (rank (within g)) (and-left u v p))
+    let w : Bool = leb (when (eqb (rank (R .stage)) (rank (within g))) (R .from)) (keyOf r c d) in
+    let (t, y) = asked (inTurn R g r c d && names (R .job) g r c d v) _ R′ q in
+    let p : T (u && w) = and-right x (u && w) (and-left (inTurn R g r c d) (names (R .job) g r c d v) t) in
+    omega (arith, ap rank z, rank-group g .1, leb→le (rank (R .stage)) (rank (within g)) (and-left u w p))
 finished-none R endLine R′ z q =
     let x : Bool = leb 1 (rank (R .stage)) in
     let u : Bool = ltb (rank (R .stage)) 5 in
@@ -139,17 +140,18 @@ module _ {text : List ℕ} {at s f rows columns : ℕ} {chosen : List ℕ} (m : 
       m .on v (line l R′ (drop next text) a q
       (subst (λ (n : ℕ). Reads R′ n (drop next text) v) (line-length text at next l (m .within) k q .0) h))
 
-  pub step-further : {d : Cursor} → Stepped text R at (To d) → (at < d .at) × (d .at ≤ length text)
-  step-further {d} (byGroup g r c a i j k q) = (line-length text at (d .at) (groupLine g r c) (m .within) k q .1, k)
-  step-further {d} (byEnd a i j k q) = (line-length text at (d .at) endLine (m .within) k q .1, k)
+  pub step-further : {k : Cursor} → Stepped text R at (To k) → (at < k .at) × (k .at ≤ length text)
+  step-further {k} (byGroup g r c d v a i j l q) = (line-length text at (k .at) (groupLine g r c d v) (m .within) l q .1, l)
+  step-further {k} (byEnd a i j l q) = (line-length text at (k .at) endLine (m .within) l q .1, l)
 
   -- what an admitted line of a group names
-  group-named : (g : Group) (r c : ℕ) → admit R (groupLine g r c) ≡ some (afterGroup R g r c) → T (names (R .job) g r c) × (r < 40) × (c < 40)
+  group-named : (g : Group) (r c d v : ℕ) → admit R (groupLine g r c d v) ≡ some (afterGroup R g r c d v)
+      → T (names (R .job) g r c d v) × (r < 40) × (c < 40)
   unfolding admit
-  group-named g r c a =
-      let (t, x) = asked (inTurn R g r c && names (R .job) g r c) _ _ a in
-      let u : T (names (R .job) g r c) = and-right (inTurn R g r c) (names (R .job) g r c) t in
-      let (y, z) = names-inside (R .job) g r c u in
+  group-named g r c d v a =
+      let (t, x) = asked (inTurn R g r c d && names (R .job) g r c d v) _ _ a in
+      let u : T (names (R .job) g r c d v) = and-right (inTurn R g r c d) (names (R .job) g r c d v) t in
+      let (y, z, o) = names-inside (R .job) g r c d v u in
       (u, omega (arith, w .high, m .high), omega (arith, w .wide, m .wide))
 
   marks-chosen : (r c : ℕ) → r < 40 → c < 40 → (i j : ℕ) → i < 40 → j < 40
@@ -170,7 +172,7 @@ module _ {text : List ℕ} {at s f rows columns : ℕ} {chosen : List ℕ} (m : 
           ∙ (w .marks i j li lj
           ∙ ap (λ (k : ℕ). eqb k 1) (sym (put-else (R .job .mark) r c 1 i j (λ x y. n (λ k. 40 * x k + y k)))))
 
-  marks-missing : (r c : ℕ) → r < 40 → c < 40 → T (names (R .job) missingPins r c) → (i j : ℕ) → i < 40 → j < 40
+  marks-missing : (r c : ℕ) → r < 40 → c < 40 → T (not (eqb (R .job .mark r c) 1)) → (i j : ℕ) → i < 40 → j < 40
       → eqb (getD chosen (40 * i + j) 0) 1 ≡ eqb (put (R .job .mark) r c 2 i j) 1
   marks-missing r c lr lc t i j li lj = by (eqb (40 * i + j) (40 * r + c)) (same? (40 * i + j) (40 * r + c))
     where
@@ -184,75 +186,67 @@ module _ {text : List ℕ} {at s f rows columns : ℕ} {chosen : List ℕ} (m : 
           let y : j ≡ c = omega arith in
           ap (λ (n : ℕ). eqb (getD chosen n 0) 1) e
           ∙ (w .marks r c lr lc
-          ∙ (unchosen (eqb (R .job .mark r c) 1) (and-right (isPin (R .job) r c) (not (eqb (R .job .mark r c) 1)) t)
+          ∙ (unchosen (eqb (R .job .mark r c) 1) t
           ∙ ap (λ (n : ℕ). eqb n 1) (sym (put-at (R .job .mark) r c 2) ∙ (λ k. put (R .job .mark) r c 2 (sym x k) (sym y k)))))
       by false (other n) = w .marks i j li lj ∙ ap (λ (k : ℕ). eqb k 1) (sym (put-else (R .job .mark) r c 2 i j (λ x y. n (λ k. 40 * x k + y k))))
 
+  -- the reader after a line of a group, if the marks follow it
+  further : (k : Cursor) (g : Group) (r c d v : ℕ) (chosen′ : List ℕ) → admit R (groupLine g r c d v) ≡ some (afterGroup R g r c d v)
+      → k .stage ≡ rank (within g) → k .from ≡ keyOf r c d + 1 → k .at ≤ length text → drop at text ≡ lineBytes (groupLine g r c d v) ++ drop (k .at) text
+      → length chosen′ ≡ 1600
+      → ((x y : ℕ) → x < 40 → y < 40 → eqb (getD chosen′ (40 * x + y) 0) 1 ≡ eqb (named (R .job) g r c d v .mark x y) 1)
+      → Midway text (k .at) (k .stage) (k .from) rows columns chosen′
+  further k g r c d v chosen′ a i j l q long marks =
+      let s : Alike (named (R .job) g r c d v) (R .job) = named-alike (R .job) (R .job) g r c d v (record { rows = refl; columns = refl; O = refl; D = refl; E = refl }) in
+      record {
+        reader = afterGroup R g r c d v;
+        follows = record { stage = i; from = j; high = s .rows ∙ w .high; wide = s .columns ∙ w .wide; marks = marks };
+        begun = omega (arith, rank-group g .0);
+        within = l;
+        high = m .high;
+        wide = m .wide;
+        marked = long;
+        on = goes-on (groupLine g r c d v) (afterGroup R g r c d v) (k .at) a l q;
+      }
+
   -- the chosen pin's mark is set
-  pub midway-chosen : {d : Cursor} → Stepped text R at (To d) → d .stage ≡ 2
-      → (1 ≤ d .from) × (d .from - 1 < 1600) × Midway text (d .at) (d .stage) (d .from) rows columns (set chosen (d .from - 1) 1)
-  midway-chosen {d} (byEnd a i j k q) e = absurd (omega arith)
-  midway-chosen {d} (byGroup missingPins r c a i j k q) e = absurd (omega arith)
-  midway-chosen {d} (byGroup closedTiles r c a i j k q) e = absurd (omega arith)
-  midway-chosen {d} (byGroup chosenPins r c a i j k q) e =
-      let (t, lr, lc) = group-named chosenPins r c a in
-      let p : d .from - 1 ≡ 40 * r + c = omega arith in (
+  pub midway-chosen : {k : Cursor} → Stepped text R at (To k) → k .stage ≡ 2
+      → (k .from / 4 < 1600) × Midway text (k .at) (k .stage) (k .from) rows columns (set chosen (k .from / 4) 1)
+  midway-chosen {k} (byEnd a i j l q) e = absurd (omega arith)
+  midway-chosen {k} (byGroup missingPins r c d v a i j l q) e = absurd (omega arith)
+  midway-chosen {k} (byGroup closedTiles r c d v a i j l q) e = absurd (omega arith)
+  midway-chosen {k} (byGroup chosenPins r c d v a i j l q) e =
+      let (t, lr, lc) = group-named chosenPins r c d v a in
+      let (z, one) = by-word d v 1 (names-says (R .job) chosenPins r c d v t) in
+      let p : k .from / 4 ≡ 40 * r + c = omega arith in (
         omega arith,
-        omega arith,
-        record {
-          reader = afterGroup R chosenPins r c;
-          follows = record {
-            stage = i;
-            from = j;
-            high = w .high;
-            wide = w .wide;
-            marks = λ x y lx ly. ap (λ (n : ℕ). eqb (getD (set chosen n 1) (40 * x + y) 0) 1) p ∙ marks-chosen r c lr lc x y lx ly;
-          };
-          begun = omega arith;
-          within = k;
-          high = m .high;
-          wide = m .wide;
-          marked = length-set chosen (d .from - 1) 1 ∙ m .marked;
-          on = goes-on (groupLine chosenPins r c) (afterGroup R chosenPins r c) (d .at) a k q;
-        },
+        further k chosenPins r c d v (set chosen (k .from / 4) 1) a i j l q (length-set chosen (k .from / 4) 1 ∙ m .marked)
+            (λ x y lx ly.
+            ap (λ (n : ℕ). eqb (getD (set chosen n 1) (40 * x + y) 0) 1) p
+            ∙ (marks-chosen r c lr lc x y lx ly ∙ ap (λ (n : ℕ). eqb (put (R .job .mark) r c n x y) 1) (sym one))),
       )
 
   -- any other line leaves the marks
-  pub midway-other : {d : Cursor} → Stepped text R at (To d) → (d .stage ≡ 2 → ⊥) → Midway text (d .at) (d .stage) (d .from) rows columns chosen
-  midway-other {d} (byGroup chosenPins r c a i j k q) n = absurd (n i)
-  midway-other {d} (byGroup missingPins r c a i j k q) n =
-      let (t, lr, lc) = group-named missingPins r c a in
-      record {
-        reader = afterGroup R missingPins r c;
-        follows = record { stage = i; from = j; high = w .high; wide = w .wide; marks = marks-missing r c lr lc t };
-        begun = omega arith;
-        within = k;
-        high = m .high;
-        wide = m .wide;
-        marked = m .marked;
-        on = goes-on (groupLine missingPins r c) (afterGroup R missingPins r c) (d .at) a k q;
-      }
-  midway-other {d} (byGroup closedTiles r c a i j k q) n =
-      record {
-        reader = afterGroup R closedTiles r c;
-        follows = record { stage = i; from = j; high = w .high; wide = w .wide; marks = w .marks };
-        begun = omega arith;
-        within = k;
-        high = m .high;
-        wide = m .wide;
-        marked = m .marked;
-        on = goes-on (groupLine closedTiles r c) (afterGroup R closedTiles r c) (d .at) a k q;
-      }
-  midway-other {d} (byEnd a i j k q) n =
+  pub midway-other : {k : Cursor} → Stepped text R at (To k) → (k .stage ≡ 2 → ⊥) → Midway text (k .at) (k .stage) (k .from) rows columns chosen
+  midway-other {k} (byGroup chosenPins r c d v a i j l q) n = absurd (n i)
+  midway-other {k} (byGroup missingPins r c d v a i j l q) n =
+      let (t, lr, lc) = group-named missingPins r c d v a in
+      let (z, two) = by-word d v 2 (names-says (R .job) missingPins r c d v t) in
+      let unchosen : Bool = not (eqb (R .job .mark r c) 1) in
+      let u : T unchosen = and-right (isPin (R .job) r c) unchosen (and-left (isPin (R .job) r c && unchosen) (says missingPins d v) t) in
+      further k missingPins r c d v chosen a i j l q (m .marked)
+      (λ x y lx ly. marks-missing r c lr lc u x y lx ly ∙ ap (λ (n : ℕ). eqb (put (R .job .mark) r c n x y) 1) (sym two))
+  midway-other {k} (byGroup closedTiles r c d v a i j l q) n = further k closedTiles r c d v chosen a i j l q (m .marked) (w .marks)
+  midway-other {k} (byEnd a i j l q) n =
       record {
         reader = afterEnd R;
         follows = record { stage = i; from = j; high = w .high; wide = w .wide; marks = w .marks };
         begun = omega arith;
-        within = k;
+        within = l;
         high = m .high;
         wide = m .wide;
         marked = m .marked;
-        on = goes-on endLine (afterEnd R) (d .at) a k q;
+        on = goes-on endLine (afterEnd R) (k .at) a l q;
       }
 
   -- ---- after the end line

@@ -10,12 +10,12 @@ use native.Mathlib.Omega.{arith}
 use lib.Dec.{T, eqb, leb, eqb→eq}
 use borrow.Author.Tests.{le-leb, lt-ltb}
 use lib.ListN.{length, getD, drop}
-use Rattle.sums.specs.Tests.{and-left, and-right}
-use Rattle.model.specs.Job.{fresh, arrayFits, capsAdmitted, isPin}
+use Rattle.sums.specs.Tests.{and-left, and-right, and-both}
+use Rattle.model.specs.Job.{fresh, arrayFits, capsAdmitted, isPin, isTile}
 use Rattle.model.specs.Text.{Group, chosenPins, missingPins, closedTiles, Line, arrayLine, groupLine, endLine, lineBytes, begin, afterArray, finished}
 use Rattle.model.specs.Text.{within, rank, Reader}
-use Rattle.model.specs.Text.{start, asking, inTurn, names, admit, wrongAt, wrong, Reading}
-use Rattle.model.proofs.TextUnique.{line-unique}
+use Rattle.model.specs.Text.{start, asking, inTurn, names, admit, wrongAt, wrong, Reading, says, keyOf}
+use Rattle.model.proofs.TextUnique.{Says, admit-says, line-unique}
 use Rattle.model.proofs.TextProper.{asked}
 use Rattle.model.proofs.TextNames.{names-inside}
 use Rattle.line.specs.declared.lines.Line.the-variants.{Wrong as WrongLine}
@@ -32,9 +32,10 @@ none-some : (R : Reader) → _≢_ {A = Option Reader} none (some R)
 none-some R e = let w : _≡_ {A = ℕ} 0 1 = cc in omega arith
 
 -- where a line begins that may not stand, none begins that may
-pub line-refused : (R : Reader) (text : List ℕ) (l : Line) (rest : List ℕ) → text ≡ lineBytes l ++ rest → admit R l ≡ none
+pub line-refused : (R : Reader) (text : List ℕ) (l : Line) (rest : List ℕ) → Says l → text ≡ lineBytes l ++ rest → admit R l ≡ none
     → (m : Line) (R′ : Reader) (more : List ℕ) → admit R m ≡ some R′ → text ≢ lineBytes m ++ more
-line-refused R text l rest q e m R′ more a p = none-some R′ (sym e ∙ (ap (admit R) (line-unique l m rest more (sym q ∙ p) .0) ∙ a))
+line-refused R text l rest t q e m R′ more a p =
+    none-some R′ (sym e ∙ (ap (admit R) (line-unique l m rest more t (admit-says R m R′ a) (sym q ∙ p) .0) ∙ a))
 
 -- ---- the array line
 
@@ -45,7 +46,7 @@ unfolding admit
 opened (arrayLine a b o d e) R q =
     let (t, p) = asked (arrayFits a b && capsAdmitted o d e) _ R q in
     (a, b, o, d, e, refl, and-left (arrayFits a b) (capsAdmitted o d e) t, and-right (arrayFits a b) (capsAdmitted o d e) t)
-opened (groupLine g r c) R q = absurd (none-some R q)
+opened (groupLine g r c d v) R q = absurd (none-some R q)
 opened endLine R q = absurd (none-some R q)
 
 not-begun : begin ≢ finished
@@ -63,13 +64,20 @@ pub open-refused : (text : List ℕ) (a b o d e : ℕ) (rest : List ℕ) → tex
     → (arrayFits a b && capsAdmitted o d e) ≡ false → Reading text (wrongAt 0)
 unfolding admit
 open-refused text a b o d e rest q n =
-    wrong (λ s. absurd (not-begun s)) (line-refused start text (arrayLine a b o d e) rest q (ap (λ (t : Bool). asking t (afterArray′ a b o d e)) n))
+    wrong (λ s. absurd (not-begun s)) (line-refused start text (arrayLine a b o d e) rest tt q (ap (λ (t : Bool). asking t (afterArray′ a b o d e)) n))
 
 -- ---- a line of a group
 
-and-true : (b : Bool) → b ≡ (b && true)
-and-true true = refl
-and-true false = refl
+-- a test beside one that is met
+and-so : (a b c : Bool) → T b → T c → (a && b) ≡ (a && c)
+and-so a true true t u = refl
+and-so a true false t u = absurd u
+and-so a false c t u = absurd t
+
+and-more : (a b : Bool) → T b → a ≡ (a && b)
+and-more true true t = refl
+and-more false b t = refl
+and-more true false t = absurd t
 
 pub and-false : (b : Bool) → (b && false) ≡ false
 and-false true = refl
@@ -82,10 +90,10 @@ unfolding admit
 none-stands R text at k x y (f, h) (arrayLine a b o d e) R′ rest q p =
     let (t, z) = asked (eqb (rank (R .stage)) 0 && (arrayFits a b && capsAdmitted o d e)) _ R′ q in
     omega (arith, eqb→eq (rank (R .stage)) 0 (and-left (eqb (rank (R .stage)) 0) (arrayFits a b && capsAdmitted o d e) t))
-none-stands R text at k x y (f, h) (groupLine g r c) R′ rest q p =
-    let (t, z) = asked (inTurn R g r c && names (R .job) g r c) _ R′ q in
-    let (u, v) = names-inside (R .job) g r c (and-right (inTurn R g r c) (names (R .job) g r c) t) in
-    f g r c rest (omega arith) (omega arith) p
+none-stands R text at k x y (f, h) (groupLine g r c d v) R′ rest q p =
+    let (t, z) = asked (inTurn R g r c d && names (R .job) g r c d v) _ R′ q in
+    let (a, b, s) = names-inside (R .job) g r c d v (and-right (inTurn R g r c d) (names (R .job) g r c d v) t) in
+    f g r c d v rest (omega arith) (omega arith) p
 none-stands R text at k x y (f, h) endLine R′ rest q p = h rest p
 
 -- the code's tests are those of the definitions
@@ -93,13 +101,14 @@ module _ {R : Reader} {s f rows columns : ℕ} {chosen : List ℕ} (w : Follows 
   abbrev bit : ℕ → ℕ → Bool
   bit r c = eqb (getD chosen (40 * r + c) 0) 1
 
-  turn-same : (g : Group) (r c : ℕ) → turnFits s f (rank (within g)) (40 * r + c) ≡ inTurn R g r c
+  turn-same : (g : Group) (r c : ℕ) → turnFits s f (rank (within g)) (4 * (40 * r + c)) ≡ inTurn R g r c 0
   turn-same g r c =
-      (λ i. turnFits (w .stage i) (w .from i) (rank (within g)) (40 * r + c))
-      ∙ sym (ap (λ (b : Bool). b && turnFits (rank (R .stage)) (R .from) (rank (within g)) (40 * r + c)) (le-leb 1 (rank (R .stage)) (omega (arith, w .stage))))
+      let key : 4 * (40 * r + c) ≡ keyOf r c 0 = omega arith in
+      (λ i. turnFits (w .stage i) (w .from i) (rank (within g)) (key i))
+      ∙ sym (ap (λ (b : Bool). b && turnFits (rank (R .stage)) (R .from) (rank (within g)) (keyOf r c 0)) (le-leb 1 (rank (R .stage)) (omega (arith, w .stage))))
 
-  names-same : (g : Group) (r c : ℕ) → namesFit rows columns (bit r c) (rank (within g)) r c ≡ names (R .job) g r c
-  names-same g r c = (λ i. namesFit (sym (w .high) i) (sym (w .wide) i) (bit r c) (rank (within g)) r c) ∙ by g
+  names-same : (g : Group) (r c d v : ℕ) → T (says g d v) → namesFit rows columns (bit r c) (rank (within g)) r c ≡ names (R .job) g r c d v
+  names-same g r c d v told = (λ i. namesFit (sym (w .high) i) (sym (w .wide) i) (bit r c) (rank (within g)) r c) ∙ by g told
     where
       kept : (a x y : Bool) → (T a → x ≡ y) → (a && not x) ≡ (a && not y)
       kept true x y e = ap not (e tt)
@@ -107,46 +116,49 @@ module _ {R : Reader} {s f rows columns : ℕ} {chosen : List ℕ} (w : Follows 
 
       inside : T (isPin (R .job) r c) → bit r c ≡ eqb (R .job .mark r c) 1
       inside t =
-          let (x, y) = names-inside (R .job) chosenPins r c t in
+          let (x, y, z) = names-inside (R .job) chosenPins r c 0 1 (and-both (isPin (R .job) r c) true t tt) in
           w .marks r c (omega (arith, w .high)) (omega (arith, w .wide))
 
-      by : (h : Group) → namesFit (R .job .rows) (R .job .columns) (bit r c) (rank (within h)) r c ≡ names (R .job) h r c
-      by chosenPins = sym (and-true (isPin (R .job) r c))
-      by missingPins = kept (isPin (R .job) r c) (bit r c) (eqb (R .job .mark r c) 1) inside
-      by closedTiles = refl
+      by : (h : Group) → T (says h d v) → namesFit (R .job .rows) (R .job .columns) (bit r c) (rank (within h)) r c ≡ names (R .job) h r c d v
+      by chosenPins t = and-so (isPin (R .job) r c) true (says chosenPins d v) tt t
+      by missingPins t =
+          kept (isPin (R .job) r c) (bit r c) (eqb (R .job .mark r c) 1) inside
+          ∙ and-more (isPin (R .job) r c && not (eqb (R .job .mark r c) 1)) (says missingPins d v) t
+      by closedTiles t = and-more (isTile (R .job) r c) (says closedTiles d v) t
 
   -- a line of a group at the offset
-  module _ (text : List ℕ) (at n r c next : ℕ) (g : Group) (is : n ≡ rank (within g)) (here : drop at text ≡ lineBytes (groupLine g r c) ++ drop next text)
-    where
-      pub step-group : (d : Cursor) → next ≤ length text → d .at ≡ next → d .stage ≡ n → d .from ≡ 40 * r + c + 1 → turnFits s f n (40 * r + c) ≡ true
-          → namesFit rows columns (bit r c) n r c ≡ true → Stepped text R at (To d)
-      unfolding admit
-      step-group d l i j k t u =
-          byGroup {d = d} g r c (λ z. asking ((sym (turn-same g r c) ∙ (ap (λ (m : ℕ). turnFits s f m (40 * r + c)) (sym is) ∙ t)) z
-          && (sym (names-same g r c) ∙ (ap (λ (m : ℕ). namesFit rows columns (bit r c) m r c) (sym is) ∙ u)) z) (afterGroup R g r c)) (j ∙ is) k (omega arith)
-          (here ∙ ap (λ (m : ℕ). lineBytes (groupLine g r c) ++ drop m text) (sym i))
+  module _ (text : List ℕ) (at n r c v next : ℕ) (g : Group) (is : n ≡ rank (within g)) (told : T (says g 0 v))
+      (here : drop at text ≡ lineBytes (groupLine g r c 0 v) ++ drop next text) where
+    pub step-group : (k : Cursor) → next ≤ length text → k .at ≡ next → k .stage ≡ n → k .from ≡ 4 * (40 * r + c) + 1
+        → turnFits s f n (4 * (40 * r + c)) ≡ true → namesFit rows columns (bit r c) n r c ≡ true → Stepped text R at (To k)
+    unfolding admit
+    step-group k l i j o t u =
+        byGroup {k = k} g r c 0 v (λ z. asking ((sym (turn-same g r c) ∙ (ap (λ (m : ℕ). turnFits s f m (4 * (40 * r + c))) (sym is) ∙ t)) z
+        && (sym (names-same g r c 0 v told) ∙ (ap (λ (m : ℕ). namesFit rows columns (bit r c) m r c) (sym is) ∙ u)) z) (afterGroup R g r c 0 v)) (j ∙ is)
+        (omega arith) (omega arith) (here ∙ ap (λ (m : ℕ). lineBytes (groupLine g r c 0 v) ++ drop m text) (sym i))
 
-      pub step-out-of-turn : turnFits s f n (40 * r + c) ≡ false → Stepped text R at Wrong
-      unfolding admit
-      step-out-of-turn t =
-          stops (line-refused R (drop at text) (groupLine g r c) (drop next text) here
-          (λ z. asking ((sym (turn-same g r c) ∙ (ap (λ (m : ℕ). turnFits s f m (40 * r + c)) (sym is) ∙ t)) z && names (R .job) g r c) (afterGroup R g r c)))
+    pub step-out-of-turn : turnFits s f n (4 * (40 * r + c)) ≡ false → Stepped text R at Wrong
+    unfolding admit
+    step-out-of-turn t =
+        stops (line-refused R (drop at text) (groupLine g r c 0 v) (drop next text) told here
+        (λ z. asking ((sym (turn-same g r c) ∙ (ap (λ (m : ℕ). turnFits s f m (4 * (40 * r + c))) (sym is) ∙ t)) z && names (R .job) g r c 0 v)
+        (afterGroup R g r c 0 v)))
 
-      pub step-unnamed : namesFit rows columns (bit r c) n r c ≡ false → Stepped text R at Wrong
-      unfolding admit
-      step-unnamed u =
-          stops (line-refused R (drop at text) (groupLine g r c) (drop next text) here
-          ((λ z. asking (inTurn R g r c && (sym (names-same g r c) ∙ (ap (λ (m : ℕ). namesFit rows columns (bit r c) m r c) (sym is) ∙ u)) z)
-          (afterGroup R g r c))
-          ∙ ap (λ (b : Bool). asking b (afterGroup R g r c)) (and-false (inTurn R g r c))))
+    pub step-unnamed : namesFit rows columns (bit r c) n r c ≡ false → Stepped text R at Wrong
+    unfolding admit
+    step-unnamed u =
+        stops (line-refused R (drop at text) (groupLine g r c 0 v) (drop next text) told here
+        ((λ z. asking (inTurn R g r c 0 && (sym (names-same g r c 0 v told) ∙ (ap (λ (m : ℕ). namesFit rows columns (bit r c) m r c) (sym is) ∙ u)) z)
+        (afterGroup R g r c 0 v))
+        ∙ ap (λ (b : Bool). asking b (afterGroup R g r c 0 v)) (and-false (inTurn R g r c 0))))
 
   -- the end line at the offset
-  pub step-end : (text : List ℕ) (at next : ℕ) (d : Cursor) → s < 5 → next ≤ length text → d .at ≡ next → d .stage ≡ 5 → d .from ≡ 0
-      → drop at text ≡ lineBytes endLine ++ drop next text → Stepped text R at (To d)
+  pub step-end : (text : List ℕ) (at next : ℕ) (k : Cursor) → s < 5 → next ≤ length text → k .at ≡ next → k .stage ≡ 5 → k .from ≡ 0
+      → drop at text ≡ lineBytes endLine ++ drop next text → Stepped text R at (To k)
   unfolding admit
-  step-end text at next d l m i j k q =
-      byEnd {d = d} (λ z. asking (le-leb 1 (rank (R .stage)) (omega (arith, w .stage)) z && lt-ltb (rank (R .stage)) 5 (omega (arith, w .stage)) z)
-      (afterEnd R)) j k
+  step-end text at next k l m i j o q =
+      byEnd {k = k} (λ z. asking (le-leb 1 (rank (R .stage)) (omega (arith, w .stage)) z && lt-ltb (rank (R .stage)) 5 (omega (arith, w .stage)) z)
+      (afterEnd R)) j o
       (omega arith) (q ∙ ap (λ (p : ℕ). lineBytes endLine ++ drop p text) (sym i))
 
   -- no line of a group and no end line at the offset

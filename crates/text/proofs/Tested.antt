@@ -11,16 +11,16 @@ use Rattle.sums.specs.Counting.{when}
 use Rattle.sums.specs.Tests.{Same, same, other, same?}
 use Rattle.text.specs.Reader.{turnFits, namesFit}
 
-module _ (stage from group cell : ℕ) where
-  pub turn-early : group < stage → false ≡ turnFits stage from group cell
-  turn-early l = sym (ap (λ (b : Bool). b && leb (when (eqb stage group) from) cell) (lt-leb stage group l))
+module _ (stage from group key : ℕ) where
+  pub turn-early : group < stage → false ≡ turnFits stage from group key
+  turn-early l = sym (ap (λ (b : Bool). b && leb (when (eqb stage group) from) key) (lt-leb stage group l))
 
-  pub turn-same : group ≡ stage → leb from cell ≡ turnFits stage from group cell
-  turn-same e = sym (λ i. le-leb stage group (omega arith) i && leb (when (eq-eqb stage group (sym e) i) from) cell)
+  pub turn-same : group ≡ stage → leb from key ≡ turnFits stage from group key
+  turn-same e = sym (λ i. le-leb stage group (omega arith) i && leb (when (eq-eqb stage group (sym e) i) from) key)
 
-  pub turn-later : stage ≤ group → group ≢ stage → true ≡ turnFits stage from group cell
+  pub turn-later : stage ≤ group → group ≢ stage → true ≡ turnFits stage from group key
   turn-later l n =
-      sym ((λ i. le-leb stage group l i && leb (when (ne-eqb stage group (λ e. n (sym e)) i) from) cell) ∙ le-leb 0 cell (omega arith))
+      sym ((λ i. le-leb stage group l i && leb (when (ne-eqb stage group (λ e. n (sym e)) i) from) key) ∙ le-leb 0 key (omega arith))
 
 module _ (rows columns : ℕ) (b : Bool) (group r c : ℕ) where
   module _ (tile : group ≡ 4) where

@@ -5,7 +5,7 @@ use mathlib.Core.Logic.{_≢_}
 use mathlib.Core.Bool.{_&&_}
 use mathlib.Core.List.{List, _++_}
 use mathlib.Core.Option.{some}
-use Prim.Native.Nat.{ℕ, _+_, _-_, _≤_, _<_}
+use Prim.Native.Nat.{ℕ, _+_, _≤_, _<_}
 use native.Mathlib.Omega.{arith}
 use lib.Dec.{T, leb, ltb}
 use lib.ListN.{length, drop, set}
@@ -15,7 +15,7 @@ use Rattle.model.specs.Record.{recordSize, markPlane, statePlane, offset, noLoa
 use Rattle.model.specs.Text.{Group as TextGroup, chosenPins, missingPins, closedTiles, Line, arrayLine, groupLine, endLine, lineBytes, afterArray}
 use Rattle.model.specs.Text.{finished, within, rank, Reader}
 use Rattle.model.specs.Text.{inTurn, names, named, admit, Verdict, reads, wrongAt, Reads, ended, line, wrong, Reading}
-use Rattle.model.proofs.TextUnique.{line-unique, line-some, reads-unique}
+use Rattle.model.proofs.TextUnique.{Says, admit-says, line-unique, line-some, reads-unique}
 use Rattle.model.proofs.TextProper.{asked}
 use Rattle.model.proofs.TextNames.{rank-group, names-inside, Alike, named-alike}
 use Rattle.channel.specs.Written.{marked-over, closed-over, over-over}
@@ -34,17 +34,17 @@ Well (reads K) = Unit {0}
 Well (wrongAt o) = ⊥
 
 -- the reader after the line that begins there
-reads-on : {R : Reader} {o : ℕ} {text : List ℕ} {v : Verdict} (l : Line) (rest : List ℕ) → text ≡ lineBytes l ++ rest → Well v → Reads R o text v
+reads-on : {R : Reader} {o : ℕ} {text : List ℕ} {v : Verdict} (l : Line) (rest : List ℕ) → Says l → text ≡ lineBytes l ++ rest → Well v → Reads R o text v
     → (R′ : Reader) × (admit R l ≡ some R′) × Reads R′ (o + length (lineBytes l)) rest v
-reads-on l rest q t (ended g e) = absurd (line-some l rest (sym e ∙ q))
-reads-on {R} {o} {text} {v} l rest q t (line m S more b p r) =
-    let (x, y) = line-unique l m rest more (sym q ∙ p) in (
+reads-on l rest z q t (ended g e) = absurd (line-some l rest (sym e ∙ q))
+reads-on {R} {o} {text} {v} l rest z q t (line m S more b p r) =
+    let (x, y) = line-unique l m rest more z (admit-says R m S b) (sym q ∙ p) in (
       S,
       ap (admit R) x ∙ b,
       subst (λ (n : Line). Reads S (o + length (lineBytes n)) rest v) (sym x)
           (subst (λ (X : List ℕ). Reads S (o + length (lineBytes m)) X v) (sym y) r),
     )
-reads-on l rest q t (wrong f n) = absurd t
+reads-on l rest z q t (wrong f n) = absurd t
 
 -- a finished reader has the text's job
 finished-job : {R : Reader} {o : ℕ} {text : List ℕ} {v : Verdict} → R .stage ≡ finished → Well v → Reads R o text v → reads (R .job) ≡ v
@@ -62,24 +62,24 @@ none-read l n t (ended g e) = omega (arith, ap rank g)
 none-read l n t (line m S more b p r) = n m S more b p
 none-read l n t (wrong f h) = t
 
-named-size : (J : Job) (g : TextGroup) (r c : ℕ) → (named J g r c .rows ≡ J .rows) × (named J g r c .columns ≡ J .columns)
-named-size J g r c =
-    let a : Alike (named J g r c) J = named-alike J J g r c (record { rows = refl; columns = refl; O = refl; D = refl; E = refl }) in
+named-size : (J : Job) (g : TextGroup) (r c d v : ℕ) → (named J g r c d v .rows ≡ J .rows) × (named J g r c d v .columns ≡ J .columns)
+named-size J g r c d v =
+    let a : Alike (named J g r c d v) J = named-alike J J g r c d v (record { rows = refl; columns = refl; O = refl; D = refl; E = refl }) in
     (a .rows, a .columns)
 
 -- ---- a line of a group in a record
 
-module _ (J : Job) (under : List ℕ) (r c : ℕ) (high : r < 40) (wide : c < 40) (long : recordSize ≤ length under) where
+module _ (J : Job) (under : List ℕ) (r c d v : ℕ) (high : r < 40) (wide : c < 40) (long : recordSize ≤ length under) where
   pub named-closed : (g : TextGroup) → rank (within g) ≡ 4
-      → set (over (unwiredRecord J) under) (offset statePlane r c) 1 ≡ over (unwiredRecord (named J g r c)) under
+      → set (over (unwiredRecord J) under) (offset statePlane r c) v ≡ over (unwiredRecord (named J g r c d v)) under
   named-closed chosenPins e = absurd (omega arith)
   named-closed missingPins e = absurd (omega arith)
-  named-closed closedTiles e = closed-over J under r c 1 long high wide
+  named-closed closedTiles e = closed-over J under r c v long high wide
 
   pub named-marked : (g : TextGroup) → rank (within g) ≢ 4
-      → set (over (unwiredRecord J) under) (offset markPlane r c) (rank (within g) - 1) ≡ over (unwiredRecord (named J g r c)) under
-  named-marked chosenPins e = marked-over J under r c 1 long high wide
-  named-marked missingPins e = marked-over J under r c 2 long high wide
+      → set (over (unwiredRecord J) under) (offset markPlane r c) v ≡ over (unwiredRecord (named J g r c d v)) under
+  named-marked chosenPins e = marked-over J under r c v long high wide
+  named-marked missingPins e = marked-over J under r c v long high wide
   named-marked closedTiles e = absurd (e refl)
 
 -- ---- the record so far
@@ -98,7 +98,7 @@ pub writing-open : (text rec out : List ℕ) (a b o d e next : ℕ) → next ≤
     → out ≡ over (unwiredRecord (fresh a b o d e)) rec → (K : Job) → Reading text (reads K) → Writing text out K next out
 unfolding admit
 writing-open text rec out a b o d e next l q x K h =
-    let (R′, s, r) = reads-on (arrayLine a b o d e) (drop next text) q tt h in
+    let (R′, s, r) = reads-on (arrayLine a b o d e) (drop next text) tt q tt h in
     let (t, z) = asked (arrayFits a b && capsAdmitted o d e) R R′ s in
     let (y, w) = array-small a b (and-left (arrayFits a b) (capsAdmitted o d e) t) in
     record {
@@ -124,37 +124,34 @@ module _ {text rec : List ℕ} {K : Job} {at : ℕ} {out : List ℕ} (w : Writin
 
   -- ---- a line of a group
 
-  module _ (inside : at ≤ length text) (n r c next : ℕ) (f : LineAt text at (Group n r c next)) where
+  module _ (inside : at ≤ length text) (n r c v next : ℕ) (f : LineAt text at (Group n r c v next)) where
     abbrev g : TextGroup
     g = f .0
 
-    -- the pin or tile that it names, and the reader after it
-    group-read : T (names (R .job) g r c) × Reads (afterGroup R g r c) next (drop next text) (reads K)
+    -- what it names, and the reader after it
+    group-read : T (names (R .job) g r c 0 v) × Reads (afterGroup R g r c 0 v) next (drop next text) (reads K)
     unfolding admit
     group-read =
-        let (R′, s, x) = reads-on (groupLine g r c) (drop next text) (f .5) tt (w .rest) in
-        let (t, z) = asked (inTurn R g r c && names (R .job) g r c) (afterGroup R g r c) R′ s in (
-          and-right (inTurn R g r c) (names (R .job) g r c) t,
+        let (R′, s, x) = reads-on (groupLine g r c 0 v) (drop next text) (f .2) (f .7) tt (w .rest) in
+        let (t, z) = asked (inTurn R g r c 0 && names (R .job) g r c 0 v) (afterGroup R g r c 0 v) R′ s in (
+          and-right (inTurn R g r c 0) (names (R .job) g r c 0 v) t,
           subst (λ (S : Reader). Reads S next (drop next text) (reads K)) (sym z)
-              (subst (λ (o : ℕ). Reads R′ o (drop next text) (reads K)) (sym (line-length text at next (groupLine g r c) inside (f .4) (f .5) .0)) x),
+              (subst (λ (o : ℕ). Reads R′ o (drop next text) (reads K)) (sym (line-length text at next (groupLine g r c 0 v) inside (f .6) (f .7) .0)) x),
         )
 
     pub group-cell : (r < 40) × (c < 40)
     group-cell =
-        let (x, y) = names-inside (R .job) g r c (group-read .0) in
+        let (x, y, z) = names-inside (R .job) g r c 0 v (group-read .0) in
         (omega (arith, w .high), omega (arith, w .wide))
 
-    pub group-rank : (2 ≤ n) × (n ≤ 4)
-    group-rank = (omega (arith, f .1, rank-group g .0), omega (arith, f .1, rank-group g .1))
-
-    pub writing-group : (new : List ℕ) → new ≡ over (unwiredRecord (named (R .job) g r c)) rec → Writing text rec K next new
+    pub writing-group : (new : List ℕ) → new ≡ over (unwiredRecord (named (R .job) g r c 0 v)) rec → Writing text rec K next new
     writing-group new e =
         record {
-          reader = afterGroup R g r c;
+          reader = afterGroup R g r c 0 v;
           begun = omega (arith, rank-group g .0);
           going = rank-group g .1;
-          high = omega (arith, w .high, named-size (R .job) g r c .0);
-          wide = omega (arith, w .wide, named-size (R .job) g r c .1);
+          high = omega (arith, w .high, named-size (R .job) g r c 0 v .0);
+          wide = omega (arith, w .wide, named-size (R .job) g r c 0 v .1);
           rest = group-read .1;
           here = e;
         }
@@ -165,7 +162,7 @@ module _ {text rec : List ℕ} {K : Job} {at : ℕ} {out : List ℕ} (w : Writin
   pub writing-ended : (next : ℕ) → LineAt text at (End next) → out ≡ over (unwiredRecord K) rec
   unfolding admit
   writing-ended next (l, q) =
-      let (R′, s, x) = reads-on endLine (drop next text) q tt (w .rest) in
+      let (R′, s, x) = reads-on endLine (drop next text) tt q tt (w .rest) in
       let (t, z) = asked (leb 1 (rank (R .stage)) && ltb (rank (R .stage)) 5) (afterEnd R) R′ s in
       let e : R .job ≡ K = same-job (R .job) K (ap (λ (S : Reader). reads (S .job)) z ∙ finished-job (ap (λ (S : Reader). S .stage) (sym z)) tt x) in
       w .here ∙ ap (λ (J : Job). over (unwiredRecord J) rec) e

@@ -10,7 +10,8 @@ use lib.Dec.{T, eqb, leb, ltb}
 use lib.ListN.{length, getD, drop}
 use Rattle.sums.specs.Counting.{when}
 use Rattle.model.specs.Job.{Job, arrayFits, capsAdmitted}
-use Rattle.model.specs.Text.{Group, Line, arrayLine, groupLine, endLine, lineBytes, finished, within, rank, Reader, named, admit, reads, wrongAt, Reading}
+use Rattle.model.specs.Text.{Group, Line, arrayLine, groupLine, endLine, lineBytes, finished, within, rank, keyOf}
+use Rattle.model.specs.Text.{Reader, named, admit, reads, wrongAt, Reading}
 use Rattle.line.specs.declared.lines.Opening.{Opening}
 use Rattle.line.specs.declared.lines.Opening.the-variants.{Array, Wrong as WrongOpening}
 use Rattle.text.specs.declared.reader.Cursor.{Cursor}
@@ -30,7 +31,7 @@ Opens text WrongOpening = Reading text (wrongAt 0)
 
 -- the groups in their order, each rising
 abbrev pub turnFits : ℕ → ℕ → ℕ → ℕ → Bool
-turnFits stage from group cell = leb stage group && leb (when (eqb stage group) from) cell
+turnFits stage from group key = leb stage group && leb (when (eqb stage group) from) key
 
 -- the array has the tile, or the pin; a missing pin is not chosen
 abbrev pub namesFit : ℕ → ℕ → Bool → ℕ → ℕ → ℕ → Bool
@@ -49,18 +50,18 @@ pub record Follows (R : Reader) (s f rows columns : ℕ) (chosen : List ℕ) : T
   pub marks : (r c : ℕ) → r < 40 → c < 40 → eqb (getD chosen (40 * r + c) 0) 1 ≡ eqb (R .job .mark r c) 1
 
 -- the reader after a line of a group, and after the end line
-abbrev pub afterGroup : Reader → Group → ℕ → ℕ → Reader
-afterGroup R g r c = record { stage = within g; from = 40 * r + c + 1; job = named (R .job) g r c }
+abbrev pub afterGroup : Reader → Group → ℕ → ℕ → ℕ → ℕ → Reader
+afterGroup R g r c d v = record { stage = within g; from = keyOf r c d + 1; job = named (R .job) g r c d v }
 
 abbrev pub afterEnd : Reader → Reader
 afterEnd R = record { stage = finished; from = 0; job = R .job }
 
 -- where the line at an offset leads the reader R
 pub data Stepped (text : List ℕ) (R : Reader) (at : ℕ) : Step → Type 0 where
-  byGroup : {d : Cursor} (g : Group) (r c : ℕ) → admit R (groupLine g r c) ≡ some (afterGroup R g r c) → d .stage ≡ rank (within g) → d .from ≡ 40 * r + c + 1
-      → d .at ≤ length text → drop at text ≡ lineBytes (groupLine g r c) ++ drop (d .at) text → Stepped text R at (To d)
-  byEnd : {d : Cursor} → admit R endLine ≡ some (afterEnd R) → d .stage ≡ 5 → d .from ≡ 0 → d .at ≤ length text
-      → drop at text ≡ lineBytes endLine ++ drop (d .at) text → Stepped text R at (To d)
+  byGroup : {k : Cursor} (g : Group) (r c d v : ℕ) → admit R (groupLine g r c d v) ≡ some (afterGroup R g r c d v) → k .stage ≡ rank (within g)
+      → k .from ≡ keyOf r c d + 1 → k .at ≤ length text → drop at text ≡ lineBytes (groupLine g r c d v) ++ drop (k .at) text → Stepped text R at (To k)
+  byEnd : {k : Cursor} → admit R endLine ≡ some (afterEnd R) → k .stage ≡ 5 → k .from ≡ 0 → k .at ≤ length text
+      → drop at text ≡ lineBytes endLine ++ drop (k .at) text → Stepped text R at (To k)
   stops : ((l : Line) (R′ : Reader) (rest : List ℕ) → admit R l ≡ some R′ → drop at text ≢ lineBytes l ++ rest) → Stepped text R at Wrong
 
 -- the line at the cursor leads every reader there that the cursor, the size and the marks follow

@@ -10,17 +10,17 @@ ghost use lib.ListN.{length};
 ghost use Rattle.model.specs.Record.{recordSize};
 ghost use Rattle.text.specs.Into.{Names, Readable, Holds, ReadsInto};
 
-// A line of a group in the record. The groups' marks are 1 and 2; a closed tile's state is 1.
-fn write_line(rec: &mut [u8], group: usize, row: usize, column: usize)
+// The value of a group's line in the record: a closed tile's state, or a pin's mark.
+fn write_line(rec: &mut [u8], group: usize, row: usize, column: usize, value: usize)
     requires { ⌜ recordSize ≤ length (now rec) ⌝ }
-    requires { ⌜ (2 ≤ group) × (group ≤ 4) × (row < 40) × (column < 40) ⌝ }
-    ensures { λ _. ⌜ Names (now (rec .entry)) group row column (now (rec .exit)) ⌝ }
+    requires { ⌜ (row < 40) × (column < 40) × (value < 100) ⌝ }
+    ensures { λ _. ⌜ Names (now (rec .entry)) group row column value (now (rec .exit)) ⌝ }
 {
     if group == 4 {
-        channel::set_state(rec, row, column, 1);
+        channel::set_state(rec, row, column, value);
         return;
     }
-    channel::set_mark(rec, row, column, group - 1);
+    channel::set_mark(rec, row, column, value);
 }
 
 // The job of a text that reads, line by line.
@@ -47,12 +47,13 @@ fn write_job(text: &[u8], rec: &mut [u8])
             group,
             row,
             column,
+            value,
             next,
         } = next_line(text, at)
         else {
             return;
         };
-        write_line(rec, group, row, column);
+        write_line(rec, group, row, column, value);
         at = next;
     }
 }

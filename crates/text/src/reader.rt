@@ -84,7 +84,7 @@ fn names(
     true
 }
 
-// The offset of the next line; the stage: 1 after the array, 2, 3, 4 in a group, 5 after the end; the least 40 r + c that the group may still name.
+// The offset of the next line; the stage: 1 after the array, 2, 3, 4 in a group, 5 after the end; the least key that the group may still have.
 pub struct Cursor {
     pub at: usize,
     pub stage: usize,
@@ -98,15 +98,15 @@ pub enum Step {
 }
 
 impl Cursor {
-    // Whether a group's line at a cell is in turn.
-    fn in_turn(self, group: usize, cell: usize) -> bool
-        ensures { λ r. ⌜ r ≡ turnFits (self .stage) (self .from) group cell ⌝ }
+    // Whether a group's line with a key is in turn.
+    fn in_turn(self, group: usize, key: usize) -> bool
+        ensures { λ r. ⌜ r ≡ turnFits (self .stage) (self .from) group key ⌝ }
     {
         if group < self.stage {
             return false;
         }
         if group == self.stage {
-            return self.from <= cell;
+            return self.from <= key;
         }
         true
     }
@@ -122,10 +122,11 @@ impl Cursor {
                 group,
                 row,
                 column,
+                value: _,
                 next,
             } => {
-                let cell = 40 * row + column;
-                if !self.in_turn(group, cell) {
+                let key = 4 * (40 * row + column);
+                if !self.in_turn(group, key) {
                     return Step::Wrong;
                 }
                 if !names(rows, columns, chosen, group, row, column) {
@@ -134,7 +135,7 @@ impl Cursor {
                 Step::To(Cursor {
                     at: next,
                     stage: group,
-                    from: cell + 1,
+                    from: key + 1,
                 })
             }
             Line::End { next } => Step::To(Cursor {
@@ -173,7 +174,7 @@ pub fn judge(text: &[u8]) -> Judged
             return Judged::WrongAt(cursor.at);
         };
         if then.stage == 2 {
-            let cell = then.from - 1;
+            let cell = then.from / 4;
             chosen[cell] = 1;
         }
         cursor = then;

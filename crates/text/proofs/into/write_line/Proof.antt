@@ -1,7 +1,7 @@
 -- `write_line` names a pin or tile in a record: a closed tile by its state, any other line by its mark. Assumes nothing.
 use mathlib.Core.Path.{sym, ap, _∙_}
 use mathlib.Core.List.{List}
-use Prim.Native.Nat.{ℕ, _-_}
+use Prim.Native.Nat.{ℕ}
 use lib.ListN.{set}
 use borrow.Author.Needs.{needs}
 use Rattle.model.specs.Record.{markPlane, statePlane, offset}
@@ -22,13 +22,11 @@ returns c =
     let c6 = c4 .before .before in
     let r = c6 .args .row in
     let k = c6 .args .column in
+    let v = c6 .args .value in
     let p = c6 .pre .1 in
     λ J under g i l e.
     c2 .set-state .ensures
-    ∙ (ap (λ (s : List ℕ). set s (offset statePlane r k) 1) e ∙ named-closed J under r k (p .2) (p .3) l g (sym i ∙ c4 .if1 .taken))
-
-sub-set-mark : tie.Need-sub-set-mark
-sub-set-mark c = search needs
+    ∙ (ap (λ (s : List ℕ). set s (offset statePlane r k) v) e ∙ named-closed J under r k 0 v (p .0) (p .1) l g (sym i ∙ c4 .if1 .taken))
 
 set-mark-requires : tie.Need-set-mark-requires
 set-mark-requires c κs = search needs
@@ -43,10 +41,11 @@ returns-2 c =
     let c6 = c4 .before .before in
     let r = c6 .args .row in
     let k = c6 .args .column in
+    let v = c6 .args .value in
     let p = c6 .pre .1 in
     λ J under g i l e.
     c2 .set-mark .ensures
-    ∙ ((λ z. set (e z) (offset markPlane r k) (i z - 1)) ∙ named-marked J under r k (p .2) (p .3) l g (λ x. c4 .if1 .left (i ∙ x)))
+    ∙ (ap (λ (s : List ℕ). set s (offset markPlane r k) v) e ∙ named-marked J under r k 0 v (p .0) (p .1) l g (λ x. c4 .if1 .left (i ∙ x)))
 
 pub write-line-spec : {M : Type 1} → statement M
 write-line-spec =
@@ -55,7 +54,6 @@ write-line-spec =
     set-state-requires
     same-length
     returns
-    sub-set-mark
     set-mark-requires
     same-length-2
     returns-2)

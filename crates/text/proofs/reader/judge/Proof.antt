@@ -61,21 +61,13 @@ returns-2 c =
     let m = c6 .loop .inv in
     midway-wrong m (c4 .if1 .taken) (midway-step m (c2 .next .ensures) (c .enum-told2 .given .1))
 
-sub-cell : tie.Need-sub-cell Inv-loop μ-loop
-sub-cell c =
-    let c4 = c .before .before .before .before in
-    let c6 = c4 .before .before in
-    let c10 = c6 .before .before .before .before in
-    let m = c10 .loop .inv in
-    midway-chosen m (midway-step m (c6 .next .ensures) (c4 .then .given .1)) (c .before .if2 .taken) .0
-
 array-write-chosen : tie.Need-array-write-chosen Inv-loop μ-loop
 array-write-chosen c =
     let c4 = c .before .before .before .before in
     let c6 = c4 .before .before in
     let c10 = c6 .before .before .before .before in
     let m = c10 .loop .inv in
-    midway-chosen m (midway-step m (c6 .next .ensures) (c4 .then .given .1)) (c .before .if2 .taken) .1
+    midway-chosen m (midway-step m (c6 .next .ensures) (c4 .then .given .1)) (c .before .if2 .taken) .0
 
 loop-less : tie.Need-loop-less Inv-loop μ-loop
 loop-less c =
@@ -92,7 +84,7 @@ loop-again c =
     let c6 = c4 .before .before in
     let c10 = c6 .before .before .before .before in
     let m = c10 .loop .inv in
-    midway-chosen m (midway-step m (c6 .next .ensures) (c4 .then .given .1)) (c .before .if2 .taken) .2
+    midway-chosen m (midway-step m (c6 .next .ensures) (c4 .then .given .1)) (c .before .if2 .taken) .1
 
 loop-less-2 : tie.Need-loop-less-2 Inv-loop μ-loop
 loop-less-2 c =
@@ -138,7 +130,6 @@ judge-spec =
     enum-known-then
     enum-told-2
     returns-2
-    sub-cell
     array-write-chosen
     loop-less
     loop-again

@@ -15,21 +15,29 @@ next-line-requires c κs = search needs
 enum-known-group : tie.Need-enum-known-group
 enum-known-group c = search needs
 
-mul-cell : tie.Need-mul-cell
-mul-cell c =
+mul-key : tie.Need-mul-key
+mul-key c =
     let c3 = c .before .before .before in
     let c5 = c3 .before .before in
     let a = c5 .args in
     let f = subst (LineAt (now (a .text)) (a .self .at)) (c .before .group .given .1) (c3 .next-line .ensures) in
-    omega (arith, f .2)
+    omega (arith, f .3)
 
-add-cell : tie.Need-add-cell
-add-cell c =
+add-key : tie.Need-add-key
+add-key c =
     let c3 = c .before .before .before in
     let c5 = c3 .before .before in
     let a = c5 .args in
     let f = subst (LineAt (now (a .text)) (a .self .at)) (c .before .group .given .1) (c3 .next-line .ensures) in
-    omega (arith, f .2, f .3)
+    omega (arith, f .3, f .4)
+
+mul-key-2 : tie.Need-mul-key-2
+mul-key-2 c =
+    let c3 = c .before .before .before in
+    let c5 = c3 .before .before in
+    let a = c5 .args in
+    let f = subst (LineAt (now (a .text)) (a .self .at)) (c .before .group .given .1) (c3 .next-line .ensures) in
+    omega (arith, f .3, f .4)
 
 in-turn-requires : tie.Need-in-turn-requires
 in-turn-requires c κs = search needs
@@ -45,7 +53,7 @@ returns c =
     let f = subst (LineAt (now (a .text)) (a .self .at)) (p .1) (c5 .next-line .ensures) in
     λ R w.
     step-out-of-turn w (s .pre .1) (s .pre .3) (s .pre .4) (now (a .text)) (a .self .at)
-    (p .0 .0) (p .0 .1 .0) (p .0 .1 .1 .0) (p .0 .1 .1 .1 .0) (f .0) (f .1) (f .5) (sym (c .before .in-turn .ensures) ∙ not-true _ (c .if1 .taken))
+    (p .0 .0) (p .0 .1 .0) (p .0 .1 .1 .0) (p .0 .1 .1 .1 .0) (p .0 .1 .1 .1 .1 .0) (f .0) (f .1) (f .2) (f .7) (sym (c .before .in-turn .ensures) ∙ not-true _ (c .if1 .taken))
 
 names-requires : tie.Need-names-requires
 names-requires c κs =
@@ -55,7 +63,7 @@ names-requires c κs =
     let s = c7 in
     let a = s .args in
     let f = subst (LineAt (now (a .text)) (a .self .at)) (c3 .group .given .1) (c5 .next-line .ensures) in
-    (s .pre .3, s .pre .4, f .2, f .3)
+    (s .pre .3, s .pre .4, f .3, f .4)
 
 returns-2 : tie.Need-returns-2
 returns-2 c =
@@ -68,7 +76,7 @@ returns-2 c =
     let f = subst (LineAt (now (a .text)) (a .self .at)) (p .1) (c7 .next-line .ensures) in
     λ R w.
     step-unnamed w (s .pre .1) (s .pre .3) (s .pre .4) (now (a .text)) (a .self .at)
-    (p .0 .0) (p .0 .1 .0) (p .0 .1 .1 .0) (p .0 .1 .1 .1 .0) (f .0) (f .1) (f .5) (sym (c .before .names .ensures) ∙ not-true _ (c .if2 .taken))
+    (p .0 .0) (p .0 .1 .0) (p .0 .1 .1 .0) (p .0 .1 .1 .1 .0) (p .0 .1 .1 .1 .1 .0) (f .0) (f .1) (f .2) (f .7) (sym (c .before .names .ensures) ∙ not-true _ (c .if2 .taken))
 
 add-t15 : tie.Need-add-t15
 add-t15 c =
@@ -77,7 +85,7 @@ add-t15 c =
     let c9 = c7 .before .before in
     let a = c9 .args in
     let f = subst (LineAt (now (a .text)) (a .self .at)) (c5 .group .given .1) (c7 .next-line .ensures) in
-    omega (arith, f .2, f .3)
+    omega (arith, f .3, f .4)
 
 enum-known-next : tie.Need-enum-known-next
 enum-known-next c = search needs
@@ -98,7 +106,7 @@ returns-3 c =
     let f = subst (LineAt (now (a .text)) (a .self .at)) (p .1) (c7 .next-line .ensures) in
     λ R w.
     step-group w (s .pre .1) (s .pre .3) (s .pre .4) (now (a .text)) (a .self .at)
-    (p .0 .0) (p .0 .1 .0) (p .0 .1 .1 .0) (p .0 .1 .1 .1 .0) (f .0) (f .1) (f .5) _ (f .4) refl refl refl
+    (p .0 .0) (p .0 .1 .0) (p .0 .1 .1 .0) (p .0 .1 .1 .1 .0) (p .0 .1 .1 .1 .1 .0) (f .0) (f .1) (f .2) (f .7) _ (f .6) refl refl refl
     (sym (c3 .in-turn .ensures) ∙ not-false _ (c2 .if1 .left)) (sym (c .before .names .ensures) ∙ not-false _ (c .if2 .left))
 
 returns-4 : tie.Need-returns-4
@@ -129,8 +137,9 @@ next-spec =
     (tie.spec
     next-line-requires
     enum-known-group
-    mul-cell
-    add-cell
+    mul-key
+    add-key
+    mul-key-2
     in-turn-requires
     returns
     names-requires
