@@ -13,10 +13,10 @@ use Rattle.sums.specs.Counting.{when, only}
 use Rattle.sums.specs.Tests.{Same, same, other, same?, and-left, and-right}
 use Rattle.model.specs.Job.{Job, inRange, arrayFits, capsAdmitted, Proper}
 use Rattle.model.specs.Text.{Group, chosenPins, missingPins, closedTiles, Line, arrayLine, groupLine, endLine, decimal, numbers, form, arrayWord, pinsWord}
-use Rattle.model.specs.Text.{capsWord, groupWord, endWord, formOf, lineBytes, within, rank, Reader, names, named, admit, Verdict, reads, wrongAt, Reads, ended}
-use Rattle.model.specs.Text.{line, wrong, Reading, textOf}
+use Rattle.model.specs.Text.{capsWord, groupWord, endWord, tailOf, says, formOf, lineBytes, within, rank, keyOf, Reader, names, named, admit, Verdict, reads}
+use Rattle.model.specs.Text.{wrongAt, Reads, ended, line, wrong, Reading, textOf}
 use Rattle.model.proofs.RecordOf.{range-most}
-use Rattle.model.proofs.TextProper.{asked}
+use Rattle.model.proofs.TextProper.{asked, by-word, names-says}
 use Rattle.model.proofs.TextNames.{due, rank-group, names-inside}
 use Rattle.model.proofs.RoundTrip.{round-trip}
 
@@ -42,6 +42,11 @@ group-short chosenPins = omega arith
 group-short missingPins = omega arith
 group-short closedTiles = omega arith
 
+tail-short : (g : Group) (d v : ℕ) → length (tailOf g d v) ≤ 5
+tail-short chosenPins d v = omega arith
+tail-short missingPins d v = omega arith
+tail-short closedTiles d v = omega arith
+
 forms-short : (l : Line) → length (formOf l) ≤ 39
 forms-short (arrayLine a b o d e) =
     let x : List ℕ = form pinsWord (a ∷ b ∷ []) in
@@ -54,7 +59,17 @@ forms-short (arrayLine a b o d e) =
       form-short pinsWord (a ∷ b ∷ []),
       form-short capsWord (o ∷ d ∷ e ∷ []),
     )
-forms-short (groupLine g r c) = omega (arith, form-short (groupWord g) (r ∷ c ∷ []), group-short g)
+forms-short (groupLine g r c d v) =
+    let x : List ℕ = numbers (r ∷ c ∷ []) in
+    omega (
+      arith,
+      length-append (groupWord g) (x ++ (tailOf g d v ++ (41 ∷ []))),
+      length-append x (tailOf g d v ++ (41 ∷ [])),
+      length-append (tailOf g d v) (41 ∷ []),
+      numbers-short (r ∷ c ∷ []),
+      group-short g,
+      tail-short g d v,
+    )
 forms-short endLine = omega (arith, form-short endWord [])
 
 line-short : (l : Line) → length (lineBytes l) ≤ 40
@@ -63,19 +78,25 @@ line-short l = omega (arith, length-append (formOf l) (10 ∷ []), forms-short l
 
 -- ---- turns
 
--- how many lines may still follow
+-- no group has sides
+no-side : (g : Group) (d v : ℕ) → T (says g d v) → d ≡ 0
+no-side chosenPins d v t = by-word d v 1 t .0
+no-side missingPins d v t = by-word d v 2 t .0
+no-side closedTiles d v t = by-word d v 1 t .0
+
+-- how many lines may still follow: one for every fourth turn
 abbrev left : Reader → ℕ
-left R = (8000 - due R) + (5 - rank (R .stage))
+left R = (8000 - (due R + 3) / 4) + (5 - rank (R .stage))
 
 record Midst (R : Reader) : Type 0 where
-  from : R .from ≤ 1600
-  turn : due R ≤ 8000
+  from : R .from ≤ 6400
+  turn : due R ≤ 32000
   size : 1 ≤ rank (R .stage) → (R .job .rows ≤ 40) × (R .job .columns ≤ 40)
 
-named-rows : (J : Job) (g : Group) (r c : ℕ) → (named J g r c .rows ≡ J .rows) × (named J g r c .columns ≡ J .columns)
-named-rows J chosenPins r c = (refl, refl)
-named-rows J missingPins r c = (refl, refl)
-named-rows J closedTiles r c = (refl, refl)
+named-rows : (J : Job) (g : Group) (r c d v : ℕ) → (named J g r c d v .rows ≡ J .rows) × (named J g r c d v .columns ≡ J .columns)
+named-rows J chosenPins r c d v = (refl, refl)
+named-rows J missingPins r c d v = (refl, refl)
+named-rows J closedTiles r c d v = (refl, refl)
 
 when-same : (s t f : ℕ) → s ≡ t → when (eqb s t) f ≡ f
 when-same s t f e = by (eqb s t) (eq-eqb s t e)
@@ -85,10 +106,10 @@ when-same s t f e = by (eqb s t) (eq-eqb s t e)
     by false q = absurd (subst T (sym q) tt)
 
 -- in turn, a line of a group is at least due
-turn-due : (s t f x : ℕ) → s ≤ t → when (eqb s t) f ≤ x → f ≤ 1600 → 1600 * s + f ≤ 1600 * t + x
+turn-due : (s t f x : ℕ) → s ≤ t → when (eqb s t) f ≤ x → f ≤ 6400 → 6400 * s + f ≤ 6400 * t + x
 turn-due s t f x l k m = by (eqb s t) (same? s t) (when-same s t f)
   where
-    by : (b : Bool) → Same s t b → (s ≡ t → when (eqb s t) f ≡ f) → 1600 * s + f ≤ 1600 * t + x
+    by : (b : Bool) → Same s t b → (s ≡ t → when (eqb s t) f ≡ f) → 6400 * s + f ≤ 6400 * t + x
     by true (same e) h = omega (arith, h e)
     by false (other n) h = let q : s < t = omega arith in omega arith
 
@@ -104,24 +125,26 @@ goes-on R (arrayLine rows columns O D E) R′ m e =
     let x : rows ≤ 40 = range-most 2 40 rows (and-left (inRange 2 40 rows) (inRange 2 40 columns) u) in
     let y : columns ≤ 40 = range-most 2 40 columns (and-right (inRange 2 40 rows) (inRange 2 40 columns) u) in
     subst (λ S. Midst S × (left S < left R)) q (record { from = omega arith; turn = omega arith; size = λ k. (x, y) }, omega (arith, m .from))
-goes-on R (groupLine g r c) R′ m e =
+goes-on R (groupLine g r c k v) R′ m e =
     let s : ℕ = rank (R .stage) in
     let a : Bool = leb 1 s in
     let b : Bool = leb s (rank (within g)) in
-    let d : Bool = leb (when (eqb s (rank (within g))) (R .from)) (40 * r + c) in
-    let n : Bool = names (R .job) g r c in
+    let d : Bool = leb (when (eqb s (rank (within g))) (R .from)) (keyOf r c k) in
+    let n : Bool = names (R .job) g r c k v in
     let (t, q) = asked ((a && (b && d)) && n) _ R′ e in
     let u : T (a && (b && d)) = and-left (a && (b && d)) n t in
-    let v : T (b && d) = and-right a (b && d) u in
+    let w : T (b && d) = and-right a (b && d) u in
     let begun : 1 ≤ s = leb→le 1 s (and-left a (b && d) u) in
-    let later : s ≤ rank (within g) = leb→le s (rank (within g)) (and-left b d v) in
-    let beyond : when (eqb s (rank (within g))) (R .from) ≤ 40 * r + c = leb→le _ _ (and-right b d v) in
+    let later : s ≤ rank (within g) = leb→le s (rank (within g)) (and-left b d w) in
+    let beyond : when (eqb s (rank (within g))) (R .from) ≤ keyOf r c k = leb→le _ _ (and-right b d w) in
     let (x, y) = m .size begun in
-    let (lr, lc) = names-inside (R .job) g r c (and-right (a && (b && d)) n t) in
-    let h : due R ≤ 1600 * rank (within g) + (40 * r + c) = turn-due s (rank (within g)) (R .from) (40 * r + c) later beyond (m .from) in
-    let (ex, ey) = named-rows (R .job) g r c in
+    let may : T (names (R .job) g r c k v) = and-right (a && (b && d)) n t in
+    let (lr, lc, lk) = names-inside (R .job) g r c k v may in
+    let z : k ≡ 0 = no-side g k v (names-says (R .job) g r c k v may) in
+    let h : due R ≤ 6400 * rank (within g) + keyOf r c k = turn-due s (rank (within g)) (R .from) (keyOf r c k) later beyond (m .from) in
+    let (ex, ey) = named-rows (R .job) g r c k v in
     subst (λ S. Midst S × (left S < left R)) q (
-      record { from = omega arith; turn = omega (arith, rank-group g); size = λ k. omega arith },
+      record { from = omega arith; turn = omega (arith, rank-group g); size = λ i. omega arith },
       omega (arith, rank-group g, h),
     )
 goes-on R endLine R′ m e =

@@ -2,20 +2,22 @@
 -- bounds that the reader knows, so they are tried one by one. Assumes nothing.
 use mathlib.Core.Path.{_≡_, refl, sym, ap, ap₂, _∙_}
 use mathlib.Core.Logic.{Dec·and}
-use mathlib.Core.Bool.{Bool, true, false, not, _&&_}
+use mathlib.Core.Bool.{Bool, true, false, _&&_}
 use mathlib.Core.List.{List, [], _∷_, _++_}
 use mathlib.Core.Option.{Option, none, some}
 use Prim.Native.Nat.{ℕ, zero, suc, _+_, _*_, _≤_, _<_}
 use native.Mathlib.Decide.{ℕ-discrete}
 use native.Mathlib.Nat.{le-refl}
 use native.Mathlib.Omega.{arith}
-use lib.Dec.{T, eqb, leb, ltb, leb→le, ltb→lt}
+use lib.Dec.{T, eqb, leb, leb→le}
 use lib.ListN.{length, getD, drop, length-append}
 use Rattle.sums.specs.Tests.{and-left, and-right}
 use Rattle.sums.specs.Entries.{none-some}
-use Rattle.model.specs.Job.{Job, inRange, arrayFits, capsAdmitted, isPin}
-use Rattle.model.specs.Text.{Group, chosenPins, missingPins, closedTiles, Line, arrayLine, groupLine, endLine, formOf, lineBytes, Stage, begin, afterArray, finished, within, rank}
-use Rattle.model.specs.Text.{Reader, start, asking, inTurn, names, admit, Verdict, reads, wrongAt, Reads, ended, line, wrong, Reading}
+use Rattle.model.specs.Job.{inRange, arrayFits, capsAdmitted}
+use Rattle.model.specs.Text.{Group, chosenPins, missingPins, closedTiles, Line, arrayLine, groupLine, endLine, says, formOf, lineBytes, Stage, begin, afterArray}
+use Rattle.model.specs.Text.{finished, within, rank, Reader, start, asking, inTurn, names, admit, Verdict, reads, wrongAt, Reads, ended, line, wrong, Reading}
+use Rattle.model.proofs.TextProper.{by-word, names-says}
+use Rattle.model.proofs.TextNames.{names-inside}
 use Rattle.witness.specs.Decide.{some?}
 
 -- ---- what begins a text
@@ -50,26 +52,18 @@ asked true R S e = tt
 asked false R S e = absurd (none-some S e)
 
 module _ (R : Reader) (text : List ℕ) where
-  group-bounds : (g : Group) (r c : ℕ) → Stands R text (groupLine g r c) → (r < R .job .rows) × (c < R .job .columns)
+  group-bounds : (g : Group) (r c d v : ℕ) → Stands R text (groupLine g r c d v) → (r < R .job .rows) × (c < R .job .columns) × (d < 4) × (v < 3)
   unfolding admit
-  group-bounds g r c (S, rest, a, q) = by g (and-right (inTurn R g r c) (names (R .job) g r c) (asked (inTurn R g r c && names (R .job) g r c) _ S a))
+  group-bounds g r c d v (S, rest, a, q) =
+      let t : T (names (R .job) g r c d v) =
+      and-right (inTurn R g r c d) (names (R .job) g r c d v) (asked (inTurn R g r c d && names (R .job) g r c d v) _ S a) in
+      let (x, y, z) = names-inside (R .job) g r c d v t in
+      (x, y, z, by g (names-says (R .job) g r c d v t))
     where
-      J : Job
-      J = R .job
-
-      pin : T (isPin J r c) → (r < J .rows) × (c < J .columns)
-      pin t = (
-        ltb→lt r (J .rows) (and-left (ltb r (J .rows)) (ltb c (J .columns)) t),
-        ltb→lt c (J .columns) (and-right (ltb r (J .rows)) (ltb c (J .columns)) t),
-      )
-
-      by : (g : Group) → T (names J g r c) → (r < J .rows) × (c < J .columns)
-      by chosenPins t = pin t
-      by missingPins t = pin (and-left (isPin J r c) (not (eqb (J .mark r c) 1)) t)
-      by closedTiles t =
-          let l : suc r < J .rows = ltb→lt (suc r) (J .rows) (and-left (ltb (suc r) (J .rows)) (ltb (suc c) (J .columns)) t) in
-          let m : suc c < J .columns = ltb→lt (suc c) (J .columns) (and-right (ltb (suc r) (J .rows)) (ltb (suc c) (J .columns)) t) in
-          (omega arith, omega arith)
+      by : (g : Group) → T (says g d v) → v < 3
+      by chosenPins t = let (x, y) = by-word d v 1 t in omega arith
+      by missingPins t = let (x, y) = by-word d v 2 t in omega arith
+      by closedTiles t = let (x, y) = by-word d v 1 t in omega arith
 
   top : (least most n : ℕ) → T (inRange least most n) → n ≤ most
   top least most n t = leb→le n most (and-right (leb least n) (leb n most) t)
@@ -97,10 +91,11 @@ module _ (R : Reader) (text : List ℕ) where
   Found = (l : Line) × Stands R text l
 
   abbrev InGroup : Group → Type 0
-  InGroup g = (r : ℕ) × (r < R .job .rows) × ((c : ℕ) × (c < R .job .columns) × Stands R text (groupLine g r c))
+  InGroup g =
+      (r : ℕ) × (r < R .job .rows) × ((c : ℕ) × (c < R .job .columns) × ((d : ℕ) × (d < 4) × ((v : ℕ) × (v < 3) × Stands R text (groupLine g r c d v))))
 
   group? : (g : Group) → Dec (InGroup g)
-  group? g = some? _ (λ r. some? _ (λ c. stands? R text (groupLine g r c)) (R .job .columns)) (R .job .rows)
+  group? g = some? _ (λ r. some? _ (λ c. some? _ (λ d. some? _ (λ v. stands? R text (groupLine g r c d v)) 3) 4) (R .job .columns)) (R .job .rows)
 
   abbrev ArrayFound : Type 0
   ArrayFound =
@@ -113,22 +108,25 @@ module _ (R : Reader) (text : List ℕ) where
   line? : Dec Found
   line? = by array? (group? chosenPins) (group? missingPins) (group? closedTiles) (stands? R text endLine)
     where
-      in-group : (g : Group) (r c : ℕ) → Stands R text (groupLine g r c) → InGroup g
-      in-group g r c w = let (l, m) = group-bounds g r c w in (r, l, (c, m, w))
+      in-group : (g : Group) (r c d v : ℕ) → Stands R text (groupLine g r c d v) → InGroup g
+      in-group g r c d v w = let (l, m, n, o) = group-bounds g r c d v w in (r, l, (c, m, (d, n, (v, o, w))))
+
+      found : (g : Group) → InGroup g → Found
+      found g (r, l, (c, m, (d, n, (v, o, w)))) = (groupLine g r c d v, w)
 
       none-found : (ArrayFound → ⊥) → (InGroup chosenPins → ⊥) → (InGroup missingPins → ⊥) → (InGroup closedTiles → ⊥) → (Stands R text endLine → ⊥)
           → (l : Line) → Stands R text l → ⊥
       none-found p q r s t (arrayLine a b O D E) w = let (i, j, k, l, m) = array-bounds a b O D E w in p (a, i, (b, j, (O, k, (D, l, (E, m, w)))))
-      none-found p q r s t (groupLine chosenPins i j) w = q (in-group chosenPins i j w)
-      none-found p q r s t (groupLine missingPins i j) w = r (in-group missingPins i j w)
-      none-found p q r s t (groupLine closedTiles i j) w = s (in-group closedTiles i j w)
+      none-found p q r s t (groupLine chosenPins i j d v) w = q (in-group chosenPins i j d v w)
+      none-found p q r s t (groupLine missingPins i j d v) w = r (in-group missingPins i j d v w)
+      none-found p q r s t (groupLine closedTiles i j d v) w = s (in-group closedTiles i j d v w)
       none-found p q r s t endLine w = t w
 
       by : Dec ArrayFound → Dec (InGroup chosenPins) → Dec (InGroup missingPins) → Dec (InGroup closedTiles) → Dec (Stands R text endLine) → Dec Found
       by (yes (a, i, (b, j, (O, k, (D, l, (E, m, w)))))) q r s t = yes (arrayLine a b O D E, w)
-      by (no p) (yes (i, l, (j, m, w))) r s t = yes (groupLine chosenPins i j, w)
-      by (no p) (no q) (yes (i, l, (j, m, w))) s t = yes (groupLine missingPins i j, w)
-      by (no p) (no q) (no r) (yes (i, l, (j, m, w))) t = yes (groupLine closedTiles i j, w)
+      by (no p) (yes q) r s t = yes (found chosenPins q)
+      by (no p) (no q) (yes r) s t = yes (found missingPins r)
+      by (no p) (no q) (no r) (yes s) t = yes (found closedTiles s)
       by (no p) (no q) (no r) (no s) (yes w) = yes (endLine, w)
       by (no p) (no q) (no r) (no s) (no t) = no (λ x. none-found p q r s t (x .0) (x .1))
 
