@@ -13,6 +13,8 @@
  *        6  wrong text; the value is the offset of the first line that may not stand there
  *        7  output too short
  *        8  scratch under 65,536 bytes
+ *        9  a measure not 1 to 100,000
+ *       10  pitch under pad diameter and spacing together, or O not 1 to 8
  * value  as said below; 0 where nothing is said, and with every code but 0 and 6
  *
  * Where several codes fit, the one that stands first at the function is returned. A refused call changes no byte.
@@ -65,6 +67,13 @@ uint64_t talusdish_read_text(uint8_t *record, uint64_t record_len, const uint8_t
 
 /* The text of the job, wires left out. 1; 7 for output shorter than the text. The value is the text's length; 320,200 bytes are always enough. */
 uint64_t talusdish_write_text(const uint8_t *record, uint64_t record_len, uint8_t *output, uint64_t output_len);
+
+/* The capacities that design rules give: pitch p, pad diameter d, wire width w and spacing s, in micrometres. 9; 10. No record is needed.
+ * *o        the quotient of p - d - s by w + s, and *o_rest its remainder
+ * *k        the largest with (k * (w + s) + s + d) squared at most 2 * p * p, and *k_rest what that square leaves of 2 * p * p
+ * *diagonal the smaller of *k and 2 * *o
+ * O and D of talusdish_new may be *o and *diagonal, with every E from 0 to 16. The five pointers are to different numbers; a refused call changes none. */
+uint64_t talusdish_rules(uint64_t p, uint64_t d, uint64_t w, uint64_t s, uint64_t *o, uint64_t *o_rest, uint64_t *k, uint64_t *k_rest, uint64_t *diagonal);
 
 #ifdef __cplusplus
 }

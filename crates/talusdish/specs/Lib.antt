@@ -7,3 +7,5 @@ pub mod TextBound
 pub mod PartBound
 -- every answer of an operation fits a word
 pub mod Small
+-- the five numbers that design rules give
+pub mod Stored
