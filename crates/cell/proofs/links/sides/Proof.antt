@@ -11,6 +11,9 @@ use Rattle.cell.proofs.links.sides.Tie as tie
 byte-requires : tie.Need-byte-requires
 byte-requires c κs = search needs
 
+side-room-requires : tie.Need-side-room-requires
+side-room-requires c κs = search needs
+
 sub-side-fits : tie.Need-sub-side-fits
 sub-side-fits c = search needs
 
@@ -20,6 +23,9 @@ side-fits-requires c κs = search needs
 byte-requires-2 : tie.Need-byte-requires-2
 byte-requires-2 c κs = search needs
 
+side-room-requires-2 : tie.Need-side-room-requires-2
+side-room-requires-2 c κs = search needs
+
 sub-side-fits-2 : tie.Need-sub-side-fits-2
 sub-side-fits-2 c = search needs
 
@@ -28,7 +34,7 @@ side-fits-requires-2 c κs = search needs
 
 returns : tie.Need-returns
 returns c =
-    let s = c .before .before .before .before .before in
+    let s = c .before .before .before .before .before .before .before in
     let J = jobOf (s .args .rec .now) in
     let x = s .args .x in
     let fits = s .pre .0 .3 .array in
@@ -45,9 +51,11 @@ sides-spec =
     tie.close
     (tie.spec
     byte-requires
+    side-room-requires
     sub-side-fits
     side-fits-requires
     byte-requires-2
+    side-room-requires-2
     sub-side-fits-2
     side-fits-requires-2
     returns)
