@@ -1,16 +1,35 @@
--- The pairing goes along the sequence and not round it: where the lanes depart, arrive, depart, arrive, arrive and depart, each is joined with its
--- neighbour, though round a circle the first arrival would be joined with the second departure. Assumes nothing.
+-- Document 01's worked sequences round by round; the first is Table I of source document 000. And the pairing goes along the sequence and not round it:
+-- where the lanes depart, arrive, depart, arrive, arrive and depart, each is joined with its neighbour, though round a circle the first arrival would be
+-- joined with the second departure. Assumes nothing.
 use mathlib.Core.Path.{_≡_, refl}
-use mathlib.Core.List.{[], _∷_}
+use mathlib.Core.Bool.{Bool, false}
+use mathlib.Core.List.{List, [], _∷_}
+use mathlib.Core.Option.{Option, none, some}
 use Prim.Native.Nat.{ℕ}
+use lib.ListN.{getD}
 use Rattle.sums.specs.Counting.{sum}
-use Rattle.model.specs.Pairing.{Pair, pairsOf}
+use Rattle.model.specs.Pairing.{Struck, strike, pairsOf}
+use Rattle.model.specs.Examples.{pair, sixLanes, fourLanes}
 use Rattle.pairing.specs.Slots.{start, arrivalPos, arrivesAt}
-use Rattle.pairing.specs.Seek.{partnerOf}
-use Rattle.pairing.specs.Answer.{lanes}
+use Rattle.pairing.specs.Answer.{lanes, partnerOf}
 
-abbrev pair : ℕ → ℕ → Pair
-pair a b = record { fst = a; snd = b }
+-- a round of a worked sequence
+abbrev struck : List Bool → List ℕ → Option Struck
+struck w = strike (λ i. getD w i false)
+
+abbrev joins : ℕ → ℕ → List ℕ → Option Struck
+joins a b l = some (record { pair = pair a b; rest = l })
+
+-- A B c d e F: rows 1 to 4 of the table
+pub table-one : (struck (sixLanes .arrivals) (0 ∷ 1 ∷ 2 ∷ 3 ∷ 4 ∷ 5 ∷ []) ≡ joins 1 2 (0 ∷ 3 ∷ 4 ∷ 5 ∷ []))
+    × (struck (sixLanes .arrivals) (0 ∷ 3 ∷ 4 ∷ 5 ∷ []) ≡ joins 0 3 (4 ∷ 5 ∷ [])) × (struck (sixLanes .arrivals) (4 ∷ 5 ∷ []) ≡ joins 4 5 [])
+    × (struck (sixLanes .arrivals) [] ≡ none)
+table-one = (refl, refl, refl, refl)
+
+-- A b C d
+pub four-rounds : (struck (fourLanes .arrivals) (0 ∷ 1 ∷ 2 ∷ 3 ∷ []) ≡ joins 0 1 (2 ∷ 3 ∷ []))
+    × (struck (fourLanes .arrivals) (2 ∷ 3 ∷ []) ≡ joins 2 3 []) × (struck (fourLanes .arrivals) [] ≡ none)
+four-rounds = (refl, refl, refl)
 
 abbrev ins : ℕ → ℕ
 ins = lanes (0 ∷ 1 ∷ 2 ∷ 0 ∷ 0 ∷ [])

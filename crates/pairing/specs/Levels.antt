@@ -1,18 +1,18 @@
 -- The levels: with each position of kind k one up and each other one down, a pair joins a position with the first one that comes back to its level, from
--- the level 0 away. All that is used of the pairs follows: no two interleave, a position has one partner, and the scans of `Scan` find it. Assumes nothing.
-use Prim.Native.Nat.{ℕ, zero, suc, _+_, _*_, _-_, _≤_, _<_}
+-- the level 0 away. All that is used of the pairs follows: no two interleave, and a position has one partner. Assumes nothing.
+use Prim.Native.Nat.{ℕ, zero, suc, _+_, _*_, _≤_, _<_}
 use native.Mathlib.Omega.{arith}
 use mathlib.Core.Bool.{Bool, true, false, not, Bool·beq}
 use mathlib.Core.List.{List, [], _∷_}
 use mathlib.Core.Logic.{_⊎_, inl, inr}
 use mathlib.Core.Path.{_≡_, refl, sym, _∙_, ap, subst}
-use lib.Dec.{leb, eqb}
+use lib.Dec.{eqb}
 use lib.ListN.{length}
-use borrow.Author.Tests.{eqb-true, eqb-false, leb-true, leb-false}
+use borrow.Author.Tests.{eqb-true, eqb-false}
 use Rattle.sums.specs.Counting.{when, sum}
 use Rattle.model.specs.Pairing.{Pair, pairsOf, partnerIn}
-use Rattle.pairing.specs.Scan.{run, paired, passed, forward, backward, scanned}
-use Rattle.pairing.specs.Rounds.{same-true, same-false, same-refl, same-not, not-not, Each, no-more, one-more, run-push, run-pop, pairs-run, pairs-each}
+use Rattle.pairing.specs.Pass.{run, paired, passed}
+use Rattle.pairing.specs.Rounds.{same-true, same-false, same-refl, same-not, not-not, Each, no-more, one-more, run-push, run-pop, pairs-run}
 
 -- the clauses of `partnerIn`, by cases
 pub partner-fst : (p : Pair) (l : List Pair) (i : ℕ) → eqb i (p .fst) ≡ true → partnerIn (p ∷ l) i ≡ p .snd
@@ -106,24 +106,6 @@ module _ (w : ℕ → Bool) where
       q : Joins (not k) b c
       q = subst (λ m. Joins m b c) (sym (q′ .ka) ∙ p .kb) q′
 
-  other : (x k : Bool) → Bool·beq x k ≡ false → x ≡ not k
-  other true true e = e
-  other true false e = refl
-  other false true e = refl
-  other false false e = sym e
-
-  pub forward-same : (k : Bool) (f d j : ℕ) → Bool·beq (w j) k ≡ true → forward w k (suc f) d j ≡ forward w k f (suc d) (suc j)
-  unfolding forward
-  forward-same k f d j e = rw (e, forward)
-
-  pub forward-here : (k : Bool) (f j : ℕ) → Bool·beq (w j) k ≡ false → forward w k (suc f) 0 j ≡ j
-  unfolding forward
-  forward-here k f j e = rw (e, forward)
-
-  pub forward-other : (k : Bool) (f d j : ℕ) → Bool·beq (w j) k ≡ false → forward w k (suc f) (suc d) j ≡ forward w k f d (suc j)
-  unfolding forward
-  forward-other k f d j e = rw (e, forward)
-
   more : (k : Bool) (a j : ℕ) → ((i : ℕ) → a < i → i ≤ j → 2 * passed w k a + i < 2 * passed w k i + a)
       → 2 * passed w k a + suc j < 2 * passed w k (suc j) + a
       → (i : ℕ) → a < i → i ≤ suc j → 2 * passed w k a + i < 2 * passed w k i + a
@@ -132,82 +114,6 @@ module _ (w : ℕ → Bool) where
       go : (b : Bool) → eqb i (suc j) ≡ b → 2 * passed w k a + i < 2 * passed w k i + a
       go true e = let q = eqb-true i (suc j) e in omega (arith, ap (passed w k) q)
       go false e = let q : ¬ (i ≡ suc j) = eqb-false i (suc j) e in ab i lo (omega arith)
-
-  -- what the scan forward from a has passed: d more than one are open at j
-  pub forward-joins : (k : Bool) (n a : ℕ) → w a ≡ k → a ≤ 2 * passed w k a → 2 * passed w k n ≡ n
-      → (f d j : ℕ) → j + f ≡ n → a < j → 2 * passed w k j + a ≡ 2 * passed w k a + j + suc d
-      → ((i : ℕ) → a < i → i ≤ j → 2 * passed w k a + i < 2 * passed w k i + a)
-      → Joins k a (forward w k f d j) × (forward w k f d j < n)
-  forward-joins k n a ka op bal zero d j fit lt lev ab = absurd (let q : j ≡ n = omega arith in omega (arith, ap (passed w k) q))
-  forward-joins k n a ka op bal (suc f) d j fit lt lev ab =
-      go (Bool·beq (w j) k) refl d lev (forward-joins k n a ka op bal f)
-    where
-      go : (b : Bool) → Bool·beq (w j) k ≡ b → (d : ℕ) → 2 * passed w k j + a ≡ 2 * passed w k a + j + suc d
-          → ((d j : ℕ) → j + f ≡ n → a < j → 2 * passed w k j + a ≡ 2 * passed w k a + j + suc d
-          → ((i : ℕ) → a < i → i ≤ j → 2 * passed w k a + i < 2 * passed w k i + a)
-          → Joins k a (forward w k f d j) × (forward w k f d j < n))
-          → Joins k a (forward w k (suc f) d j) × (forward w k (suc f) d j < n)
-      go true e d lev ih =
-          let c = passed-up k j (same-true (w j) k e) in
-          rw (forward-same k f d j e)
-          (ih (suc d) (suc j) (omega arith) (omega arith) (omega arith) (more k a j ab (omega arith)))
-      go false e zero lev ih =
-          let c = passed-down k j (other (w j) k e) in
-          rw (forward-here k f j e)
-          (record { lt = lt; ka = ka; kb = other (w j) k e; opens = op; level = omega arith; above = ab }, omega arith)
-      go false e (suc d) lev ih =
-          let c = passed-down k j (other (w j) k e) in
-          rw (forward-other k f d j e)
-          (ih d (suc j) (omega arith) (omega arith) (omega arith) (more k a j ab (omega arith)))
-
-  -- what the scan backward from b has passed
-  pub backward-same : (k : Bool) (j d : ℕ) → Bool·beq (w j) k ≡ true → backward w k (suc j) d ≡ backward w k j (suc d)
-  unfolding backward
-  backward-same k j d e = rw (e, backward)
-
-  pub backward-here : (k : Bool) (j : ℕ) → Bool·beq (w j) k ≡ false → backward w k (suc j) 0 ≡ j
-  unfolding backward
-  backward-here k j e = rw (e, backward)
-
-  pub backward-other : (k : Bool) (j d : ℕ) → Bool·beq (w j) k ≡ false → backward w k (suc j) (suc d) ≡ backward w k j d
-  unfolding backward
-  backward-other k j d e = rw (e, backward)
-
-  less : (k : Bool) (b j : ℕ) → ((i : ℕ) → suc j ≤ i → i ≤ b → 2 * passed w k (suc b) + i < 2 * passed w k i + suc b)
-      → 2 * passed w k (suc b) + j < 2 * passed w k j + suc b
-      → (i : ℕ) → j ≤ i → i ≤ b → 2 * passed w k (suc b) + i < 2 * passed w k i + suc b
-  less k b j ab h i lo hi = go (eqb i j) refl
-    where
-      go : (t : Bool) → eqb i j ≡ t → 2 * passed w k (suc b) + i < 2 * passed w k i + suc b
-      go true e = let q = eqb-true i j e in omega (arith, ap (passed w k) q)
-      go false e = let q : ¬ (i ≡ j) = eqb-false i j e in ab i (omega arith) hi
-
-  -- k is the kind of the position that b is joined to
-  pub backward-joins : (k : Bool) (b : ℕ) → w b ≡ not k → suc b ≤ 2 * passed w k (suc b)
-      → (j d : ℕ) → j ≤ b → 2 * passed w k j + suc b ≡ 2 * passed w k (suc b) + j + suc d
-      → ((i : ℕ) → j ≤ i → i ≤ b → 2 * passed w k (suc b) + i < 2 * passed w k i + suc b)
-      → Joins k (backward w (not k) j d) b
-  unfolding sum
-  backward-joins k b kb op zero d le lev ab = absurd (omega arith)
-  backward-joins k b kb op (suc j) d le lev ab =
-      go (Bool·beq (w j) (not k)) refl d lev (backward-joins k b kb op j)
-    where
-      go : (t : Bool) → Bool·beq (w j) (not k) ≡ t → (d : ℕ) → 2 * passed w k (suc j) + suc b ≡ 2 * passed w k (suc b) + suc j + suc d
-          → ((d : ℕ) → j ≤ b → 2 * passed w k j + suc b ≡ 2 * passed w k (suc b) + j + suc d
-          → ((i : ℕ) → j ≤ i → i ≤ b → 2 * passed w k (suc b) + i < 2 * passed w k i + suc b)
-          → Joins k (backward w (not k) j d) b)
-          → Joins k (backward w (not k) (suc j) d) b
-      go true e d lev ih =
-          let c = passed-down k j (same-true (w j) (not k) e) in
-          rw (backward-same (not k) j d e) (ih (suc d) (omega arith) (omega arith) (less k b j ab (omega arith)))
-      go false e zero lev ih =
-          let ka = other (w j) (not k) e ∙ not-not k in
-          let c = passed-up k j ka in
-          rw (backward-here (not k) j e)
-          (record { lt = le; ka = ka; kb = kb; opens = omega arith; level = omega arith; above = λ i lo hi. let z = ab i lo hi in omega arith })
-      go false e (suc d) lev ih =
-          let c = passed-up k j (other (w j) (not k) e ∙ not-not k) in
-          rw (backward-other (not k) j d e) (ih d (omega arith) (omega arith) (less k b j ab (omega arith)))
 
   -- i and m are joined, in either order
   pub Partners : ℕ → ℕ → Type 0
@@ -229,40 +135,6 @@ module _ (w : ℕ → Bool) where
   unfolding Partners
   partners-kind i m (inl p) = p .1 .kb ∙ ap not (sym (p .1 .ka))
   partners-kind i m (inr p) = p .1 .ka ∙ sym (ap not (p .1 .kb) ∙ not-not (p .0))
-
-  pub scanned-opens : (n i : ℕ) → leb i (2 * passed w (w i) i) ≡ true → scanned w n i ≡ forward w (w i) (n - suc i) 0 (suc i)
-  scanned-opens n i e = rw (e, scanned)
-
-  pub scanned-closes : (n i : ℕ) → leb i (2 * passed w (w i) i) ≡ false → scanned w n i ≡ backward w (w i) i 0
-  scanned-closes n i e = rw (e, scanned)
-
-  module _ (n : ℕ) (bal : passed w true n ≡ passed w false n) where
-    half : (k : Bool) → 2 * passed w k n ≡ n
-    half true = omega (arith, passed-two true n)
-    half false = omega (arith, passed-two false n)
-
-    opening : (i : ℕ) → i < n → i ≤ 2 * passed w (w i) i → Joins (w i) i (forward w (w i) (n - suc i) 0 (suc i)) × (forward w (w i) (n - suc i) 0 (suc i) < n)
-    opening i h op =
-        let c = passed-up (w i) i refl in
-        forward-joins (w i) n i refl op (half (w i)) (n - suc i) 0 (suc i) (omega arith) (omega arith) (omega arith)
-        (more (w i) i i (λ j lo hi. absurd (omega arith)) (omega arith))
-
-    closing : (i : ℕ) → 2 * passed w (w i) i < i → Joins (not (w i)) (backward w (w i) i 0) i
-    closing i lo =
-        let e = sym (not-not (w i)) in
-        let c = passed-down (not (w i)) i e in
-        let t = passed-two (w i) i in
-        subst (λ k. Joins (not (w i)) (backward w k i 0) i) (not-not (w i))
-        (backward-joins (not (w i)) i e (omega arith) i 0 (omega arith) (omega arith)
-        (less (not (w i)) i i (λ j lo hi. absurd (omega arith)) (omega arith)))
-
-    pub scanned-partners : (i : ℕ) → i < n → Partners i (scanned w n i) × (scanned w n i < n)
-    unfolding Partners
-    scanned-partners i h = go (leb i (2 * passed w (w i) i)) refl
-      where
-        go : (t : Bool) → leb i (2 * passed w (w i) i) ≡ t → Partners i (scanned w n i) × (scanned w n i < n)
-        go true e = let r = opening i h (leb-true i (2 * passed w (w i) i) e) in rw (scanned-opens n i e) (inl (w i, r .0), r .1)
-        go false e = let r = closing i (leb-false i (2 * passed w (w i) i) e) in rw (scanned-closes n i e) (inr (not (w i), r), omega (arith, r .lt))
 
   -- the pass with a stack joins by levels: what holds of the stack before position p
   pub Stack : Bool → List ℕ → ℕ → Type 0
@@ -319,7 +191,7 @@ module _ (w : ℕ → Bool) where
   unfolding Stack sum
   pairs-joined n = rw (pairs-run w n) (run-joins n true [] 0 tt (omega arith))
 
-  -- the partner in the pairs is the scanned one
+  -- the partner in the pairs is joined
   pub partner-found : (i : ℕ) (l : List Pair) → Each Joined l → 0 < paired i l → Partners i (partnerIn l i)
   unfolding Partners
   partner-found i [] no-more h = absurd (omega arith)
@@ -329,9 +201,3 @@ module _ (w : ℕ → Bool) where
       go true e b g ih = rw (partner-fst p l i e) (inl (subst (λ x. Joined x (p .snd)) (sym (eqb-true i (p .fst) e)) j))
       go false e true g ih = rw (partner-snd p l i e g) (inr (subst (λ x. Joined (p .fst) x) (sym (eqb-true i (p .snd) g)) j))
       go false e false g ih = rw (partner-next p l i e g) (ih (omega (arith, ap (λ (b : Bool). when b 1) e, ap (λ (b : Bool). when b 1) g)))
-
-  pub partner-scanned : (n : ℕ) → passed w true n ≡ passed w false n → (i : ℕ) → i < n → partnerIn (pairsOf w n) i ≡ scanned w n i
-  partner-scanned n bal i h =
-      partners-one i (partnerIn (pairsOf w n) i) (scanned w n i)
-      (partner-found i (pairsOf w n) (pairs-joined n) (let z = pairs-each w n bal i h in omega arith))
-      (scanned-partners n bal i h .0)

@@ -1,5 +1,5 @@
--- The pairing in other words, equal to the rounds.
-pub mod Scan
+-- The rounds, counted.
+pub mod Pass
 pub mod Rounds
 pub mod Levels
 -- What the rounds give.
@@ -8,9 +8,9 @@ pub mod Perfect
 pub mod Slots
 pub mod Lanes
 pub mod Leaving
--- The partner as the code finds it, and what its answer says.
-pub mod Runs
-pub mod Seek
+-- What the code answers, and its rounds on arrays.
 pub mod Answer
+pub mod Sequence
+pub mod Struck
 pub mod Onward
 pub mod Example

@@ -12,7 +12,7 @@ use borrow.Author.Tests.{eq-eqb}
 use Rattle.sums.specs.Counting.{when, sum}
 use Rattle.sums.specs.Sums.{sum-cong}
 use Rattle.model.specs.Pairing.{Pair, range, pairsOf, partnerIn, Crosses}
-use Rattle.pairing.specs.Scan.{paired, passed}
+use Rattle.pairing.specs.Pass.{paired, passed}
 use Rattle.pairing.specs.Rounds.{Each, one-more, length-range, nothing-left-at, rounds-length, pairs-each, pairs-no-other, pairs-differ}
 use Rattle.pairing.specs.Levels.{pairs-joined, Partners, partners-sym, partners-one, partners-kind, no-interleave}
 use Rattle.pairing.specs.Levels.{partner-fst, partner-snd, partner-next, partner-found}

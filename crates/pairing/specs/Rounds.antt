@@ -12,7 +12,7 @@ use lib.ListN.{length}
 use borrow.Author.Tests.{eqb-true, eqb-false, ne-eqb}
 use Rattle.sums.specs.Counting.{when, sum}
 use Rattle.model.specs.Pairing.{Pair, Struck, keep, strike, rounds, range, pairsOf}
-use Rattle.pairing.specs.Scan.{left, run, listed, paired, passed}
+use Rattle.pairing.specs.Pass.{left, run, listed, paired, passed}
 
 pub same-true : (a b : Bool) → Bool·beq a b ≡ true → a ≡ b
 same-true true true e = refl

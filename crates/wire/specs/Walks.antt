@@ -1,7 +1,7 @@
 -- The hops that the code takes, of a legal record: the first loaded slot of a pin's exit; and where a wire comes along a dart, the slot and the lane that
 -- `partner` answers for the numbers of lanes of the five slots of the exit there. Assumes nothing.
 use mathlib.Core.Path.{_≡_, refl, sym, ap, ap₂, subst, _∙_}
-use mathlib.Core.Bool.{Bool, true, false, _&&_}
+use mathlib.Core.Bool.{Bool, true, false, not, _&&_}
 use mathlib.Core.List.{List, [], _∷_}
 use mathlib.Core.Option.{Option, none, some}
 use Prim.Native.Nat.{ℕ, zero, suc, _+_, _-_, _*_, _/_, _%_, _≤_, _<_}
@@ -12,13 +12,13 @@ use lib.ListN.{getD, getElem?, drop}
 use borrow.Author.Tests.{lt-ltb, le-ltb, ltb-true, ltb-false}
 use Rattle.sums.specs.Counting.{when, sum, total}
 use Rattle.sums.specs.Tests.{so, so-not, and-comm, both-ways}
-use Rattle.sums.specs.Sums.{when-so}
+use Rattle.sums.specs.Sums.{when-so, sum-le}
 use Rattle.sums.specs.Entries.{none-some, entry-below, entry-there}
 use Rattle.model.specs.Job.{Job, arrayFits, isChosen}
-use Rattle.model.specs.Links.{PlaceKind, pin, missing, centre, nowhere, side, Place, at, theOutside, holds, isPlace, Step, head, tail, turn, may, around}
+use Rattle.model.specs.Links.{PlaceKind, pin, missing, centre, nowhere, side, Place, at, theOutside, holds, isPlace, Link, Step, head, tail, turn, may, around}
 use Rattle.model.specs.Loads.{arrivals, departures}
 use Rattle.model.specs.Near.{exit}
-use Rattle.model.specs.Record.{jobOf, load, Legal}
+use Rattle.model.specs.Record.{cell, loadPlane, forthPart, backPart, jobOf, load, InRange, Legal}
 use Rattle.model.specs.Wires.{Hop, firstLoaded, onward, hopAt, isWired, Part, unwired, to, out, partFor, partOf, partAt}
 use Rattle.model.proofs.Listed.{around-five, may-enters}
 use Rattle.channel.specs.Map.{darts, rev, rowOf, columnOf, stepOf, isLinkDart, outside, dartOf}
@@ -26,9 +26,11 @@ use Rattle.channel.specs.Map.Steps.{slot-step}
 use Rattle.channel.specs.Map.Places.{chosen-cell}
 use Rattle.channel.specs.Map.Network.Pushed.{turn-turn}
 use Rattle.channel.specs.Map.Entered.{Named, slot-shut, comes-outside, comes-inside, head-slot, head-named, tail-named}
+use Rattle.pairing.specs.Slots.{start}
 use Rattle.pairing.specs.Answer.{lanes, lanes-in, Partner}
 use Rattle.pairing.specs.Lanes.{loadOf}
 use Rattle.pairing.specs.Onward.{Counts, counts-even, onward-leaves}
+use Rattle.wire.specs.Ways.{way}
 use Rattle.wire.specs.Next.{hop-may, ends-outside}
 use Rattle.wire.specs.Follow.{none-on}
 use Rattle.wire.specs.Hops.{hop, Runs, Takes, lanesAt, lanesOf, asPart}
@@ -45,6 +47,37 @@ lanes-at f d (suc (suc zero)) h = refl
 lanes-at f d (suc (suc (suc zero))) h = refl
 lanes-at f d (suc (suc (suc (suc zero)))) h = refl
 lanes-at f d (suc (suc (suc (suc (suc k))))) h = absurd (omega arith)
+
+-- ---- how many wires a link has, both ways together
+
+byte-few : (b : ℕ) → b < 64 → forthPart b + backPart b ≤ 31
+byte-few b h = omega arith
+
+module _ (rec : List ℕ) (values : InRange rec) where
+  way-few : (l : Link) (b : Bool) → load rec (way l b) + load rec (way l (not b)) ≤ 31
+  unfolding load
+  way-few l true = byte-few (cell rec (loadPlane (l .kind)) (l .row) (l .column)) (values .loads (l .kind) (l .row) (l .column) .0)
+  way-few l false = omega (arith, byte-few (cell rec (loadPlane (l .kind)) (l .row) (l .column)) (values .loads (l .kind) (l .row) (l .column) .0))
+
+  slot-few : (d : ℕ) → lanesAt (λ s. load rec (turn s)) d + lanesAt (load rec) d ≤ 31
+  slot-few d = by (isLinkDart d)
+    where
+      by : (b : Bool) → when b (load rec (turn (stepOf d))) + when b (load rec (stepOf d)) ≤ 31
+      by true = omega (arith, way-few (stepOf d .link) (stepOf d .forth))
+      by false = omega arith
+
+  -- so few that the ends round a place fit the rows of `partner`
+  pub ends-few : (d : ℕ) (arrive depart : List ℕ) → arrive ≡ lanesOf (λ s. load rec (turn s)) d → depart ≡ lanesOf (load rec) d
+      → start (lanes arrive) (lanes depart) 5 ≤ 155
+  unfolding sum
+  ends-few d arrive depart ins outs =
+      sum-le 5 (λ k. lanes arrive k + lanes depart k) (λ k. 31) each
+    where
+      lanes-of : (h : Step → ℕ) (l : List ℕ) → l ≡ lanesOf h d → (k : ℕ) → k < 5 → lanes l k ≡ lanesAt h (d + k)
+      lanes-of h l e k m = lanes-in l k m ∙ (ap (λ (w : List ℕ). getD w k 0) e ∙ lanes-at h d k m)
+
+      each : (k : ℕ) → k < 5 → lanes arrive k + lanes depart k ≤ 31
+      each k m = omega (arith, lanes-of (λ s. load rec (turn s)) arrive ins k m, lanes-of (load rec) depart outs k m, slot-few (d + k))
 
 -- ---- the first loaded step of a list
 

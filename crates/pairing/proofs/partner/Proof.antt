@@ -1,53 +1,109 @@
--- `pairing::partner` meets its contract: where no more lanes depart than arrive before the lane, its partner lies ahead, and else behind. Assumes nothing.
+-- `pairing::partner` meets its contract: the ends laid have the kinds of the sequence, so that the pairs joined are the rounds', and the partner's end says its lane. Assumes nothing.
 use native.Mathlib.Omega.{arith}
 use borrow.Author.Needs.{needs}
-use Rattle.pairing.specs.Answer.{lanes, ahead-partner, behind-partner}
+use Rattle.pairing.specs.Answer.{lanes}
+use Rattle.pairing.specs.Sequence.{blank}
+use Rattle.pairing.specs.Struck.{partner-joined, end-partner}
 use Rattle.pairing.proofs.partner.Statement.{statement}
 use Rattle.pairing.proofs.partner.Tie as tie
+
+slice-aggregate-lay : tie.Need-slice-aggregate-lay
+slice-aggregate-lay c = search needs
+
+slice-aggregate-lay-2 : tie.Need-slice-aggregate-lay-2
+slice-aggregate-lay-2 c = search needs
+
+slice-aggregate-lay-3 : tie.Need-slice-aggregate-lay-3
+slice-aggregate-lay-3 c = search needs
+
+lay-requires : tie.Need-lay-requires
+lay-requires c κs = ((λ p. blank 155 p, search needs, search needs, search needs), search needs)
+
+slice-aggregate-join-all : tie.Need-slice-aggregate-join-all
+slice-aggregate-join-all c = search needs
+
+slice-aggregate-join-all-2 : tie.Need-slice-aggregate-join-all-2
+slice-aggregate-join-all-2 c = search needs
+
+slice-aggregate-join-all-3 : tie.Need-slice-aggregate-join-all-3
+slice-aggregate-join-all-3 c = search needs
+
+join-all-requires : tie.Need-join-all-requires
+join-all-requires c κs = search needs
+
+start-of-requires : tie.Need-start-of-requires
+start-of-requires c κs = search needs
 
 lanes-at-requires : tie.Need-lanes-at-requires
 lanes-at-requires c κs = search needs
 
-lanes-before-requires : tie.Need-lanes-before-requires
-lanes-before-requires c κs = search needs
+sub-p : tie.Need-sub-p
+sub-p c = search needs
 
-lanes-above-requires : tie.Need-lanes-above-requires
-lanes-above-requires c κs = search needs
+sub-p-2 : tie.Need-sub-p-2
+sub-p-2 c = search needs
 
-add-came : tie.Need-add-came
-add-came c = search needs
+add-p : tie.Need-add-p
+add-p c = search needs
 
-lanes-before-requires-2 : tie.Need-lanes-before-requires-2
-lanes-before-requires-2 c κs = search needs
+slice-aggregate-other-end : tie.Need-slice-aggregate-other-end
+slice-aggregate-other-end c = search needs
 
-ahead-requires : tie.Need-ahead-requires
-ahead-requires c κs = search needs
+slice-aggregate-other-end-2 : tie.Need-slice-aggregate-other-end-2
+slice-aggregate-other-end-2 c = search needs
+
+other-end-requires : tie.Need-other-end-requires
+other-end-requires c κs = search needs
+
+slice-aggregate-entry : tie.Need-slice-aggregate-entry
+slice-aggregate-entry c = search needs
+
+entry-requires : tie.Need-entry-requires
+entry-requires c κs = search needs
+
+slice-aggregate-entry-2 : tie.Need-slice-aggregate-entry-2
+slice-aggregate-entry-2 c = search needs
+
+entry-requires-2 : tie.Need-entry-requires-2
+entry-requires-2 c κs = search needs
 
 returns : tie.Need-returns
 returns c =
-    let a = c .before .before .before .before .before .before .args in
-    ahead-partner (lanes (a .arrive .now)) (lanes (a .depart .now)) (a .slot) (a .lane) (c .ahead .result .slot) (c .ahead .result .lane)
-    (omega arith) (omega arith) (omega arith) (c .ahead .ensures)
-
-behind-requires : tie.Need-behind-requires
-behind-requires c κs = search needs
-
-returns-2 : tie.Need-returns-2
-returns-2 c =
-    let a = c .before .before .before .before .before .before .args in
-    behind-partner (lanes (a .arrive .now)) (lanes (a .depart .now)) (a .slot) (a .lane) (c .behind .result .slot) (c .behind .result .lane)
-    (omega arith) (omega arith) (omega arith) (c .behind .ensures)
+    let o = c .before .before .before .before in
+    let j = o .before .before .before .before .before .before .before in
+    let y = j .before .before .before .before .before .before .before in
+    let a = y .before .before .before .before .args in
+    let s = y .lay .last .1 .1 .0 in
+    let l = y .lay .last .1 .1 .1 .0 in
+    let r = y .lay .last .1 .1 .1 .1 .0 in
+    end-partner (lanes (a .arrive .now)) (lanes (a .depart .now)) (a .slot) (a .lane) (omega arith) (omega arith) (y .lay .result) (o .other-end .result) _ _
+    s l r (y .lay .ensures .0) (y .lay .ensures .1)
+    (partner-joined (lanes (a .arrive .now)) (lanes (a .depart .now)) (y .lay .result) _ (o .other-end .result) _ s l r _
+    (y .lay .ensures .0) (y .lay .ensures .1) (j .join-all .ensures .0) (omega arith) (o .other-end .ensures))
+    (c .before .before .entry .ensures) (c .entry2 .ensures)
 
 pub partner-spec : {M : Type 1} → statement M
 partner-spec =
     tie.close
     (tie.spec
+    slice-aggregate-lay
+    slice-aggregate-lay-2
+    slice-aggregate-lay-3
+    lay-requires
+    slice-aggregate-join-all
+    slice-aggregate-join-all-2
+    slice-aggregate-join-all-3
+    join-all-requires
+    start-of-requires
     lanes-at-requires
-    lanes-before-requires
-    lanes-above-requires
-    add-came
-    lanes-before-requires-2
-    ahead-requires
-    returns
-    behind-requires
-    returns-2)
+    sub-p
+    sub-p-2
+    add-p
+    slice-aggregate-other-end
+    slice-aggregate-other-end-2
+    other-end-requires
+    slice-aggregate-entry
+    entry-requires
+    slice-aggregate-entry-2
+    entry-requires-2
+    returns)

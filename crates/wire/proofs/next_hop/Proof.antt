@@ -3,7 +3,7 @@ use borrow.Author.Needs.{needs}
 use mathlib.Core.Path.{sym, _∙_}
 use native.Mathlib.Omega.{arith}
 use Rattle.channel.specs.Map.Numbers.{darts-is}
-use Rattle.wire.specs.Walks.{out-ends, slot-five, lane-comes, answer-five, goes-next}
+use Rattle.wire.specs.Walks.{ends-few, out-ends, slot-five, lane-comes, answer-five, goes-next}
 use Rattle.wire.proofs.next_hop.Statement.{statement}
 use Rattle.wire.proofs.next_hop.Tie as tie
 
@@ -41,6 +41,7 @@ partner-requires c κs =
       lane-comes (s .args .rec .now) (s .pre .0) (s .args .dart) (s .args .lane) (s .pre .1) _ (u .before .before .head-of .ensures .0)
           (sym (u .before .is-outside .ensures) ∙ u .if1 .left) _ (t .before .before .step-back .ensures .0)
           _ _ (t .before .arriving .ensures) (t .departing .ensures),
+      ends-few (s .args .rec .now) (s .pre .0 .values) _ _ _ (t .before .arriving .ensures) (t .departing .ensures),
     )
 
 add-t12 : tie.Need-add-t12
