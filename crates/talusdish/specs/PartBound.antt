@@ -1,63 +1,53 @@
--- The part of a wire of a legal record is a small number: it lies in the array, on a lane below a load. Assumes nothing.
+-- The part of a wire of a legal record fits a word: it lies in the array, at a place with a number, on a lane below a load, and no load is above 16. Assumes
+-- nothing.
 use mathlib.Core.Path.{_≡_, refl}
-use mathlib.Core.Bool.{Bool, true, false}
+use mathlib.Core.Bool.{Bool, true, false, _&&_}
 use mathlib.Core.List.{List}
 use mathlib.Core.Option.{Option, none, some}
-use Prim.Native.Nat.{ℕ, _*_, _^_, _/_, _-_, _≤_, _<_}
+use Prim.Native.Nat.{ℕ, _≤_, _<_}
 use native.Mathlib.Omega.{arith}
-use lib.Dec.{T, eqb}
-use Rattle.sums.specs.Tests.{and-left, and-right}
+use lib.Dec.{T, eqb, ltb, lt→ltb}
+use Rattle.sums.specs.Tests.{and-left, and-right, and-both}
 use Rattle.model.specs.Job.{Job, arrayFits, isTile, isOpen}
-use Rattle.model.specs.Links.{Compass, north, east, south, west, compassCode, PlaceKind, pin, missing, side, centre, outside, nowhere, Place, enters, Step, head}
-use Rattle.model.specs.Links.{tail, may, isPlace, isEntered}
-use Rattle.model.specs.Record.{loadPlane, jobOf, cell, load, Legal}
+use Rattle.model.specs.Links.{PlaceKind, pin, missing, side, centre, outside, nowhere, Place, holds, isPlace, enters, isEntered, Step, head, tail, may}
+use Rattle.model.specs.Record.{jobOf, load, Legal}
 use Rattle.model.specs.Wires.{Hop, unwired, partFor, hopAt, isWired, partOf, partAt}
 use Rattle.channel.specs.Map.Places.{tile-cell, missing-cell}
+use Rattle.channel.specs.Map.Carried.{step-small}
 use Rattle.wire.specs.Next.{hop-may}
 use Rattle.wire.specs.Apart.{wire-loaded}
-use Rattle.talusdish.specs.Words.{placeNumber, partNumber}
-
-point-few : (d : Compass) → compassCode d ≤ 3
-point-few north = omega arith
-point-few east = omega arith
-point-few south = omega arith
-point-few west = omega arith
-
-place-few : (p : PlaceKind) → placeNumber p ≤ 6
-place-few pin = omega arith
-place-few missing = omega arith
-place-few centre = omega arith
-place-few outside = omega arith
-place-few nowhere = omega arith
-place-few (side d) = omega (arith, point-few d)
+use Rattle.talusdish.specs.Words.{isNumbered, partFits}
 
 open-cell : (J : Job) → T (arrayFits (J .rows) (J .columns)) → (r c : ℕ) → T (isOpen J r c) → (r < 40) × (c < 40)
 unfolding isOpen
 open-cell J fits r c t = tile-cell J fits r c (and-left (isTile J r c) (eqb (J .state r c) 0) t)
 
--- a place that is entered
-entered-small : (J : Job) → T (arrayFits (J .rows) (J .columns)) → (x : Place) (p : PlaceKind) (r c i : ℕ) → T (enters J p r c) → i < 64
-    → partNumber (partFor x p r c i) < 2 ^ 23
-entered-small J fits x pin r c i t l = absurd t
-entered-small J fits x missing r c i t l = let (a, b) = missing-cell J fits r c t in omega arith
-entered-small J fits x centre r c i t l = let (a, b) = open-cell J fits r c t in omega arith
-entered-small J fits x outside r c i t l = omega (arith, place-few (x .kind))
-entered-small J fits x nowhere r c i t l = absurd t
-entered-small J fits x (side d) r c i t l = let (a, b) = open-cell J fits r c t in omega (arith, point-few d)
+four-fit : (a b c d : Bool) → T a → T b → T c → T d → T (a && (b && (c && d)))
+four-fit a b c d s t u v = and-both a (b && (c && d)) s (and-both b (c && d) t (and-both c d u v))
 
-load-few : (rec : List ℕ) → Legal rec → (s : Step) → load rec s < 64
-unfolding load
-load-few rec g s = by (s .forth)
-  where
-    b : ℕ
-    b = cell rec (loadPlane (s .link .kind)) (s .link .row) (s .link .column)
+in-array : (r c i : ℕ) → r < 40 → c < 40 → i < 32 → (b : Bool) → T b → T (ltb r 64 && (ltb c 64 && (ltb i 32 && b)))
+in-array r c i k l m b t =
+    four-fit (ltb r 64) (ltb c 64) (ltb i 32) b (lt→ltb r 64 (omega arith)) (lt→ltb c 64 (omega arith)) (lt→ltb i 32 m) t
 
-    few : b < 64
-    few = g .values .loads (s .link .kind) (s .link .row) (s .link .column) .0
+-- a place of the array has a number of its own
+place-numbered : (J : Job) (p : PlaceKind) (r c : ℕ) → T (holds J p r c) → T (isNumbered p)
+place-numbered J pin r c t = tt
+place-numbered J missing r c t = tt
+place-numbered J centre r c t = tt
+place-numbered J outside r c t = absurd t
+place-numbered J nowhere r c t = absurd t
+place-numbered J (side d) r c t = tt
 
-    by : (w : Bool) → elim w as (λ y. ℕ) [ true ↦ b - b / 32 * 64 | false ↦ b - 32 ] < 64
-    by true = omega (arith, few)
-    by false = omega (arith, few)
+-- a place that is entered, from one of the array
+entered-fits : (J : Job) → T (arrayFits (J .rows) (J .columns)) → (x : Place) → T (isPlace J x) → (p : PlaceKind) (r c i : ℕ) → T (enters J p r c) → i < 32
+    → T (partFits (partFor x p r c i))
+entered-fits J fits x h pin r c i t l = absurd t
+entered-fits J fits x h missing r c i t l = let (a, b) = missing-cell J fits r c t in in-array r c i a b l true tt
+entered-fits J fits x h centre r c i t l = let (a, b) = open-cell J fits r c t in in-array r c i a b l true tt
+entered-fits J fits x h outside r c i t l =
+    and-both (ltb i 32) (isNumbered (x .kind)) (lt→ltb i 32 l) (place-numbered J (x .kind) (x .row) (x .column) h)
+entered-fits J fits x h nowhere r c i t l = absurd t
+entered-fits J fits x h (side d) r c i t l = let (a, b) = open-cell J fits r c t in in-array r c i a b l true tt
 
 module _ (rec : List ℕ) (g : Legal rec) where
   abbrev J : Job
@@ -66,19 +56,21 @@ module _ (rec : List ℕ) (g : Legal rec) where
   abbrev f : Step → ℕ
   f = load rec
 
-  hop-small : (h : Hop) → h .lane < f (h .step) → partNumber (partOf J f (some h)) < 2 ^ 23
+  hop-fits : (h : Hop) → h .lane < f (h .step) → T (partFits (partOf J f (some h)))
   unfolding may
-  hop-small h l =
-      entered-small J (g .values .array) (tail J (h .step)) (head J (h .step) .kind) (head J (h .step) .row) (head J (h .step) .column) (h .lane)
-      (and-right (isPlace J (tail J (h .step))) (isEntered J (head J (h .step))) (hop-may J f (g .sound .feasible) h l))
-      (omega (arith, load-few rec g (h .step)))
+  hop-fits h l =
+      let m = hop-may J f (g .sound .feasible) h l in
+      let t = tail J (h .step) in
+      let y = head J (h .step) in
+      entered-fits J (g .values .array) t (and-left (isPlace J t) (isEntered J y) m) (y .kind) (y .row) (y .column) (h .lane)
+      (and-right (isPlace J t) (isEntered J y) m) (omega (arith, step-small (g .sound .feasible) (g .values .caps) (h .step)))
 
-  pub part-small : (r c i : ℕ) → partNumber (partAt J f r c i) < 2 ^ 23
+  pub part-fits : (r c i : ℕ) → T (partFits (partAt J f r c i))
   unfolding partAt
-  part-small r c i = by (isWired J f r c) (hopAt J f r c i) (λ w h e. wire-loaded J f (g .sound) r c i h w e) refl
+  part-fits r c i = by (isWired J f r c) (hopAt J f r c i) (λ w h e. wire-loaded J f (g .sound) r c i h w e) refl
     where
       by : (w : Bool) (o : Option Hop) → (T w → (h : Hop) → hopAt J f r c i ≡ some h → h .lane < f (h .step)) → hopAt J f r c i ≡ o
-          → partNumber (elim w [ true ↦ partOf J f o | false ↦ unwired ]) < 2 ^ 23
-      by true none k e = omega arith
-      by true (some h) k e = hop-small h (k tt h e)
-      by false o k e = omega arith
+          → T (partFits (elim w [ true ↦ partOf J f o | false ↦ unwired ]))
+      by true none k e = tt
+      by true (some h) k e = hop-fits h (k tt h e)
+      by false o k e = tt

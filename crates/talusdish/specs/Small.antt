@@ -1,4 +1,5 @@
--- Every answer of an operation fits a word of 64 bits. Whether a record is legal need not be known: a test that can fail in neither case passes.
+-- Every answer of an operation is one of those that it can give, so that it fits a word and is read back from it. Whether a record is legal need not be
+-- known: a test that can fail in neither case passes.
 -- Assumes nothing.
 use mathlib.Core.Path.{_≡_, sym, subst}
 use mathlib.Core.Bool.{Bool, true, false, not}
@@ -22,42 +23,38 @@ use Rattle.model.proofs.Over.{legal-proper}
 use Rattle.wire.specs.Places.{when-drop}
 use Rattle.wire.specs.Lengths.{places-few}
 use Rattle.talusdish.specs.TextBound.{reading-within, text-short}
-use Rattle.talusdish.specs.PartBound.{part-small}
-use Rattle.talusdish.specs.Words.{word, fits}
+use Rattle.talusdish.specs.PartBound.{part-fits}
+use Rattle.talusdish.specs.Words.{word, wordRead, refusalFits, fits}
+use Rattle.talusdish.specs.Decoded.{word-small, word-back}
 
-abbrev Fits : After → Type 0
-Fits a = T (fits (a .answer))
+abbrev Fits : Call → After → Type 0
+Fits c a = T (fits c (a .answer))
 
 stable : (b : Bool) → ((T b → ⊥) → ⊥) → T b
 stable true n = tt
 stable false n = n (λ t. t)
 
-as-fits : {a b : After} → a ≡ b → Fits b → Fits a
-as-fits e t = subst Fits (sym e) t
+as-fits : (c : Call) {a b : After} → a ≡ b → Fits c b → Fits c a
+as-fits c e t = subst (Fits c) (sym e) t
 
 -- ---- a damaged record, a legal one, and buffers that are too short
 
-on-fits : {P : Type 0} (rec scratch output : List ℕ) (a : After) → On rec scratch output a P → (Legal rec → P → Fits a) → Fits a
-on-fits rec scratch output a d h = stable (fits (a .answer)) (λ n. n (as-fits (d .damaged (λ g. n (h g (d .legal g)))) tt))
+on-fits : (c : Call) {P : Type 0} (rec scratch output : List ℕ) (a : After) → On rec scratch output a P → (Legal rec → P → Fits c a) → Fits c a
+on-fits c rec scratch output a d h = stable (fits c (a .answer)) (λ n. n (as-fits c (d .damaged (λ g. n (h g (d .legal g)))) tt))
 
--- a refusal by a number below 256, or what an accepted call leaves
-abbrev small : ℕ → Bool
-small k = ltb k 256
+-- a refusal, or what an accepted call leaves
+asked-fits : (c : Call) (ts : List Test) (rec output : List ℕ) (a : After) → T (numbered refusalFits ts) → (T (allHold ts) → Fits c a)
+    → Fits c (asked ts rec output a)
+asked-fits c ts rec output a n f = asked-either rec output a (Fits c) refusalFits ts n (λ k t. t) f
 
-asked-fits : (ts : List Test) (rec output : List ℕ) (a : After) → T (numbered small ts) → (T (allHold ts) → Fits a) → Fits (asked ts rec output a)
-asked-fits ts rec output a n f = asked-either rec output a Fits small ts n by f
-  where
-    by : (k : ℕ) → T (small k) → Fits (after (refused k) rec [] output)
-    by k t = lt→ltb (word (refused k)) (2 ^ 64) (omega (arith, ltb→lt k 256 t))
+edited-fits : (c : Call) → T (fits c done) → (already : Bool) (K : Job) (rec : List ℕ) → Fits c (edited already K rec)
+edited-fits c t true K rec = t
+edited-fits c t false K rec = t
 
-edited-fits : (already : Bool) (K : Job) (rec : List ℕ) → Fits (edited already K rec)
-edited-fits true K rec = tt
-edited-fits false K rec = tt
-
-stepped-fits : {rec rec′ : List ℕ} {x : Answer} → Stepped rec x rec′ → T (fits x)
-stepped-fits (adds o) = tt
-stepped-fits (stays w e) = tt
-stepped-fits (lacking G l e) = tt
+stepped-fits : (scratch : List ℕ) {rec rec′ : List ℕ} {x : Answer} → Stepped rec x rec′ → T (fits (step scratch) x)
+stepped-fits scratch (adds o) = tt
+stepped-fits scratch (stays w e) = tt
+stepped-fits scratch (lacking G l e) = tt
 
 -- at most m, or less than it
 module _ (m n : ℕ) {P : Type 0} where
@@ -68,8 +65,9 @@ module _ (m n : ℕ) {P : Type 0} where
       by true p q = h (p tt)
       by false p q = f (q tt)
 
-step-fits : (scratch rec : List ℕ) (a : After) → Steps scratch rec a → Fits a
-step-fits scratch rec a d = by-size scratchSize (length scratch) (λ l. as-fits (d .small l) tt) (λ l. stepped-fits (d .enough l .0))
+step-fits : (scratch rec : List ℕ) (a : After) → Steps scratch rec a → Fits (step scratch) a
+step-fits scratch rec a d =
+    by-size scratchSize (length scratch) (λ l. as-fits (step scratch) (d .small l) tt) (λ l. stepped-fits scratch (d .enough l .0))
 
 -- ---- the values
 
@@ -83,57 +81,73 @@ chosen-few rec g =
       places-few J (g .values .array),
     )
 
-lacks-fits : (scratch output rec : List ℕ) → Legal rec → (a : After) → Lacks scratch output rec a → Fits a
+lacks-fits : (scratch output rec : List ℕ) → Legal rec → (a : After) → Lacks scratch output rec a → Fits (shortfall scratch output) a
 lacks-fits scratch output rec g a d =
-    by-size scratchSize (length scratch) (λ l. as-fits (d .small l) tt)
-    (λ l. by-size recordSize (length output) (λ k. as-fits (d .narrow l k) tt) (λ k. subst (λ x. T (fits x)) (sym (d .enough l k .2)) (number (d .enough l k .0))))
+    let c : Call = shortfall scratch output in
+    by-size scratchSize (length scratch) (λ l. as-fits c (d .small l) tt)
+    (λ l.
+    by-size recordSize (length output) (λ k. as-fits c (d .narrow l k) tt)
+    (λ k. subst (λ x. T (fits c x)) (sym (d .enough l k .2)) (number (d .enough l k .0))))
   where
-    number : (n : ℕ) → T (fits (lacks (chosenCount (jobOf rec) - n)))
-    number n = lt→ltb (word (lacks (chosenCount (jobOf rec) - n))) (2 ^ 64) (omega (arith, chosen-few rec g))
+    number : (n : ℕ) → T (fits (shortfall scratch output) (lacks (chosenCount (jobOf rec) - n)))
+    number n = lt→ltb (chosenCount (jobOf rec) - n) (2 ^ 56) (omega (arith, chosen-few rec g))
 
-listed-fits : (rec : List ℕ) → Legal rec → (r c i : ℕ) → Fits (listed r c i rec)
+listed-fits : (rec : List ℕ) → Legal rec → (r c i : ℕ) → Fits (part r c i) (listed r c i rec)
 listed-fits rec g r c i =
-    let p : Part = partAt (jobOf rec) (load rec) r c i in
-    asked-fits (test (isChosen (jobOf rec) r c) 4 ∷ []) rec [] (after (lists p) rec [] []) tt
-    (λ t. lt→ltb (word (lists p)) (2 ^ 64) (omega (arith, part-small rec g r c i)))
+    asked-fits (part r c i) (test (isChosen (jobOf rec) r c) 4 ∷ []) rec [] (after (lists (partAt (jobOf rec) (load rec) r c i)) rec [] []) tt
+    (λ t. part-fits rec g r c i)
 
-read-fits : (text rec : List ℕ) (a : After) → ReadIn text rec a → Fits a
-read-fits text rec a d = by-size recordSize (length rec) (λ l. as-fits (d .brief l) tt) (λ l. let (v, r, e) = d .long l in as-fits e (by v r))
+read-fits : (text rec : List ℕ) (a : After) → ReadIn text rec a → Fits (readText text) a
+read-fits text rec a d =
+    by-size recordSize (length rec) (λ l. as-fits (readText text) (d .brief l) tt)
+    (λ l. let (v, r, e) = d .long l in as-fits (readText text) e (by v r))
   where
-    by : (v : Verdict) → Reading text v → Fits (readIn v rec)
+    by : (v : Verdict) → Reading text v → Fits (readText text) (readIn v rec)
     by (reads K) r = tt
-    by (wrongAt o) r = lt→ltb (word (wrongText o)) (2 ^ 64) (omega (arith, reading-within text (wrongAt o) r))
+    by (wrongAt o) r = lt→ltb o (2 ^ 56) (omega (arith, reading-within text (wrongAt o) r))
 
-written-fits : (output rec : List ℕ) → Legal rec → Fits (written output rec)
+written-fits : (output rec : List ℕ) → Legal rec → Fits (writeText output) (written output rec)
 written-fits output rec g =
     let text : List ℕ = textOf (jobOf rec) in
-    asked-fits (test (leb (length text) (length output)) 7 ∷ []) rec output (after (wrote (length text)) rec [] (over text output)) tt
-    (λ t. lt→ltb (word (wrote (length text))) (2 ^ 64) (omega (arith, text-short (jobOf rec) (legal-proper rec g))))
+    asked-fits (writeText output) (test (leb (length text) (length output)) 7 ∷ []) rec output (after (wrote (length text)) rec [] (over text output)) tt
+    (λ t. lt→ltb (length text) (2 ^ 56) (omega (arith, text-short (jobOf rec) (legal-proper rec g))))
 
-newly-fits : (rows columns O D E : ℕ) (rec : List ℕ) → Fits (newly rows columns O D E rec)
+newly-fits : (rows columns O D E : ℕ) (rec : List ℕ) → Fits (new rows columns O D E) (newly rows columns O D E rec)
 newly-fits rows columns O D E rec =
-    asked-fits (test (leb recordSize (length rec)) 1 ∷ test (arrayFits rows columns) 2 ∷ test (capsAdmitted O D E) 3 ∷ []) rec []
+    asked-fits (new rows columns O D E)
+    (test (leb recordSize (length rec)) 1 ∷ test (arrayFits rows columns) 2 ∷ test (capsAdmitted O D E) 3 ∷ []) rec []
     (after done (over (unwiredRecord (fresh rows columns O D E)) rec) [] []) tt (λ t. tt)
 
 -- ---- every operation
 
-did-fits : (c : Call) (rec : List ℕ) (a : After) → Did c rec a → Fits a
-did-fits (new rows columns O D E) rec a d = as-fits d (newly-fits rows columns O D E rec)
+pub did-fits : (c : Call) (rec : List ℕ) (a : After) → Did c rec a → Fits c a
+did-fits (new rows columns O D E) rec a d = as-fits (new rows columns O D E) d (newly-fits rows columns O D E rec)
 did-fits (mark r c m) rec a d =
     let J : Job = jobOf rec in
     let leaves : After = edited (eqb (J .mark r c) m) (marked J r c m) rec in
-    on-fits rec [] [] a d
-    (λ g e. as-fits e (asked-fits (test (isPin J r c) 4 ∷ test (leb m 2) 5 ∷ []) rec [] leaves tt (λ t. edited-fits (eqb (J .mark r c) m) (marked J r c m) rec)))
+    on-fits (mark r c m) rec [] [] a d
+    (λ g e.
+    as-fits (mark r c m) e
+    (asked-fits (mark r c m) (test (isPin J r c) 4 ∷ test (leb m 2) 5 ∷ []) rec [] leaves tt
+    (λ t. edited-fits (mark r c m) tt (eqb (J .mark r c) m) (marked J r c m) rec)))
 did-fits (close r c v) rec a d =
     let J : Job = jobOf rec in
     let leaves : After = edited (eqb (J .state r c) v) (closed J r c v) rec in
-    on-fits rec [] [] a d
-    (λ g e. as-fits e (asked-fits (test (isTile J r c) 4 ∷ test (leb v 1) 5 ∷ []) rec [] leaves tt (λ t. edited-fits (eqb (J .state r c) v) (closed J r c v) rec)))
-did-fits (step scratch) rec a d = on-fits rec scratch [] a d (λ g s. step-fits scratch rec a s)
-did-fits (shortfall scratch output) rec a d = on-fits rec scratch output a d (λ g s. lacks-fits scratch output rec g a s)
-did-fits (part r c i) rec a d = on-fits rec [] [] a d (λ g e. as-fits e (listed-fits rec g r c i))
+    on-fits (close r c v) rec [] [] a d
+    (λ g e.
+    as-fits (close r c v) e
+    (asked-fits (close r c v) (test (isTile J r c) 4 ∷ test (leb v 1) 5 ∷ []) rec [] leaves tt
+    (λ t. edited-fits (close r c v) tt (eqb (J .state r c) v) (closed J r c v) rec)))
+did-fits (step scratch) rec a d = on-fits (step scratch) rec scratch [] a d (λ g s. step-fits scratch rec a s)
+did-fits (shortfall scratch output) rec a d = on-fits (shortfall scratch output) rec scratch output a d (λ g s. lacks-fits scratch output rec g a s)
+did-fits (part r c i) rec a d = on-fits (part r c i) rec [] [] a d (λ g e. as-fits (part r c i) e (listed-fits rec g r c i))
 did-fits (readText text) rec a d = read-fits text rec a d
-did-fits (writeText output) rec a d = on-fits rec [] output a d (λ g e. as-fits e (written-fits output rec g))
+did-fits (writeText output) rec a d =
+    on-fits (writeText output) rec [] output a d (λ g e. as-fits (writeText output) e (written-fits output rec g))
 
 pub did-small : (c : Call) (rec : List ℕ) (a : After) → Did c rec a → word (a .answer) < 2 ^ 64
-did-small c rec a d = ltb→lt (word (a .answer)) (2 ^ 64) (did-fits c rec a d)
+did-small c rec a d = word-small c (a .answer) (did-fits c rec a d)
+
+-- the host reads every answer back from its word
+pub did-back : (c : Call) (rec : List ℕ) (a : After) → Did c rec a → wordRead c (word (a .answer)) ≡ a .answer
+did-back c rec a d = word-back c (a .answer) (did-fits c rec a d)
