@@ -1,5 +1,5 @@
--- Document 01, "The listing", on its examples: the lines of the four-pin job with the wires that document 01 prints, the part of a direct exit, and the whole listing of a short
--- job and of a refusal. Assumes nothing.
+-- Document 01, "The listing", on its examples: the lines of the four-pin job with the wires that document 01 prints, the part of a direct exit, the whole listing of a short
+-- job and of a refusal, and the lines of a near missing pin. Assumes nothing.
 use mathlib.Core.Path.{_≡_, refl, sym, ap, ap₂, subst, _∙_}
 use mathlib.Core.Logic.{_≢_}
 use mathlib.Core.Bool.{Bool, true, false, not}
@@ -15,7 +15,7 @@ use Rattle.model.specs.Job.{isOpen, isChosen, isMissing}
 use Rattle.model.specs.Links.{pin, places, behindOf, aheadOf, head}
 use Rattle.model.specs.Loads.{departures}
 use Rattle.model.specs.Wires.{fallingEnds, endsOn, arrivalAt, leaving, firstLoaded, hopAt, isWired, wireCount, out, partAt}
-use Rattle.model.specs.Examples.{jobShut}
+use Rattle.model.specs.Examples.{jobShut, jobMissing}
 use Rattle.model.proofs.FourPins.{job22, loads22, sound22}
 use Rattle.listing.specs.Lines.{decimal, close, line, pairLine, spread, row, column}
 use Rattle.model.specs.Near.{spot}
@@ -146,6 +146,20 @@ only-inner g = spread-one (groupLines jobShut nearShut g) 1600 0 inner (omega ar
 pub listing-shut : shortListing jobShut nearShut 1 ≡ bytesShut
 unfolding shortListing groupLines chosenLine missingLines sideLines centreLines decimal isChosen isMissing
 listing-shut = ap₂ (λ (l m : List ℕ). line shortWord 1 ++ (l ++ m)) (only-inner 0) (ap₂ _++_ (only-inner 1) (only-inner 2))
+
+-- ---- a missing pin, entry before exit
+
+-- (near ri 0 1), (near ro 0 1)
+abbrev bytesMissing : List ℕ
+bytesMissing =
+    40 ∷ 110 ∷ 101 ∷ 97 ∷ 114 ∷ 32 ∷ 114 ∷ 105 ∷ 32 ∷ 48 ∷ 32 ∷ 49 ∷ 41 ∷ 10 ∷ 40 ∷ 110 ∷ 101 ∷ 97 ∷ 114 ∷ 32 ∷ 114 ∷ 111 ∷ 32 ∷ 48 ∷ 32 ∷ 49 ∷ 41 ∷ 10
+    ∷ []
+
+-- the lines of the cell of pin (0, 1), wherever both are near
+pub missing-listed : (near : List ℕ) → getD near (spot 0 0 1) 0 ≡ 1 → getD near (spot 1 0 1) 0 ≡ 1 → groupLines jobMissing near 1 1 ≡ bytesMissing
+unfolding groupLines missingLines isMissing decimal
+missing-listed near a b =
+    ap₂ (λ (x y : ℕ). only (eqb x 1) (pairLine entryWord 0 1 close) ++ only (eqb y 1) (pairLine exitWord 0 1 close)) a b
 
 -- (refused 6 45)
 abbrev refused45 : List ℕ

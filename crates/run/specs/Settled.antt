@@ -1,15 +1,16 @@
 -- Document 01, "Settled by hand", as answers of every service after every run, by demand 3: each row of `shorts` says "added" as often as its greatest number
 -- and then "short", and Shortfall gives 1 and the near side of the row; each job of `wireds` says "added" as often as pins are chosen and then "all wired",
 -- and Shortfall gives 0; where nothing is chosen, "all wired", never "added". For a job has one greatest number and one smallest near side. Assumes nothing.
-use mathlib.Core.Path.{_≡_, refl, sym, ap, subst, _∙_}
+use mathlib.Core.Path.{_≡_, sym, ap, subst, _∙_}
 use mathlib.Core.Logic.{_⊎_, inl, inr}
 use mathlib.Core.Bool.{Bool}
-use mathlib.Core.List.{List, List·Memᴰ, List·Memᴰ·head, List·Memᴰ·tail}
+use mathlib.Core.List.{List, List·Memᴰ}
 use Prim.Native.Nat.{ℕ, suc, _-_, _≤_, _<_}
 use native.Mathlib.Omega.{arith}
-use lib.Dec.{T}
+use lib.Dec.{T, eqb, eqb→eq}
 use lib.ListN.{length}
 use Rattle.sums.specs.Counting.{each, those, total}
+use Rattle.sums.specs.Tests.{every, every-at}
 use Rattle.model.specs.Job.{Job, isOpen, isChosen, isMissing}
 use Rattle.model.specs.Links.{places}
 use Rattle.model.specs.Route.{Family, Greatest, chosenCount}
@@ -77,12 +78,9 @@ module _ (S : Service) (rec : List ℕ) (x : Short) (D : Demand S rec (x .job)) 
 
 -- one chosen pin of each row is left
 one-left : (x : Short) → List·Memᴰ x shorts → chosenCount (x .job) ≡ suc (x .greatest)
-unfolding total places each those isChosen isMissing isOpen
-one-left x (List·Memᴰ·head e) = subst (λ (y : Short). chosenCount (y .job) ≡ suc (y .greatest)) (sym e) refl
-one-left x (List·Memᴰ·tail (List·Memᴰ·head e)) = subst (λ (y : Short). chosenCount (y .job) ≡ suc (y .greatest)) (sym e) refl
-one-left x (List·Memᴰ·tail (List·Memᴰ·tail (List·Memᴰ·head e))) = subst (λ (y : Short). chosenCount (y .job) ≡ suc (y .greatest)) (sym e) refl
-one-left x (List·Memᴰ·tail (List·Memᴰ·tail (List·Memᴰ·tail (List·Memᴰ·head e)))) =
-    subst (λ (y : Short). chosenCount (y .job) ≡ suc (y .greatest)) (sym e) refl
+unfolding every total places each those isChosen isMissing isOpen
+one-left x m =
+    eqb→eq (chosenCount (x .job)) (suc (x .greatest)) (every-at shorts (λ y. eqb (chosenCount (y .job)) (suc (y .greatest))) tt m)
 
 pub shorts-answers : (x : Short) → List·Memᴰ x shorts → (S : Service) (begun : List ℕ) (K : Job) → Starts S begun K → (calls : List Call) (rec : List ℕ)
     → Follows S begun K calls rec (x .job) → wiresIn rec ≡ 0 → Answers S rec x
