@@ -42,10 +42,13 @@ place-back (side west) t = refl
 number-back : (k p i r c : ℕ) → k < 4 → p < 8 → i < 32 → r < 64 → partRead (number k p i r c) ≡ partWith k p i r c
 number-back k p i r c a b d e =
     let n : ℕ = number k p i r c in
+    let y₁ : n / 4 ≡ p + 8 * (i + 32 * (r + 64 * c)) = omega arith in
+    let y₂ : n / 32 ≡ i + 32 * (r + 64 * c) = omega arith in
+    let y₃ : n / 1024 ≡ r + 64 * c = omega arith in
     let x₀ : n % 4 ≡ k = omega arith in
-    let x₁ : n / 4 % 8 ≡ p = omega arith in
-    let x₂ : n / 32 % 32 ≡ i = omega arith in
-    let x₃ : n / 1024 % 64 ≡ r = omega arith in
+    let x₁ : n / 4 % 8 ≡ p = ap (λ (m : ℕ). m % 8) y₁ ∙ omega arith in
+    let x₂ : n / 32 % 32 ≡ i = ap (λ (m : ℕ). m % 32) y₂ ∙ omega arith in
+    let x₃ : n / 1024 % 64 ≡ r = ap (λ (m : ℕ). m % 64) y₃ ∙ omega arith in
     let x₄ : n / 65536 ≡ c = omega arith in
     λ j. partWith (x₀ j) (x₁ j) (x₂ j) (x₃ j) (x₄ j)
 
