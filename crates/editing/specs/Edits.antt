@@ -1,5 +1,5 @@
 -- Document 01, "Mark" and "close": the answer of an edit by its tests, and the record that an edit of a legal one leaves. Assumes nothing.
-use mathlib.Core.Path.{_≡_, sym, ap, subst, _∙_}
+use mathlib.Core.Path.{_≡_, refl, sym, ap, subst, _∙_}
 use mathlib.Core.Logic.{_≢_}
 use mathlib.Core.Bool.{Bool, true, false, not}
 use mathlib.Core.List.{List, [], _∷_}
@@ -53,56 +53,74 @@ module _ (rec : List ℕ) (g : Legal rec) where
   pub unwired-long : recordSize ≤ length (unwired rec)
   unwired-long = omega (arith, ap length (unwired-over rec g), length-over (jobOf rec) noLoads rec (g .long), g .long)
 
--- ---- Mark
+-- ---- Mark, and Close where tiles are edited
 
-module _ (rec : List ℕ) (r c m : ℕ) (t : Bool) (e : t ≡ isPin (jobOf rec) r c) where
-  abbrev K : Job
-  K = marked (jobOf rec) r c m
+-- whether the pin or the tile is there, the greatest mark or state, the one that stands there, the plane, and the edited job
+abbrev pub isThere : Bool → Job → ℕ → ℕ → Bool
+isThere false J r c = isPin J r c
+isThere true J r c = isTile J r c
 
-  pub mark-nowhere : not t ≡ true → after (refused 4) rec [] [] ≡ markedBy r c m rec
-  mark-nowhere = edited-nowhere K rec (isPin (jobOf rec) r c) 2 m (jobOf rec .mark r c) t e
+abbrev pub most : Bool → ℕ
+most false = 2
+most true = 1
 
-  pub mark-unknown : not t ≡ false → 2 < m → after (refused 5) rec [] [] ≡ markedBy r c m rec
-  mark-unknown = edited-unknown K rec (isPin (jobOf rec) r c) 2 m (jobOf rec .mark r c) t e
+abbrev pub valueIn : Bool → Job → ℕ → ℕ → ℕ
+valueIn false J r c = J .mark r c
+valueIn true J r c = J .state r c
 
-  module _ (n : not t ≡ false) where
-    pub mark-cell : Legal rec → (r < 40) × (c < 40)
-    mark-cell g = pin-cell (jobOf rec) (g .values .array) r c (subst T (sym (not-false t n) ∙ e) tt)
+abbrev pub planeOf : Bool → ℕ
+planeOf false = markPlane
+planeOf true = statePlane
 
-    module _ (l : m ≤ 2) (w : ℕ) (q : w ≡ jobOf rec .mark r c) where
-      pub mark-same : w ≡ m → after done rec [] [] ≡ markedBy r c m rec
-      mark-same = edited-same K rec (isPin (jobOf rec) r c) 2 m (jobOf rec .mark r c) t e n l w q
+abbrev withValue : Bool → Job → ℕ → ℕ → ℕ → Job
+withValue false J r c v = marked J r c v
+withValue true J r c v = closed J r c v
 
-      pub mark-anew : Legal rec → (rec′ : List ℕ) → w ≢ m → rec′ ≡ set (unwired rec) (offset markPlane r c) m
-          → after done rec′ [] [] ≡ markedBy r c m rec
-      mark-anew g rec′ s x =
-          let (lr, lc) = mark-cell g in
-          edited-anew K rec (isPin (jobOf rec) r c) 2 m (jobOf rec .mark r c) t e n l w q rec′ s
-          (x ∙ (ap (λ y. set y (offset markPlane r c) m) (unwired-over rec g) ∙ marked-over (jobOf rec) rec r c m (g .long) lr lc))
+abbrev pub editedBy : Bool → ℕ → ℕ → ℕ → List ℕ → After
+editedBy false r c v rec = markedBy r c v rec
+editedBy true r c v rec = closedBy r c v rec
 
--- ---- Close
+module _ (tiles : Bool) (rec : List ℕ) (r c v : ℕ) where
+  abbrev J : Job
+  J = jobOf rec
 
-module _ (rec : List ℕ) (r c v : ℕ) (t : Bool) (e : t ≡ isTile (jobOf rec) r c) where
-  abbrev L : Job
-  L = closed (jobOf rec) r c v
+  by-tests : (k : Bool) → answer (withValue k J r c v) rec (isThere k J r c) (most k) v (valueIn k J r c) (isThere k J r c) refl ≡ editedBy k r c v rec
+  by-tests false = refl
+  by-tests true = refl
 
-  pub close-nowhere : not t ≡ true → after (refused 4) rec [] [] ≡ closedBy r c v rec
-  close-nowhere = edited-nowhere L rec (isTile (jobOf rec) r c) 1 v (jobOf rec .state r c) t e
+  there-cell : (k : Bool) → Legal rec → T (isThere k J r c) → (r < 40) × (c < 40)
+  there-cell false g t = pin-cell J (g .values .array) r c t
+  there-cell true g t = tile-cell J (g .values .array) r c t
 
-  pub close-unknown : not t ≡ false → 1 < v → after (refused 5) rec [] [] ≡ closedBy r c v rec
-  close-unknown = edited-unknown L rec (isTile (jobOf rec) r c) 1 v (jobOf rec .state r c) t e
+  value-over : (k : Bool) → Legal rec → r < 40 → c < 40
+      → set (over (unwiredRecord J) rec) (offset (planeOf k) r c) v ≡ over (unwiredRecord (withValue k J r c v)) rec
+  value-over false g lr lc = marked-over J rec r c v (g .long) lr lc
+  value-over true g lr lc = closed-over J rec r c v (g .long) lr lc
 
-  module _ (n : not t ≡ false) where
-    pub close-cell : Legal rec → (r < 40) × (c < 40)
-    close-cell g = tile-cell (jobOf rec) (g .values .array) r c (subst T (sym (not-false t n) ∙ e) tt)
+  module _ (t : Bool) (e : t ≡ isThere tiles J r c) where
+    pub edit-nowhere : not t ≡ true → after (refused 4) rec [] [] ≡ editedBy tiles r c v rec
+    edit-nowhere n = edited-nowhere (withValue tiles J r c v) rec (isThere tiles J r c) (most tiles) v (valueIn tiles J r c) t e n ∙ by-tests tiles
 
-    module _ (l : v ≤ 1) (w : ℕ) (q : w ≡ jobOf rec .state r c) where
-      pub close-same : w ≡ v → after done rec [] [] ≡ closedBy r c v rec
-      close-same = edited-same L rec (isTile (jobOf rec) r c) 1 v (jobOf rec .state r c) t e n l w q
+    module _ (n : not t ≡ false) where
+      pub edit-cell : Legal rec → (r < 40) × (c < 40)
+      edit-cell g = there-cell tiles g (subst T (sym (not-false t n) ∙ e) tt)
 
-      pub close-anew : Legal rec → (rec′ : List ℕ) → w ≢ v → rec′ ≡ set (unwired rec) (offset statePlane r c) v
-          → after done rec′ [] [] ≡ closedBy r c v rec
-      close-anew g rec′ s x =
-          let (lr, lc) = close-cell g in
-          edited-anew L rec (isTile (jobOf rec) r c) 1 v (jobOf rec .state r c) t e n l w q rec′ s
-          (x ∙ (ap (λ y. set y (offset statePlane r c) v) (unwired-over rec g) ∙ closed-over (jobOf rec) rec r c v (g .long) lr lc))
+      pub edit-unknown : most tiles < v → after (refused 5) rec [] [] ≡ editedBy tiles r c v rec
+      edit-unknown l = edited-unknown (withValue tiles J r c v) rec (isThere tiles J r c) (most tiles) v (valueIn tiles J r c) t e n l ∙ by-tests tiles
+
+      module _ (l : v ≤ most tiles) (w : ℕ) (q : w ≡ valueIn tiles J r c) where
+        pub edit-same : w ≡ v → after done rec [] [] ≡ editedBy tiles r c v rec
+        edit-same s = edited-same (withValue tiles J r c v) rec (isThere tiles J r c) (most tiles) v (valueIn tiles J r c) t e n l w q s ∙ by-tests tiles
+
+        pub edit-anew : Legal rec → (rec′ : List ℕ) → w ≢ v → rec′ ≡ set (unwired rec) (offset (planeOf tiles) r c) v
+            → after done rec′ [] [] ≡ editedBy tiles r c v rec
+        edit-anew g rec′ s x =
+            let (lr, lc) = edit-cell g in
+            edited-anew (withValue tiles J r c v) rec (isThere tiles J r c) (most tiles) v (valueIn tiles J r c) t e n l w q rec′ s
+            (x ∙ (ap (λ y. set y (offset (planeOf tiles) r c) v) (unwired-over rec g) ∙ value-over tiles g lr lc))
+            ∙ by-tests tiles
+
+-- no mark and no state is above 2
+pub most-small : (k : Bool) → most k ≤ 2
+most-small false = omega arith
+most-small true = omega arith

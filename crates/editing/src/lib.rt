@@ -8,9 +8,55 @@ use channel::set_mark;
 use channel::set_state;
 use channel::state_of;
 use channel::unwire;
+ghost use mathlib.Core.Path.{_≡_};
 ghost use mathlib.Core.List.{[]};
+ghost use Prim.Native.Nat.{_≤_, _<_};
+ghost use lib.ListN.{length, set as Set};
+ghost use Rattle.model.specs.Record.{recordSize, offset, jobOf, Legal};
 ghost use Rattle.model.specs.Calls.{mark as Mark, close as Close, after, Did};
 ghost use Rattle.answers.specs.Answers.{asAnswer};
+ghost use Rattle.editing.specs.Edits.{isThere, most, valueIn, planeOf, editedBy};
+
+// The mark of a pin, or the state of a tile.
+fn set(rec: &mut [u8], tiles: bool, row: usize, column: usize, value: usize)
+    requires { ⌜ (recordSize ≤ length (now rec)) × (row < 40) × (column < 40) × (value < 256) ⌝ }
+    ensures { λ _. ⌜ now (rec .exit) ≡ Set (now (rec .entry)) (offset (planeOf tiles) row column) value ⌝ }
+{
+    if tiles {
+        set_state(rec, row, column, value);
+    } else {
+        set_mark(rec, row, column, value);
+    }
+}
+
+// The edit of a pin, or of a tile, in a legal record: whether it is there, the greatest value, and the one that stands there, are known.
+fn edit(
+    rec: &mut [u8],
+    tiles: bool,
+    row: usize,
+    column: usize,
+    value: usize,
+    there: bool,
+    greatest: usize,
+    old: usize,
+) -> Answer
+    requires { ⌜ Legal (now rec) × (there ≡ isThere tiles (jobOf (now rec)) row column) × (greatest ≡ most tiles)
+        × (old ≡ valueIn tiles (jobOf (now rec)) row column) ⌝ }
+    ensures { λ a. ⌜ after (asAnswer a) (now (rec .exit)) [] [] ≡ editedBy tiles row column value (now (rec .entry)) ⌝ }
+{
+    if !there {
+        return Answer::Refused(4);
+    }
+    if greatest < value {
+        return Answer::Refused(5);
+    }
+    if old == value {
+        return Answer::Done;
+    }
+    unwire(rec);
+    set(rec, tiles, row, column, value);
+    Answer::Done
+}
 
 // The mark of a pin.
 pub fn mark(rec: &mut [u8], row: usize, column: usize, mark: usize) -> Answer
@@ -19,18 +65,9 @@ pub fn mark(rec: &mut [u8], row: usize, column: usize, mark: usize) -> Answer
     if !sound(rec) {
         return Answer::Refused(1);
     }
-    if !pin_at(rec, row, column) {
-        return Answer::Refused(4);
-    }
-    if 2 < mark {
-        return Answer::Refused(5);
-    }
-    if mark_of(rec, row, column) == mark {
-        return Answer::Done;
-    }
-    unwire(rec);
-    set_mark(rec, row, column, mark);
-    Answer::Done
+    let there = pin_at(rec, row, column);
+    let old = mark_of(rec, row, column);
+    edit(rec, false, row, column, mark, there, 2, old)
 }
 
 // The state of a tile.
@@ -40,16 +77,7 @@ pub fn close(rec: &mut [u8], row: usize, column: usize, state: usize) -> Answer
     if !sound(rec) {
         return Answer::Refused(1);
     }
-    if !is_tile(rec, row, column) {
-        return Answer::Refused(4);
-    }
-    if 1 < state {
-        return Answer::Refused(5);
-    }
-    if state_of(rec, row, column) == state {
-        return Answer::Done;
-    }
-    unwire(rec);
-    set_state(rec, row, column, state);
-    Answer::Done
+    let there = is_tile(rec, row, column);
+    let old = state_of(rec, row, column);
+    edit(rec, true, row, column, state, there, 1, old)
 }

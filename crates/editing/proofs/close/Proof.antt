@@ -1,14 +1,8 @@
--- `close` meets its contract: refused by the first test that fails; else the record of the edited job, or the record as it was. Assumes nothing.
-use mathlib.Core.Path.{sym, ap, subst, _∙_}
-use Prim.Native.Nat.{_≤_}
-use denote.Ref.{now}
-use native.Mathlib.Omega.{arith}
+-- `close` meets its contract: 1 for a damaged record, else what the edit leaves. Assumes nothing.
+use mathlib.Core.Path.{refl}
 use borrow.Author.Needs.{needs}
 use borrow.Author.Tests.{not-true, not-false}
-use lib.ListN.{length, set}
-use Rattle.model.specs.Record.{recordSize, statePlane, offset}
 use Rattle.answers.specs.Outcomes.{on-damaged, on-legal}
-use Rattle.editing.specs.Edits.{unwired-long, close-nowhere, close-unknown, close-cell, close-same, close-anew}
 use Rattle.editing.proofs.close.Statement.{statement}
 use Rattle.editing.proofs.close.Tie as tie
 
@@ -24,79 +18,25 @@ returns c = on-damaged _ _ _ (c .before .sound .ensures .no (not-true _ (c .if1 
 is-tile-requires : tie.Need-is-tile-requires
 is-tile-requires c κs = c .before .before .sound .ensures .yes (not-false _ (c .before .if1 .left)) .long
 
+state-of-requires : tie.Need-state-of-requires
+state-of-requires c κs =
+    let c3 = c .before .before .before in
+    c3 .before .sound .ensures .yes (not-false _ (c3 .if1 .left)) .long
+
+edit-requires : tie.Need-edit-requires
+edit-requires c κs =
+    let c3 = c .before .before .before in
+    let c5 = c3 .before .before in
+    (c5 .before .sound .ensures .yes (not-false _ (c5 .if1 .left)), c3 .is-tile .ensures, refl, c .before .state-of .ensures)
+
 same-length-2 : tie.Need-same-length-2
 same-length-2 c = search needs
 
 returns-2 : tie.Need-returns-2
 returns-2 c =
-    let c3 = c .before .before .before in
-    let a = c3 .before .before .before .before .args in
-    on-legal (c3 .before .sound .ensures .yes (not-false _ (c3 .if1 .left)))
-    (close-nowhere (now (a .rec)) (a .row) (a .column) (a .state) _ (c .before .is-tile .ensures) (c .if2 .taken))
-
-same-length-3 : tie.Need-same-length-3
-same-length-3 c = search needs
-
-returns-3 : tie.Need-returns-3
-returns-3 c =
-    let c1 = c .before in
-    let c4 = c1 .before .before .before in
-    let a = c4 .before .before .before .before .args in
-    on-legal (c4 .before .sound .ensures .yes (not-false _ (c4 .if1 .left)))
-    (close-unknown (now (a .rec)) (a .row) (a .column) (a .state) _ (c1 .before .is-tile .ensures) (c1 .if2 .left) (c .if3 .taken))
-
-state-of-requires : tie.Need-state-of-requires
-state-of-requires c κs =
-    let c5 = c .before .before .before .before .before in
-    c5 .before .sound .ensures .yes (not-false _ (c5 .if1 .left)) .long
-
-same-length-4 : tie.Need-same-length-4
-same-length-4 c = search needs
-
-returns-4 : tie.Need-returns-4
-returns-4 c =
-    let c1 = c .before in
-    let c3 = c1 .before .before in
-    let c4 = c3 .before in
-    let c7 = c4 .before .before .before in
-    let a = c7 .before .before .before .before .args in
-    on-legal (c7 .before .sound .ensures .yes (not-false _ (c7 .if1 .left)))
-    (close-same (now (a .rec)) (a .row) (a .column) (a .state) _ (c4 .before .is-tile .ensures) (c4 .if2 .left) (c3 .if3 .left) _ (c1 .state-of .ensures)
-    (c .if4 .taken))
-
-unwire-requires : tie.Need-unwire-requires
-unwire-requires c κs =
-    let c8 = c .before .before .before .before .before .before .before .before in
-    c8 .before .sound .ensures .yes (not-false _ (c8 .if1 .left)) .long
-
-set-state-requires : tie.Need-set-state-requires
-set-state-requires c κs =
-    let c3 = c .before .before .before in
-    let c8 = c3 .before .before .before .before .before in
-    let c9 = c8 .before in
-    let c12 = c9 .before .before .before in
-    let a = c12 .before .before .before .before .args in
-    let g = c12 .before .sound .ensures .yes (not-false _ (c12 .if1 .left)) in
-    let (l, k) = close-cell (now (a .rec)) (a .row) (a .column) (a .state) _ (c9 .before .is-tile .ensures) (c9 .if2 .left) g in
-    (subst (λ x. recordSize ≤ length x) (sym (c3 .unwire .ensures)) (unwired-long (now (a .rec)) g), (l, k, omega (arith, c8 .if3 .left)))
-
-same-length-5 : tie.Need-same-length-5
-same-length-5 c = search needs
-
-returns-5 : tie.Need-returns-5
-returns-5 c =
     let c2 = c .before .before in
-    let c6 = c2 .before .before .before .before in
-    let c8 = c6 .before .before in
-    let c11 = c8 .before .before .before in
-    let c12 = c11 .before in
-    let c15 = c12 .before .before .before in
-    let a = c15 .before .before .before .before .args in
-    let g = c15 .before .sound .ensures .yes (not-false _ (c15 .if1 .left)) in
-    on-legal g
-    (close-anew (now (a .rec)) (a .row) (a .column) (a .state) _ (c12 .before .is-tile .ensures) (c12 .if2 .left) (c11 .if3 .left) _ (c8 .before .state-of .ensures)
-    g _ (c8 .if4 .left)
-    (c2 .set-state .ensures ∙ ap (λ x. set x (offset statePlane (a .row) (a .column)) (a .state)) (c6 .unwire .ensures)))
+    let c8 = c2 .before .before .before .before .before .before in
+    on-legal (c8 .before .sound .ensures .yes (not-false _ (c8 .if1 .left))) (c2 .edit .ensures)
 
 pub close-spec : {M : Type 1} → statement M
 close-spec =
@@ -106,14 +46,7 @@ close-spec =
     same-length
     returns
     is-tile-requires
-    same-length-2
-    returns-2
-    same-length-3
-    returns-3
     state-of-requires
-    same-length-4
-    returns-4
-    unwire-requires
-    set-state-requires
-    same-length-5
-    returns-5)
+    edit-requires
+    same-length-2
+    returns-2)
