@@ -1,0 +1,34 @@
+-- `calls` is safe and ends. The loop's counter is at most its end. Assumes nothing.
+use Prim.Native.Nat.{_≤_, _-_}
+use borrow.Author.Needs.{needs}
+use Rattle.host_check.proofs.calls.calls.Statement.{statement}
+use Rattle.host_check.proofs.calls.calls.Tie as tie
+
+abbrev Inv-loop : tie.InvT-loop
+Inv-loop tally₀ counts₀ rec₀ twin₀ seed₀ k₀ tally counts rec twin seed k = k ≤ 16000
+
+abbrev μ-loop : tie.MeasureT-loop
+μ-loop tally₀ counts₀ rec₀ twin₀ seed₀ k₀ tally counts rec twin seed k = 16000 - k
+
+loop-holds : tie.Need-loop-holds Inv-loop μ-loop
+loop-holds c = search needs
+
+draw-requires : tie.Need-draw-requires Inv-loop μ-loop
+draw-requires c κs = search needs
+
+add-k : tie.Need-add-k Inv-loop μ-loop
+add-k c = search needs
+
+loop-less : tie.Need-loop-less Inv-loop μ-loop
+loop-less c = search needs
+
+loop-again : tie.Need-loop-again Inv-loop μ-loop
+loop-again c = search needs
+
+returns : tie.Need-returns Inv-loop μ-loop
+returns c = search needs
+
+pub calls-spec : {M : Type 1} → statement M
+calls-spec =
+    tie.close
+    (tie.spec Inv-loop μ-loop loop-holds draw-requires add-k loop-less loop-again returns)
