@@ -26,8 +26,6 @@ pub use header::pin_at;
 pub use header::rows;
 pub use header::state_of;
 pub use header::tile_at;
-pub use limits::is_free;
-pub use limits::limit;
 pub use loads::carried;
 pub use loads::is_fresh;
 pub use loads::load_against;

@@ -15,12 +15,10 @@ use crate::header::diagonal;
 use crate::header::extra;
 use crate::header::is_chosen;
 use crate::header::mark_at;
-use crate::header::missing_at;
 use crate::header::open_at;
 use crate::header::open_in;
 use crate::header::orthogonal;
 use crate::header::rows;
-use crate::table::code_of;
 use crate::table::kind_of;
 use crate::table::owner_of;
 
@@ -155,48 +153,12 @@ pub fn centre_most(job: &[u8], x: usize) -> usize
     if most < corners { 0 } else { most - corners }
 }
 
-// The limit of the dart from a centre's entry to its exit.
-pub fn centre_limit(job: &[u8], d: usize) -> usize
-    requires { ⌜ (32768 ≤ length (now job)) × (d < 105024) × (codeOf (d % 64) ≡ 5) ⌝ }
-    ensures { λ r. ⌜ r ≡ cap (jobOf (now (job .entry))) d ⌝ }
-{
-    if open_at(job, d / 64) {
-        return centre_most(job, d / 64);
-    }
-    0
-}
-
-// The limit of a dart from a pin.
-pub fn pin_limit(job: &[u8], d: usize) -> usize
-    requires { ⌜ (32768 ≤ length (now job)) × (d < 105024) × (codeOf (d % 64) ≡ 7) ⌝ }
-    ensures { λ r. ⌜ r ≡ cap (jobOf (now (job .entry))) d ⌝ }
-{
-    if leg_mark(job, d) != 1 {
-        return 0;
-    }
-    if leg_way(job, d) {
-        return 1;
-    }
-    0
-}
-
 // How many wires pass a missing pin at most.
 pub fn missing_most(job: &[u8]) -> usize
     requires { ⌜ 32768 ≤ length (now job) ⌝ }
     ensures { λ r. ⌜ (r ≡ extraLimit (jobOf (now (job .entry)))) × (r < 256) ⌝ }
 {
     extra(job)
-}
-
-// The limit of the dart from a missing pin's entry to its exit.
-pub fn missing_limit(job: &[u8], d: usize) -> usize
-    requires { ⌜ (32768 ≤ length (now job)) × (d < 105024) × (codeOf (d % 64) ≡ 8) ⌝ }
-    ensures { λ r. ⌜ r ≡ cap (jobOf (now (job .entry))) d ⌝ }
-{
-    if missing_at(job, d / 64) {
-        return missing_most(job);
-    }
-    0
 }
 
 // The limit of a dart along or against a direct exit.
@@ -217,22 +179,6 @@ pub fn direct_limit(job: &[u8], d: usize) -> usize
     0
 }
 
-// The limit of a dart.
-pub fn limit(job: &[u8], d: usize) -> usize
-    requires { ⌜ (32768 ≤ length (now job)) × (d < 105024) ⌝ }
-    ensures { λ r. ⌜ r ≡ cap (jobOf (now (job .entry))) d ⌝ }
-{
-    match code_of(d % 64) {
-        1 => side_limit(job, d),
-        2 => corner_limit(job, d),
-        5 => centre_limit(job, d),
-        7 => pin_limit(job, d),
-        8 => missing_limit(job, d),
-        15 => direct_limit(job, d),
-        _ => 0,
-    }
-}
-
 // Whether a dart to or from a centre takes any number of wires.
 pub fn centre_free(job: &[u8], d: usize) -> bool
     requires { ⌜ (32768 ≤ length (now job)) × (d < 105024) × T (eqb (codeOf (d % 64)) 3 || eqb (codeOf (d % 64)) 4) ⌝ }
@@ -250,16 +196,4 @@ pub fn pin_free(job: &[u8], d: usize) -> bool
         return false;
     }
     leg_way(job, d)
-}
-
-// Whether a dart does.
-pub fn is_free(job: &[u8], d: usize) -> bool
-    requires { ⌜ (32768 ≤ length (now job)) × (d < 105024) ⌝ }
-    ensures { λ b. ⌜ b ≡ free (jobOf (now (job .entry))) d ⌝ }
-{
-    match code_of(d % 64) {
-        3 | 4 => centre_free(job, d),
-        6 | 7 => pin_free(job, d),
-        _ => false,
-    }
 }

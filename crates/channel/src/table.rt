@@ -46,26 +46,6 @@ pub const PLACES: [usize; 16] = [
     0x0000_0000_0000_0000,
 ];
 
-// How far ahead the way back lies, 16 bits for each of four rows.
-const TURNS: [usize; 16] = [
-    0x0061_0a5a_0a93_00ac,
-    0x0a80_0a80_0a87_0a89,
-    0x005c_0a55_0a8e_00a7,
-    0x0a80_0a80_0a77_0a79,
-    0x0a96_0a9e_0a8a_0090,
-    0x0a72_0a80_0aa3_0a6d,
-    0x0a76_0a97_0a8a_0ad0,
-    0x0aab_0a80_0a9c_0aa6,
-    0x0a76_0a90_0a8a_1470,
-    0x14a4_0a80_0a95_149f,
-    0x0a76_0a89_0a6a_0a30,
-    0x1459_0a80_0a8e_1454,
-    0x0a77_0a70_0a69_0a62,
-    0x0a80_0a80_0a80_0a89,
-    0x0a72_0a6b_0a64_0a5d,
-    0x0a80_0a80_0a77_0a80,
-];
-
 // The neighbours of a spot of kind k.
 fn row_word(k: usize) -> usize
     requires { ⌜ k < 8 ⌝ }
@@ -83,28 +63,28 @@ fn row_word(k: usize) -> usize
     }
 }
 
-// The ways back of the rows 4 k to 4 k + 3.
+// The ways back of the rows 4 k to 4 k + 3: how far ahead each lies, 16 bits for each.
 fn turn_word(k: usize) -> usize
     requires { ⌜ k < 16 ⌝ }
     ensures { λ r. ⌜ ((j : ℕ) → j < 4 → r / 2 ^ (j * 16) % 65536 ≡ turnOf (4 * k + j)) ⌝ }
 {
     match k {
-        0 => TURNS[0],
-        1 => TURNS[1],
-        2 => TURNS[2],
-        3 => TURNS[3],
-        4 => TURNS[4],
-        5 => TURNS[5],
-        6 => TURNS[6],
-        7 => TURNS[7],
-        8 => TURNS[8],
-        9 => TURNS[9],
-        10 => TURNS[10],
-        11 => TURNS[11],
-        12 => TURNS[12],
-        13 => TURNS[13],
-        14 => TURNS[14],
-        _ => TURNS[15],
+        0 => 0x0061_0a5a_0a93_00ac,
+        1 => 0x0a80_0a80_0a87_0a89,
+        2 => 0x005c_0a55_0a8e_00a7,
+        3 => 0x0a80_0a80_0a77_0a79,
+        4 => 0x0a96_0a9e_0a8a_0090,
+        5 => 0x0a72_0a80_0aa3_0a6d,
+        6 => 0x0a76_0a97_0a8a_0ad0,
+        7 => 0x0aab_0a80_0a9c_0aa6,
+        8 => 0x0a76_0a90_0a8a_1470,
+        9 => 0x14a4_0a80_0a95_149f,
+        10 => 0x0a76_0a89_0a6a_0a30,
+        11 => 0x1459_0a80_0a8e_1454,
+        12 => 0x0a77_0a70_0a69_0a62,
+        13 => 0x0a80_0a80_0a80_0a89,
+        14 => 0x0a72_0a6b_0a64_0a5d,
+        _ => 0x0a80_0a80_0a77_0a80,
     }
 }
 

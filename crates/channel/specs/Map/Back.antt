@@ -5,12 +5,13 @@ use mathlib.Core.Logic.{_⊎_, inl, inr}
 use mathlib.Core.Bool.{Bool, true, false, not}
 use Prim.Native.Nat.{ℕ, _+_, _-_, _/_, _%_, _≤_, _<_}
 use native.Mathlib.Omega.{arith}
-use lib.Dec.{T, eqb, leb, leb→le, ltb, ltb→lt, nltb→le}
+use lib.Dec.{T, eqb, ltb, ltb→lt, nltb→le}
 use lib.ListN.{getD}
 use Rattle.sums.specs.Tests.{and-left, and-right}
 use Rattle.model.specs.Links.{northSide, link, turn}
 use Rattle.model.specs.Record.{kinds}
 use Rattle.channel.specs.Map.{darts, inGrid, rowOf, columnOf, ahead, rev, ownerCell, stepOf, carries, isStored, isLinkDart, turnOf, kindOf, ownerOf, signOf, codeOf, backRow, backCell}
+use Rattle.channel.specs.Map.Grid.{grid-bounds}
 use Rattle.channel.specs.Map.Rows.{row-turn, row-kind, row-owner, owner-le, row-sign, row-stored, carries-stored}
 
 -- what `ltb a b` says
@@ -105,11 +106,6 @@ rev-rev d l = by (rev-ways d)
 
 -- ---- along the same link
 
--- a cell on the grid
-pub grid-at : (x : ℕ) → T (inGrid x) → (41 ≤ x) × (x < 1641)
-unfolding inGrid
-grid-at x t = (leb→le 41 x (and-left (leb 41 x) (ltb x 1641) t), ltb→lt x 1641 (and-right (leb 41 x) (ltb x 1641) t))
-
 -- a dart with a stored byte goes back along the same link
 pub record Turned (d : ℕ) : Type 0 where
   pub over : rev d + 2688 ≡ ahead d
@@ -125,7 +121,7 @@ ahead-range : (d : ℕ) → T (inGrid (ownerCell d)) → (2688 ≤ ahead d) × (
 unfolding ownerCell ahead backCell backRow
 ahead-range d g =
     let i = d % 64 in
-    let (a, b) = grid-at (d / 64 + ownerOf i) g in
+    let (a, b) = grid-bounds (d / 64 + ownerOf i) g in
     within d (turnOf i) (ownerOf i) (ownerOf (backRow i)) (row-owner i (row< d)) (owner-le (backRow i) (omega arith)) a b
   where
     within : (d t o p : ℕ) → o + 42 ≡ p + (d % 64 + t) / 64 → p ≤ 41 → 41 ≤ d / 64 + o → d / 64 + o < 1641 → (2688 ≤ d + t) × (d + t < 107712)

@@ -12,7 +12,8 @@ use Rattle.model.specs.Record.{kinds}
 use Rattle.channel.specs.Map.{darts, inGrid, rowOf, columnOf, ahead, rev, ownerCell, stepOf, carries, isLinkDart, turns, links, owners, signs, codes, turnOf, kindOf, ownerOf, signOf, codeOf, seatOf, dartOf}
 use Rattle.channel.specs.Map.Bools.{same-test}
 use Rattle.channel.specs.Map.Rows.{owner-le}
-use Rattle.channel.specs.Map.Back.{grid-at, owner-law, link-stored, stored-turned, rev<, rev-over}
+use Rattle.channel.specs.Map.Grid.{grid-bounds}
+use Rattle.channel.specs.Map.Back.{owner-law, link-stored, stored-turned, rev<, rev-over}
 
 -- ---- cells
 
@@ -33,7 +34,7 @@ module _ (x r c : ℕ) (e : x ≡ 41 + 40 * r + c) (b : c < 40) where
 -- and back
 pub grid-cell : (x : ℕ) → T (inGrid x) → x ≡ 41 + 40 * rowOf x + columnOf x
 unfolding rowOf columnOf
-grid-cell x g = omega (arith, grid-at x g)
+grid-cell x g = omega (arith, grid-bounds x g)
 
 -- a step of a link at a cell of the grid
 pub record OnGrid (s : Step) : Type 0 where
@@ -42,7 +43,7 @@ pub record OnGrid (s : Step) : Type 0 where
 
 pub step-grid : (d : ℕ) → T (inGrid (ownerCell d)) → OnGrid (stepOf d)
 unfolding stepOf rowOf columnOf
-step-grid d g = record { row< = omega (arith, grid-at (ownerCell d) g); column< = omega arith }
+step-grid d g = record { row< = omega (arith, grid-bounds (ownerCell d) g); column< = omega arith }
 
 -- ---- the dart at a row of the table
 

@@ -15,7 +15,8 @@ use Rattle.model.specs.Links.{LinkKind, northSide, westSide, corner, spoke, leg
 use Rattle.model.specs.Links.{Step, head, tail, isEntered, around}
 use Rattle.model.specs.Near.{spot, entryOf, exitOf, exit}
 use Rattle.channel.specs.Map.{darts, inGrid, rowOf, columnOf, ahead, rev, outside, turns, owners, turnOf, ownerOf, backRow, dartOf, seatOf, EndsAt}
-use Rattle.channel.specs.Map.Back.{grid-at, rev-over}
+use Rattle.channel.specs.Map.Grid.{grid-bounds}
+use Rattle.channel.specs.Map.Back.{rev-over}
 use Rattle.channel.specs.Map.Darts.{cell-row, cell-column}
 
 abbrev step : LinkKind → Bool → ℕ → ℕ → Step
@@ -198,12 +199,12 @@ module _ (J : Job) where
 
   -- no tile stands north of the first row, nor west of the first column
   north-rim : (z : ℕ) → z < 41 → T (inGrid z) → T (isTile J (rowOf z) (columnOf z)) → ⊥
-  north-rim z l g t = omega (arith, grid-at z g)
+  north-rim z l g t = omega (arith, grid-bounds z g)
 
   west-rim : J .columns ≤ 40 → (z r : ℕ) → z ≡ 40 + 40 * r → T (inGrid z) → T (isTile J (rowOf z) (columnOf z)) → ⊥
   unfolding columnOf
   west-rim k z r e g t =
-      let m : columnOf z ≡ 39 = omega (arith, grid-at z g) in
+      let m : columnOf z ≡ 39 = omega (arith, grid-bounds z g) in
       omega (arith, ltb→lt (suc (columnOf z)) (J .columns) (and-right (ltb (suc (rowOf z)) (J .rows)) (ltb (suc (columnOf z)) (J .columns)) t))
 
 pub arrives : (J : Job) → J .columns ≤ 40 → (k : LinkKind) (f : Bool) (r c : ℕ) → r < 40 → c < 40 → T (isEntered J (head J (step k f r c)))

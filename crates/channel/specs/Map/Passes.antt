@@ -9,7 +9,7 @@ use Rattle.sums.specs.Tests.{Same, same, other, same?, if-so, and-left, and-rig
 use Rattle.model.specs.Links.{missing, centre, at}
 use Rattle.model.specs.Near.{spot, entryOf, exitOf, entry, exit}
 use Rattle.channel.specs.Map.{darts, inGrid, rev, isPassage, isPassDart, passedOf, turns, codes, turnOf, codeOf, backRow}
-use Rattle.channel.specs.Map.Back.{grid-at}
+use Rattle.channel.specs.Map.Grid.{grid-bounds}
 use Rattle.channel.specs.Map.Darts.{cell-row, cell-column, cell-grid, grid-cell}
 use Rattle.channel.specs.Map.Ends.{rev-spot}
 
@@ -40,14 +40,14 @@ module _ (d : ℕ) (g : T (inGrid (d / 64))) where
   unfolding passedOf entryOf exitOf codeOf codes backRow turnOf turns
   ends-missing e =
       let x = grid-cell (d / 64) g in
-      let u : rev d / 8 ≡ 8 * (d / 64) + 1 = rev-spot d 4 (d / 64) (omega (arith, grid-at (d / 64) g)) in
+      let u : rev d / 8 ≡ 8 * (d / 64) + 1 = rev-spot d 4 (d / 64) (omega (arith, grid-bounds (d / 64) g)) in
       rw e (omega arith, omega arith)
 
   ends-centre : d % 64 ≡ 52 → (entry (passedOf d) ≡ d / 8) × (exit (passedOf d) ≡ rev d / 8)
   unfolding passedOf entryOf exitOf codeOf codes backRow turnOf turns
   ends-centre e =
       let x = grid-cell (d / 64) g in
-      let u : rev d / 8 ≡ 8 * (d / 64) + 7 = rev-spot d 52 (d / 64) (omega (arith, grid-at (d / 64) g)) in
+      let u : rev d / 8 ≡ 8 * (d / 64) + 7 = rev-spot d 52 (d / 64) (omega (arith, grid-bounds (d / 64) g)) in
       rw e (omega arith, omega arith)
 
 -- the two rows from an entry to its exit

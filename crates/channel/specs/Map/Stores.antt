@@ -16,7 +16,8 @@ use Rattle.model.specs.Record.{recordSize, offset, loadPlane, kinds, cell, jobO
 use Rattle.model.proofs.RecordOf.{inCells, cells-row, cells-column, cells-have}
 use Rattle.model.proofs.JobBytes.{job-same}
 use Rattle.channel.specs.Map.{darts, inGrid, ownerCell, stepOf, isStored, bump, address, laid, links, kindOf, signOf, codeOf}
-use Rattle.channel.specs.Map.Back.{Less, less, most, less?, grid-at}
+use Rattle.channel.specs.Map.Grid.{grid-bounds}
+use Rattle.channel.specs.Map.Back.{Less, less, most, less?}
 use Rattle.channel.specs.Map.Darts.{grid-cell, kind-code, OnGrid, step-grid}
 
 -- ---- one byte
@@ -146,7 +147,7 @@ module _ (d : ℕ) (g : T (inGrid (ownerCell d))) where
 
   pub address-range : (offset 2 0 0 ≤ address d) × (address d < offset 17 0 0)
   unfolding address
-  address-range = (omega (arith, grid-at (ownerCell d) g), omega (arith, grid-at (ownerCell d) g, row-kind< (d % 64) (omega arith)))
+  address-range = (omega (arith, grid-bounds (ownerCell d) g), omega (arith, grid-bounds (ownerCell d) g, row-kind< (d % 64) (omega arith)))
 
 -- ---- one move
 

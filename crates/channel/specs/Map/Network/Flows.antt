@@ -20,7 +20,8 @@ use Rattle.model.specs.Route.{chosenCount}
 use Rattle.model.specs.Wires.{isWired, wireCount}
 use Rattle.channel.specs.Map.{owners, ownerOf, codeOf}
 use Rattle.channel.specs.Map.{spots, darts, inGrid, rowOf, columnOf, stepOf, isLinkDart, isPassDart, passedOf, cap, free, want, outside, view, isStart, starts}
-use Rattle.channel.specs.Map.Back.{Less, less, most, less?, grid-at}
+use Rattle.channel.specs.Map.Grid.{grid-bounds}
+use Rattle.channel.specs.Map.Back.{Less, less, most, less?}
 use Rattle.channel.specs.Map.Darts.{cell-row, cell-column, grid-cell}
 use Rattle.channel.specs.Map.Spots.{held-grid, places-cong, missing-or-chosen}
 use Rattle.channel.specs.Map.Sums.{start-at, sum-starts}
@@ -47,7 +48,7 @@ when-under false m x y h = omega arith
 
 grid-row : (x : ℕ) → T (inGrid x) → (rowOf x < 40) × (columnOf x < 40)
 unfolding rowOf columnOf
-grid-row x g = (omega (arith, grid-at x g), omega arith)
+grid-row x g = (omega (arith, grid-bounds x g), omega arith)
 
 module _ (J : Job) (fits : T (arrayFits (J .rows) (J .columns))) where
   tile-in : (r c : ℕ) → T (isTile J r c) → (suc r < 40) × (suc c < 40)
