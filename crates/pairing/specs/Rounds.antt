@@ -134,7 +134,7 @@ module _ (w : ℕ → Bool) where
       go (some s) e h ih = rw (rounds-some f l s e, left-some f l s e) (omega (arith, h .size, ih (s .rest)))
 
   -- a list with no such neighbours is of one kind
-  keep-none : (x : ℕ) (o : Option Struck) → keep x o ≡ none → o ≡ none
+  pub keep-none : (x : ℕ) (o : Option Struck) → keep x o ≡ none → o ≡ none
   keep-none x none e = refl
   keep-none x (some s) e = cc
 

@@ -1,21 +1,29 @@
--- The sequence round a place as the code has it: for each position an end, in three rows: the slot, the lane, and 1 where it arrives; and what the search
--- for the first neighbouring arrival and departure says. Assumes nothing.
+-- The sequence round a place as the code has it: for each position an end, which is the slot, the lane and the kind as one number. Assumes nothing.
 use mathlib.Core.Path.{_≡_, refl, sym, ap, subst, fun-ext, _∙_}
-use mathlib.Core.Bool.{Bool, true, false}
-use mathlib.Core.List.{List, [], _∷_, _++_}
-use mathlib.Core.Option.{none, some}
-use Prim.Native.Nat.{ℕ, zero, suc, _+_, _-_, _≤_, _<_}
+use mathlib.Core.Bool.{Bool, true, false, Bool·beq}
+use mathlib.Core.List.{List, [], _∷_}
+use Prim.Native.Nat.{ℕ, zero, suc, _+_, _*_, _-_, _/_, _%_, _≤_, _<_}
 use native.Mathlib.Omega.{arith}
 use lib.Dec.{eqb, ltb}
-use lib.ListN.{length, take, drop, getD, set, replicate}
+use lib.ListN.{length, getD, set, replicate}
 use lib.Seq.{getD-set-same, getD-set-other}
 use borrow.Author.Tests.{ltb-true, ltb-false, eqb-true, eqb-false}
-use Rattle.model.specs.Pairing.{Pair, strike}
+use Rattle.model.specs.Pairing.{Pair}
 use Rattle.pairing.specs.Slots.{start, arrivalPos, departurePos, arrivesAt, arrival-kind, departure-kind, past-kind}
+
+-- the end of the lane i of slot k, which arrives where b is 1 and departs where it is 0
+abbrev pub endOf : ℕ → ℕ → ℕ → ℕ
+endOf k i b = 512 * k + 2 * i + b
+
+abbrev pub slotOf : ℕ → ℕ
+slotOf e = e / 512
+
+abbrev pub laneOf : ℕ → ℕ
+laneOf e = e % 512 / 2
 
 -- whether a lane arrives at the position p
 abbrev pub arriving : List ℕ → ℕ → Bool
-arriving l p = eqb (getD l p 0) 1
+arriving l p = eqb (getD l p 0 % 2) 1
 
 -- two lists of positions as pairs
 abbrev pub zipped : List ℕ → List ℕ → List Pair
@@ -23,24 +31,22 @@ zipped [] s = []
 zipped (x ∷ f) [] = []
 zipped (x ∷ f) (y ∷ s) = record { fst = x; snd = y } ∷ zipped f s
 
--- what stands at the position p: the lane i of slot k, arriving where b is 1; slot 5 past the end
-pub data EndAt (a d : ℕ → ℕ) (p b k i : ℕ) : Type 0 where
-  arrives : b ≡ 1 → k < 5 → i < a k → p ≡ arrivalPos a d k i → EndAt a d p b k i
-  departs : b ≡ 0 → k < 5 → i < d k → p ≡ departurePos a d k i → EndAt a d p b k i
-  past : b ≡ 0 → start a d 5 ≤ p → EndAt a d p b k i
+-- e is the end at the position p
+pub data EndAt (a d : ℕ → ℕ) (p e : ℕ) : Type 0 where
+  arrives : (k i : ℕ) → k < 5 → i < a k → i < 256 → p ≡ arrivalPos a d k i → e ≡ endOf k i 1 → EndAt a d p e
+  departs : (k i : ℕ) → k < 5 → i < d k → i < 256 → p ≡ departurePos a d k i → e ≡ endOf k i 0 → EndAt a d p e
 
 abbrev pub Blank : List ℕ → Type 0
 Blank l = (p : ℕ) → getD l p 0 ≡ 0
 
--- the ends of the first n positions are laid, with the slots s, the lanes l and the kinds r
-abbrev pub Laid : (ℕ → ℕ) → (ℕ → ℕ) → ℕ → List ℕ → List ℕ → List ℕ → Type 0
-Laid a d n s l r = ((p : ℕ) → p < n → EndAt a d p (getD r p 0) (getD s p 0) (getD l p 0)) × ((p : ℕ) → n ≤ p → getD r p 0 ≡ 0)
+-- the ends of the first n positions are laid, and no other
+abbrev pub Laid : (ℕ → ℕ) → (ℕ → ℕ) → ℕ → List ℕ → Type 0
+Laid a d n l = ((p : ℕ) → p < n → EndAt a d p (getD l p 0)) × ((p : ℕ) → n ≤ p → getD l p 0 ≡ 0)
 
--- the first neighbouring arrival and departure are the i-th and the next of a list; i is the last where there are none
-pub record First (w : ℕ → Bool) (l : List ℕ) (i : ℕ) : Type 0 where
-  pub joined : suc i < length l
-      → strike w l ≡ some (record { pair = record { fst = getD l i 0; snd = getD l (suc i) 0 }; rest = take i l ++ drop (2 + i) l })
-  pub none : length l ≤ suc i → strike w l ≡ none
+-- r says whether the last of the first i entries of l and p differ in kind; it is false where there is none
+pub record Differs (w : ℕ → Bool) (l : List ℕ) (i p : ℕ) (r : Bool) : Type 0 where
+  pub yes : r ≡ true → (0 < i) × (Bool·beq (w (getD l (i - 1) 0)) (w p) ≡ false)
+  pub no : r ≡ false → 0 < i → Bool·beq (w (getD l (i - 1) 0)) (w p) ≡ true
 
 -- ---- the sequence
 
@@ -49,47 +55,35 @@ blank zero p = refl
 blank (suc n) zero = refl
 blank (suc n) (suc p) = blank n p
 
-end-kind : (a d : ℕ → ℕ) (p b k i : ℕ) → EndAt a d p b k i → eqb b 1 ≡ arrivesAt a d 5 p
-end-kind a d p b k i (arrives e h l q) =
-    ap (λ (x : ℕ). eqb x 1) e ∙ sym (ap (arrivesAt a d 5) q ∙ arrival-kind a d k 5 (a k - 1 - i) h (omega arith))
-end-kind a d p b k i (departs e h l q) =
-    ap (λ (x : ℕ). eqb x 1) e ∙ sym (ap (arrivesAt a d 5) q ∙ departure-kind a d k 5 i h l)
-end-kind a d p b k i (past e h) = ap (λ (x : ℕ). eqb x 1) e ∙ sym (past-kind a d 5 p h)
-
-end-as : (a d : ℕ → ℕ) (p q b c k j i t : ℕ) → p ≡ q → b ≡ c → k ≡ j → i ≡ t → EndAt a d p b k i → EndAt a d q c j t
-end-as a d p q b c k j i t e f g h x =
-    subst (λ (y : ℕ). EndAt a d y c j t) e
-    (subst (λ (y : ℕ). EndAt a d p y j t) f (subst (λ (y : ℕ). EndAt a d p b y t) g (subst (λ (y : ℕ). EndAt a d p b k y) h x)))
+end-kind : (a d : ℕ → ℕ) (p e : ℕ) → EndAt a d p e → eqb (e % 2) 1 ≡ arrivesAt a d 5 p
+end-kind a d p e (arrives k i h l s q g) =
+    let z : e % 2 ≡ 1 = omega arith in
+    ap (λ (x : ℕ). eqb x 1) z ∙ sym (ap (arrivesAt a d 5) q ∙ arrival-kind a d k 5 (a k - 1 - i) h (omega arith))
+end-kind a d p e (departs k i h l s q g) =
+    let z : e % 2 ≡ 0 = omega arith in
+    ap (λ (x : ℕ). eqb x 1) z ∙ sym (ap (arrivesAt a d 5) q ∙ departure-kind a d k 5 i h l)
 
 -- one end more
-pub lay-more : (a d : ℕ → ℕ) (n b k i : ℕ) (s l r : List ℕ) → n < length s → n < length l → n < length r → Laid a d n s l r → EndAt a d n b k i
-    → Laid a d (n + 1) (set s n k) (set l n i) (set r n b)
-lay-more a d n b k i s l r hs hl hr g e = (below, above)
+pub lay-more : (a d : ℕ → ℕ) (n m e : ℕ) (l : List ℕ) → m ≡ n + 1 → n < length l → Laid a d n l → EndAt a d n e → Laid a d m (set l n e)
+lay-more a d n m e l z h g x = (below, λ p t. getD-set-other l n p e 0 (λ q. omega arith) ∙ g .1 p (omega arith))
   where
-    below : (p : ℕ) → p < n + 1 → EndAt a d p (getD (set r n b) p 0) (getD (set s n k) p 0) (getD (set l n i) p 0)
+    below : (p : ℕ) → p < m → EndAt a d p (getD (set l n e) p 0)
     below p t = by (eqb p n) refl
       where
-        put : (m : List ℕ) (x : ℕ) → n < length m → p ≡ n → x ≡ getD (set m n x) p 0
-        put m x h z = sym (ap (λ (y : ℕ). getD (set m n x) y 0) z ∙ getD-set-same m n x 0 h)
-
-        by : (x : Bool) → eqb p n ≡ x → EndAt a d p (getD (set r n b) p 0) (getD (set s n k) p 0) (getD (set l n i) p 0)
+        by : (b : Bool) → eqb p n ≡ b → EndAt a d p (getD (set l n e) p 0)
         by true q =
-            let z = eqb-true p n q in
-            end-as a d n p b _ k _ i _ (sym z) (put r b hr z) (put s k hs z) (put l i hl z) e
+            let s = sym (eqb-true p n q) in
+            subst (λ (y : ℕ). EndAt a d y (getD (set l n e) y 0)) s (subst (EndAt a d n) (sym (getD-set-same l n e 0 h)) x)
         by false q =
-            let z = eqb-false p n q in
-            end-as a d p p (getD r p 0) _ (getD s p 0) _ (getD l p 0) _ refl (sym (getD-set-other r n p b 0 z)) (sym (getD-set-other s n p k 0 z))
-            (sym (getD-set-other l n p i 0 z)) (g .0 p (omega arith))
+            let s = eqb-false p n q in
+            subst (EndAt a d p) (sym (getD-set-other l n p e 0 s)) (g .0 p (omega arith))
 
-    above : (p : ℕ) → n + 1 ≤ p → getD (set r n b) p 0 ≡ 0
-    above p t = getD-set-other r n p b 0 (λ q. omega arith) ∙ g .1 p (omega arith)
-
--- the row of kinds has the kinds of all positions
-pub laid-kinds : (a d : ℕ → ℕ) (n : ℕ) (s l r : List ℕ) → n ≡ start a d 5 → Laid a d n s l r → arriving r ≡ arrivesAt a d 5
-laid-kinds a d n s l r e g = fun-ext (λ p. by p (ltb p n) refl)
+-- the ends laid have the kinds of all positions
+pub laid-kinds : (a d : ℕ → ℕ) (n : ℕ) (l : List ℕ) → n ≡ start a d 5 → Laid a d n l → arriving l ≡ arrivesAt a d 5
+laid-kinds a d n l e g = fun-ext (λ p. by p (ltb p n) refl)
   where
-    by : (p : ℕ) (b : Bool) → ltb p n ≡ b → arriving r p ≡ arrivesAt a d 5 p
-    by p true q = end-kind a d p (getD r p 0) (getD s p 0) (getD l p 0) (g .0 p (ltb-true p n q))
+    by : (p : ℕ) (b : Bool) → ltb p n ≡ b → arriving l p ≡ arrivesAt a d 5 p
+    by p true q = end-kind a d p (getD l p 0) (g .0 p (ltb-true p n q))
     by p false q =
         let h = ltb-false p n q in
-        ap (λ (x : ℕ). eqb x 1) (g .1 p h) ∙ sym (past-kind a d 5 p (omega arith))
+        ap (λ (x : ℕ). eqb (x % 2) 1) (g .1 p h) ∙ sym (past-kind a d 5 p (omega arith))

@@ -1,48 +1,59 @@
--- The rounds of document 01 on the code's arrays: the search for the first neighbouring arrival and departure, what is left of the positions in unchanged
--- order, and the pairs in two rows. Assumes nothing.
-use mathlib.Core.Path.{_≡_, refl, sym, ap, ap₂, _∙_}
+-- The rounds of document 01 on the code's arrays: what is left of the positions, those passed and those to come, and the pairs in two rows. Among the
+-- positions passed no arrival and departure are neighbours, so that the first two that are stand at the seam. Assumes nothing.
+use mathlib.Core.Path.{_≡_, refl, sym, ap, ap₂, subst, _∙_}
 use mathlib.Core.Bool.{Bool, true, false, not, Bool·beq}
 use mathlib.Core.List.{List, [], _∷_, _++_, append-assoc}
 use mathlib.Core.Option.{Option, none, some}
 use Prim.Native.Nat.{ℕ, zero, suc, _+_, _*_, _-_, _≤_, _<_}
 use native.Mathlib.Omega.{arith}
 use native.Mathlib.Numerals.{add-one}
-use lib.Dec.{ltb}
-use lib.ListN.{length, take, drop, getD, set, length-append, length-drop, length-set, List·getD-append}
-use lib.Seq.{take-suc, drop-cons, ext-getD, length-take-le, getD-take, getD-drop, getD-append-add, getD-set-same, getD-set-other, take-suc-set, slice, slice-cons}
-use borrow.Author.Tests.{ltb-true, ltb-false, eq-eqb, ne-eqb}
+use lib.Dec.{eqb}
+use lib.ListN.{length, take, getD, set}
+use lib.Seq.{take-suc, length-take-le, getD-set-same, getD-set-other, take-suc-set, slice, slice-cons}
+use borrow.Author.Tests.{eqb-true, eqb-false, eq-eqb, ne-eqb}
 use Rattle.sums.specs.Counting.{sum}
 use Rattle.model.specs.Pairing.{Pair, Struck, keep, strike, rounds, range, pairsOf, partnerIn}
-use Rattle.pairing.specs.Rounds.{strike-same, strike-differ, rounds-none, rounds-some}
+use Rattle.pairing.specs.Rounds.{strike-same, strike-differ, keep-none, rounds-none, rounds-some}
 use Rattle.pairing.specs.Levels.{partner-fst, partner-snd, partner-next}
 use Rattle.pairing.specs.Perfect.{Even, Perfect, pairs-all, pairs-perfect}
 use Rattle.pairing.specs.Slots.{start, arrivalPos, departurePos, arrivesAt, start-later, arrival-kind, slots-even}
 use Rattle.pairing.specs.Answer.{partnerOf, Partner}
-use Rattle.pairing.specs.Sequence.{arriving, zipped, First, EndAt, arrives, departs, past, Laid, laid-kinds}
+use Rattle.pairing.specs.Sequence.{slotOf, laneOf, arriving, zipped, EndAt, arrives, departs, Laid, laid-kinds}
 use Rattle.pairing.specs.declared.Join.{Join}
 use Rattle.pairing.specs.declared.Join.the-variants.{Pair as Joined, Nothing}
 
+-- what is left of n positions: the first i entries of a list, and all positions from p on
+abbrev pub remaining : ℕ → List ℕ → ℕ → ℕ → List ℕ
+remaining n l i p = take i l ++ range p (n - p)
+
 -- a round's answer with what it leaves
-abbrev pub asStruck : Join → List ℕ → Option Struck
-asStruck (Joined a b) l = some (record { pair = record { fst = a; snd = b }; rest = l })
-asStruck Nothing l = none
+abbrev pub asStruck : ℕ → Join → List ℕ → Option Struck
+asStruck n (Joined a b k) l = some (record { pair = record { fst = a; snd = b }; rest = remaining n l k (b + 1) })
+asStruck n Nothing l = none
 
-pub joined-as : (j : Join) (x y : ℕ) (r : List ℕ) {o : Option Struck} → j ≡ Joined x y → asStruck j r ≡ o
-    → some (record { pair = record { fst = x; snd = y }; rest = r }) ≡ o
-joined-as j x y r e g = ap (λ (z : Join). asStruck z r) (sym e) ∙ g
+abbrev pub Below : ℕ → List ℕ → ℕ → Type 0
+Below n l i = (j : ℕ) → j < i → getD l j 0 < n
 
-pub nothing-as : (j : Join) (r : List ℕ) {o : Option Struck} → j ≡ Nothing → asStruck j r ≡ o → none ≡ o
-nothing-as j r e g = ap (λ (z : Join). asStruck z r) (sym e) ∙ g
+-- what a round leaves is two positions fewer, and the next round can begin after the pair
+abbrev pub Resumes : (ℕ → Bool) → ℕ → ℕ → ℕ → Join → List ℕ → Type 0
+Resumes w i p n (Joined a b k) l = (p ≤ b) × (b < n) × (k + p + 1 ≡ i + b) × Below n l k × (strike w (take k l) ≡ none)
+Resumes w i p n Nothing l = Unit {0}
 
--- ---- the first pair lies past positions of one kind
+pub joined-as : (n : ℕ) (j : Join) (x y k : ℕ) (l : List ℕ) {o : Option Struck} → j ≡ Joined x y k → asStruck n j l ≡ o
+    → some (record { pair = record { fst = x; snd = y }; rest = remaining n l k (y + 1) }) ≡ o
+joined-as n j x y k l e g = ap (λ (z : Join). asStruck n z l) (sym e) ∙ g
 
-abbrev pub kept : List ℕ → Option Struck → Option Struck
+pub resumes-as : (w : ℕ → Bool) (i p n : ℕ) (j : Join) (x y k : ℕ) (l : List ℕ) → j ≡ Joined x y k → Resumes w i p n j l → Resumes w i p n (Joined x y k) l
+resumes-as w i p n j x y k l e = subst (λ (z : Join). Resumes w i p n z l) e
+
+pub nothing-as : (n : ℕ) (j : Join) (l : List ℕ) {o : Option Struck} → j ≡ Nothing → asStruck n j l ≡ o → none ≡ o
+nothing-as n j l e g = ap (λ (z : Join). asStruck n z l) (sym e) ∙ g
+
+-- ---- lists in which no arrival and departure are neighbours
+
+abbrev kept : List ℕ → Option Struck → Option Struck
 kept [] o = o
 kept (x ∷ l) o = keep x (kept l o)
-
-kept-last : (l : List ℕ) (x : ℕ) (o : Option Struck) → kept (l ++ (x ∷ [])) o ≡ kept l (keep x o)
-kept-last [] x o = refl
-kept-last (y ∷ l) x o = ap (keep y) (kept-last l x o)
 
 kept-none : (l : List ℕ) → kept l none ≡ none
 kept-none [] = refl
@@ -53,154 +64,98 @@ kept-some [] s = refl
 kept-some (x ∷ l) s = ap (keep x) (kept-some l s)
 
 module _ (w : ℕ → Bool) where
-  pub strike-short : (l : List ℕ) → length l ≤ 1 → strike w l ≡ none
-  strike-short [] h = refl
-  strike-short (x ∷ []) h = refl
-  strike-short (x ∷ y ∷ l) h = absurd (omega arith)
+  alike : (x y : ℕ) (l : List ℕ) → strike w (x ∷ y ∷ l) ≡ none → (Bool·beq (w x) (w y) ≡ true) × (strike w (y ∷ l) ≡ none)
+  alike x y l e = by (Bool·beq (w x) (w y)) refl
+    where
+      by : (b : Bool) → Bool·beq (w x) (w y) ≡ b → (Bool·beq (w x) (w y) ≡ true) × (strike w (y ∷ l) ≡ none)
+      by true q = (q, keep-none w x (strike w (y ∷ l)) (sym (strike-same w x y l q) ∙ e))
+      by false q = let z = sym (strike-differ w x y l q) ∙ e in let u : _≡_ {A = ℕ} 0 1 = cc in absurd (omega arith)
 
-  module _ (l : List ℕ) (i : ℕ) where
-    abbrev pub Passed : Type 0
-    Passed = strike w l ≡ kept (take i l) (strike w (drop i l))
+  -- a round keeps all of it but its last
+  kept-on : (m : List ℕ) (y : ℕ) (r : List ℕ) → strike w (m ++ (y ∷ [])) ≡ none → strike w (m ++ (y ∷ r)) ≡ kept m (strike w (y ∷ r))
+  kept-on [] y r e = refl
+  kept-on (x ∷ []) y r e = strike-same w x y r (alike x y [] e .0)
+  kept-on (x ∷ z ∷ m) y r e =
+      let (q, f) = alike x z (m ++ (y ∷ [])) e in
+      strike-same w x z (m ++ (y ∷ r)) q ∙ ap (keep x) (kept-on (z ∷ m) y r f)
 
-    second : suc i < length l → drop (suc i) l ≡ getD l (suc i) 0 ∷ drop (2 + i) l
-    second h =
-        let e : suc (suc i) ≡ 2 + i = omega arith in
-        drop-cons l (suc i) 0 h ∙ ap (λ (k : ℕ). getD l (suc i) 0 ∷ drop k l) e
+  -- so it is without its last
+  none-before : (m : List ℕ) (y : ℕ) → strike w (m ++ (y ∷ [])) ≡ none → strike w m ≡ none
+  none-before [] y e = refl
+  none-before (x ∷ []) y e = refl
+  none-before (x ∷ z ∷ m) y e =
+      let (q, f) = alike x z (m ++ (y ∷ [])) e in
+      strike-same w x z m q ∙ ap (keep x) (none-before (z ∷ m) y f)
 
-    two : suc i < length l → drop i l ≡ getD l i 0 ∷ getD l (suc i) 0 ∷ drop (2 + i) l
-    two h = drop-cons l i 0 (omega arith) ∙ ap (λ (r : List ℕ). getD l i 0 ∷ r) (second h)
+-- ---- a round
 
-    pub first-here : suc i < length l → Bool·beq (w (getD l i 0)) (w (getD l (suc i) 0)) ≡ false → Passed → First w l i
-    first-here h d e =
-        record {
-          joined = λ g.
-              e
-              ∙ (ap (λ (r : List ℕ). kept (take i l) (strike w r)) (two h)
-              ∙ (ap (kept (take i l)) (strike-differ w (getD l i 0) (getD l (suc i) 0) (drop (2 + i) l) d) ∙ kept-some (take i l) _));
-          none = λ g. absurd (omega arith);
-        }
+range-next : (n p : ℕ) → p < n → range p (n - p) ≡ p ∷ range (p + 1) (n - (p + 1))
+range-next n p h =
+    let e : n - p ≡ suc (n - (p + 1)) = omega arith in
+    ap (range p) e ∙ ap (λ (q : ℕ). p ∷ range q (n - (p + 1))) (sym (add-one p))
 
-    pub first-none : length l ≤ suc i → Passed → First w l i
-    first-none h e =
-        record {
-          joined = λ g. absurd (omega arith);
-          none = λ g. e ∙ (ap (kept (take i l)) (strike-short (drop i l) (omega (arith, length-drop i l))) ∙ kept-none (take i l));
-        }
+range-over : (n p : ℕ) → n ≤ p → range p (n - p) ≡ []
+range-over n p h = let e : n - p ≡ 0 = omega arith in ap (range p) e
 
-  pub passed-more : (l : List ℕ) (i : ℕ) → suc i < length l → Bool·beq (w (getD l i 0)) (w (getD l (suc i) 0)) ≡ true → Passed l i → Passed l (i + 1)
-  passed-more l i h d e =
-      e
-      ∙ (ap (λ (r : List ℕ). kept (take i l) (strike w r)) (two l i h)
-      ∙ (ap (kept (take i l)) (strike-same w (getD l i 0) (getD l (suc i) 0) (drop (2 + i) l) d)
-      ∙ (sym (kept-last (take i l) (getD l i 0) _)
-      ∙ (ap₂ (λ (f r : List ℕ). kept f (strike w r)) (sym (take-suc l i 0 (omega arith))) (sym (second l i h))
-      ∙ ap (λ (k : ℕ). kept (take k l) (strike w (drop k l))) (sym (add-one i))))))
+append-nil : (l : List ℕ) → l ++ [] ≡ l
+append-nil [] = refl
+append-nil (x ∷ l) = ap (λ (r : List ℕ). x ∷ r) (append-nil l)
 
--- as the code reads the first n entries
-module _ (w : ℕ → Bool) (l : List ℕ) (n i : ℕ) (fits : n ≤ length l) where
-  whole : length (take n l) ≡ n
-  whole = length-take-le n l fits
-
-  module _ (more : i + 1 < n) (x y : Bool) (ex : x ≡ w (getD l i 0)) (ey : y ≡ w (getD l (i + 1) 0)) where
-    kinds-here : Bool·beq (w (getD (take n l) i 0)) (w (getD (take n l) (suc i) 0)) ≡ Bool·beq x y
-    kinds-here =
-        ap₂ Bool·beq
-        (ap w (getD-take n l i 0 (omega arith)) ∙ sym ex)
-        (ap w (getD-take n l (suc i) 0 (omega arith) ∙ ap (λ (k : ℕ). getD l k 0) (sym (add-one i))) ∙ sym ey)
-
-    pub first-found : Bool·beq x y ≡ false → Passed w (take n l) i → First w (take n l) i
-    first-found d e = first-here w (take n l) i (omega (arith, whole)) (kinds-here ∙ d) e
-
-    pub passed-next : Bool·beq x y ≡ true → Passed w (take n l) i → Passed w (take n l) (i + 1)
-    passed-next d e = passed-more w (take n l) i (omega (arith, whole)) (kinds-here ∙ d) e
-
-  pub round-joined : (m : List ℕ) → i + 1 < n → First w (take n l) i → take (n - 2) m ≡ take i (take n l) ++ drop (2 + i) (take n l)
-      → some (record { pair = record { fst = getD l i 0; snd = getD l (i + 1) 0 }; rest = take (n - 2) m }) ≡ strike w (take n l)
-  round-joined m more f e =
-      sym (f .joined (omega (arith, whole))
-      ∙ (ap₂ (λ (a b : ℕ). some (record { pair = record { fst = a; snd = b }; rest = take i (take n l) ++ drop (2 + i) (take n l) }))
-      (getD-take n l i 0 (omega arith))
-      (getD-take n l (suc i) 0 (omega arith) ∙ ap (λ (k : ℕ). getD l k 0) (sym (add-one i)))
-      ∙ ap (λ (r : List ℕ). some (record { pair = record { fst = getD l i 0; snd = getD l (i + 1) 0 }; rest = r })) (sym e)))
-
-  pub round-none : n ≤ i + 1 → First w (take n l) i → none ≡ strike w (take n l)
-  round-none h f = sym (f .none (omega (arith, whole)))
-
-  pub first-over : n ≤ i + 1 → Passed w (take n l) i → First w (take n l) i
-  first-over h e = first-none w (take n l) i (omega (arith, whole)) e
-
--- ---- the rest in unchanged order
-
-pub rest-moved : (l m : List ℕ) (i n : ℕ) → i + 2 ≤ n → n ≤ length l → length m ≡ length l
-    → ((t : ℕ) → t < i → getD m t 0 ≡ getD l t 0) → ((t : ℕ) → i ≤ t → t < n - 2 → getD m t 0 ≡ getD l (t + 2) 0)
-    → take (n - 2) m ≡ take i (take n l) ++ drop (2 + i) (take n l)
-rest-moved l m i n h g e f r = ext-getD 0 _ _ sizes each
+pub below-more : (n : ℕ) (l : List ℕ) (i p : ℕ) → i < length l → p < n → Below n l i → Below n (set l i p) (i + 1)
+below-more n l i p h g b j t = by (eqb j i) refl
   where
-    whole : length (take n l) ≡ n
-    whole = length-take-le n l g
+    by : (c : Bool) → eqb j i ≡ c → getD (set l i p) j 0 < n
+    by true q = omega (arith, ap (λ (k : ℕ). getD (set l i p) k 0) (eqb-true j i q), getD-set-same l i p 0 h)
+    by false q = let s = eqb-false j i q in omega (arith, getD-set-other l i j p 0 s, b j (omega arith))
 
-    front : length (take i (take n l)) ≡ i
-    front = length-take-le i (take n l) (omega (arith, whole))
+module _ (w : ℕ → Bool) (n : ℕ) (l : List ℕ) (i p : ℕ) (plain : strike w (take i l) ≡ none) where
+  -- the last position passed, and those before it
+  last : 0 < i → i ≤ length l → take i l ≡ take (i - 1) l ++ (getD l (i - 1) 0 ∷ [])
+  last h g = let e : i ≡ suc (i - 1) = omega arith in ap (λ (k : ℕ). take k l) e ∙ take-suc l (i - 1) 0 (omega arith)
 
-    here : length (take (n - 2) m) ≡ n - 2
-    here = length-take-le (n - 2) m (omega arith)
+  plain-last : 0 < i → i ≤ length l → strike w (take (i - 1) l ++ (getD l (i - 1) 0 ∷ [])) ≡ none
+  plain-last h g = ap (strike w) (sym (last h g)) ∙ plain
 
-    sizes : length (take (n - 2) m) ≡ length (take i (take n l) ++ drop (2 + i) (take n l))
-    sizes = omega (arith, here, front, whole, length-append (take i (take n l)) (drop (2 + i) (take n l)), length-drop (2 + i) (take n l))
+  pub plain-before : 0 < i → i ≤ length l → strike w (take (i - 1) l) ≡ none
+  plain-before h g = none-before w (take (i - 1) l) (getD l (i - 1) 0) (plain-last h g)
 
-    each : (t : ℕ) → t < length (take (n - 2) m) → getD (take (n - 2) m) t 0 ≡ getD (take i (take n l) ++ drop (2 + i) (take n l)) t 0
-    each t b = getD-take (n - 2) m t 0 (omega (arith, here)) ∙ by (ltb t i) refl
-      where
-        by : (c : Bool) → ltb t i ≡ c → getD m t 0 ≡ getD (take i (take n l) ++ drop (2 + i) (take n l)) t 0
-        by true q =
-            let s = ltb-true t i q in
-            f t s
-            ∙ sym (List·getD-append (take i (take n l)) (drop (2 + i) (take n l)) 0 t (omega (arith, front))
-            ∙ (getD-take i (take n l) t 0 s ∙ getD-take n l t 0 (omega arith)))
-        by false q =
-            let s = ltb-false t i q in
-            let v : t ≡ length (take i (take n l)) + (t - i) = omega (arith, front) in
-            let u : 2 + i + (t - i) ≡ t + 2 = omega arith in
-            r t s (omega (arith, here))
-            ∙ sym (ap (λ (k : ℕ). getD (take i (take n l) ++ drop (2 + i) (take n l)) k 0) v
-            ∙ (getD-append-add (take i (take n l)) (drop (2 + i) (take n l)) (t - i) 0
-            ∙ (getD-drop (2 + i) (take n l) (t - i) 0
-            ∙ (ap (λ (k : ℕ). getD (take n l) k 0) u ∙ getD-take n l (t + 2) 0 (omega (arith, here))))))
+  -- with the next positions
+  seam : (r : List ℕ) → 0 < i → i ≤ length l → strike w (take i l ++ r) ≡ kept (take (i - 1) l) (strike w (getD l (i - 1) 0 ∷ r))
+  seam r h g =
+      ap (λ (m : List ℕ). strike w (m ++ r)) (last h g)
+      ∙ (ap (strike w) (append-assoc (take (i - 1) l) (getD l (i - 1) 0 ∷ []) r) ∙ kept-on w (take (i - 1) l) (getD l (i - 1) 0) r (plain-last h g))
 
--- a list whose entries from i on, and before j, are those two further on
-pub record Moved (l m : List ℕ) (i j : ℕ) : Type 0 where
-  pub size : length m ≡ length l
-  pub before : (t : ℕ) → t < i → getD m t 0 ≡ getD l t 0
-  pub moved : (t : ℕ) → i ≤ t → t < j → getD m t 0 ≡ getD l (t + 2) 0
-  pub after : (t : ℕ) → j ≤ t → getD m t 0 ≡ getD l t 0
+  -- a neighbour of the other kind is joined
+  pub round-joined : 0 < i → i ≤ length l → p < n → Bool·beq (w (getD l (i - 1) 0)) (w p) ≡ false
+      → some (record { pair = record { fst = getD l (i - 1) 0; snd = p }; rest = remaining n l (i - 1) (p + 1) }) ≡ strike w (remaining n l i p)
+  round-joined h g k d =
+      sym (seam (range p (n - p)) h g
+      ∙ (ap (λ (r : List ℕ). kept (take (i - 1) l) (strike w (getD l (i - 1) 0 ∷ r))) (range-next n p k)
+      ∙ (ap (kept (take (i - 1) l)) (strike-differ w (getD l (i - 1) 0) p (range (p + 1) (n - (p + 1))) d) ∙ kept-some (take (i - 1) l) _)))
 
-pub moved-more : (l m : List ℕ) (i j : ℕ) → i ≤ j → j < length m → Moved l m i j → Moved l (set m j (getD m (j + 2) 0)) i (j + 1)
-moved-more l m i j h g r =
-    record {
-      size = length-set m j (getD m (j + 2) 0) ∙ r .size;
-      before = λ t b. getD-set-other m j t _ 0 (λ q. omega arith) ∙ r .before t b;
-      moved = λ t b c. by t b (ltb t j) refl c;
-      after = λ t b. getD-set-other m j t _ 0 (λ q. omega arith) ∙ r .after t (omega arith);
-    }
-  where
-    by : (t : ℕ) → i ≤ t → (c : Bool) → ltb t j ≡ c → t < j + 1 → getD (set m j (getD m (j + 2) 0)) t 0 ≡ getD l (t + 2) 0
-    by t b true q c = let s = ltb-true t j q in getD-set-other m j t _ 0 (λ q. omega arith) ∙ r .moved t b s
-    by t b false q c =
-        let s : t ≡ j = omega (arith, ltb-false t j q) in
-        ap (λ (k : ℕ). getD (set m j (getD m (j + 2) 0)) k 0) s
-        ∙ (getD-set-same m j _ 0 g ∙ (r .after (j + 2) (omega arith) ∙ ap (λ (k : ℕ). getD l (k + 2) 0) (sym s)))
+  -- one of the same kind is passed
+  more : i < length l → take (i + 1) (set l i p) ≡ take i l ++ (p ∷ [])
+  more h = ap (λ (k : ℕ). take k (set l i p)) (add-one i) ∙ take-suc-set l i p h
 
--- ---- the positions in order
+  pub plain-more : i < length l → (0 < i → Bool·beq (w (getD l (i - 1) 0)) (w p) ≡ true) → strike w (take (i + 1) (set l i p)) ≡ none
+  plain-more h d = ap (strike w) (more h) ∙ by (eqb i 0) refl
+    where
+      by : (b : Bool) → eqb i 0 ≡ b → strike w (take i l ++ (p ∷ [])) ≡ none
+      by true q = ap (λ (k : ℕ). strike w (take k l ++ (p ∷ []))) (eqb-true i 0 q)
+      by false q =
+          let z = eqb-false i 0 q in
+          let k : 0 < i = omega arith in
+          seam (p ∷ []) k (omega arith)
+          ∙ (ap (kept (take (i - 1) l)) (strike-same w (getD l (i - 1) 0) p [] (d k)) ∙ kept-none (take (i - 1) l))
 
-range-last : (p n : ℕ) → range p n ++ ((p + n) ∷ []) ≡ range p (suc n)
-range-last p zero = ap (λ (k : ℕ). k ∷ []) (omega arith)
-range-last p (suc n) = ap (λ (l : List ℕ). p ∷ l) (ap (λ (k : ℕ). range (suc p) n ++ (k ∷ [])) (omega arith) ∙ range-last (suc p) n)
+  pub remaining-more : i < length l → p < n → remaining n (set l i p) (i + 1) (p + 1) ≡ remaining n l i p
+  remaining-more h k =
+      ap (λ (m : List ℕ). m ++ range (p + 1) (n - (p + 1))) (more h)
+      ∙ (append-assoc (take i l) (p ∷ []) (range (p + 1) (n - (p + 1))) ∙ ap (λ (r : List ℕ). take i l ++ r) (sym (range-next n p k)))
 
-pub order-more : (l : List ℕ) (p : ℕ) → p < length l → take p l ≡ range 0 p → take (p + 1) (set l p p) ≡ range 0 (p + 1)
-order-more l p h e =
-    ap (λ (k : ℕ). take k (set l p p)) (add-one p)
-    ∙ (take-suc-set l p p h
-    ∙ (ap₂ (λ (r : List ℕ) (k : ℕ). r ++ (k ∷ [])) e (omega arith) ∙ (range-last 0 p ∙ ap (range 0) (sym (add-one p)))))
+  -- nothing is to come
+  pub round-over : n ≤ p → none ≡ strike w (remaining n l i p)
+  round-over h = sym (ap (λ (r : List ℕ). strike w (take i l ++ r)) (range-over n p h) ∙ (ap (strike w) (append-nil (take i l)) ∙ plain))
 
 -- ---- the pairs
 
@@ -260,8 +215,8 @@ module _ (w : ℕ → Bool) where
       (sym (ap (λ (t : ℕ). rounds w t l) k ∙ rounds-some w (n - (m + 1)) l _ (sym e)))
       ∙ g)))
 
-  pub midway-start : (n : ℕ) (f s l : List ℕ) → take n l ≡ range 0 n → Midway n f s 0 (take n l)
-  midway-start n f s l e = let z : n - 0 ≡ n = omega arith in ap₂ (rounds w) z e
+  pub midway-start : (n : ℕ) (f s l : List ℕ) → Midway n f s 0 (remaining n l 0 0)
+  midway-start n f s l = let z : n - 0 ≡ n = omega arith in ap₂ (λ (k m : ℕ). rounds w k (range 0 m)) z z
 
   rounds-over : (n : ℕ) (l : List ℕ) → strike w l ≡ none → rounds w n l ≡ []
   rounds-over zero l e = refl
@@ -275,9 +230,6 @@ module _ (w : ℕ → Bool) where
   joined-over n m f s l e g =
       sym (append-none (zipped (take m f) (take m s)))
       ∙ (ap (λ (a : List Pair). zipped (take m f) (take m s) ++ a) (sym (rounds-over (n - m) l (sym e))) ∙ g)
-
-  pub joined-short : (n m : ℕ) (f s l : List ℕ) → length l ≤ 1 → Midway n f s m l → zipped (take m f) (take m s) ≡ pairsOf w n
-  joined-short n m f s l h g = joined-over n m f s l (sym (strike-short w l h)) g
 
   -- two positions for each pair
   pub joined-all : (n m : ℕ) (f s : List ℕ) → m ≤ length f → m ≤ length s → zipped (take m f) (take m s) ≡ pairsOf w n → Even w n → 2 * m ≡ n
@@ -293,15 +245,15 @@ module _ (w : ℕ → Bool) where
 -- ---- the partner
 
 -- the ends laid have the kinds of the sequence, so that the pairs joined are the rounds'
-pub partner-joined : (a d : ℕ → ℕ) (n p q at : ℕ) (s l r : List ℕ) (z : List Pair) → n ≡ start a d 5 → Laid a d n s l r → z ≡ pairsOf (arriving r) n
+pub partner-joined : (a d : ℕ → ℕ) (n p q at : ℕ) (l : List ℕ) (z : List Pair) → n ≡ start a d 5 → Laid a d n l → z ≡ pairsOf (arriving l) n
     → p ≡ at → q ≡ partnerIn z p → q ≡ partnerOf a d 5 at
-partner-joined a d n p q at s l r z e g j h o = o ∙ ap₂ partnerIn (j ∙ ap₂ pairsOf (laid-kinds a d n s l r e g) e) h
+partner-joined a d n p q at l z e g j h o = o ∙ ap₂ partnerIn (j ∙ ap₂ pairsOf (laid-kinds a d n l e g) e) h
 
 module _ (a d : ℕ → ℕ) (k i : ℕ) (here : k < 5) (lane : i < a k) where
   -- the partner's end says its slot and lane
-  pub end-partner : (n q j t : ℕ) (s l r : List ℕ) → n ≡ start a d 5 → Laid a d n s l r → q ≡ partnerOf a d 5 (arrivalPos a d k i) → j ≡ getD s q 0
-      → t ≡ getD l q 0 → sum 5 a ≡ sum 5 d → Partner a d k i j t
-  end-partner n q j t s l r size g e x y even = by (g .0 q (omega (arith, e, size, all .within (arrivalPos a d k i) inside)))
+  pub end-partner : (n q j t : ℕ) (l : List ℕ) → n ≡ start a d 5 → Laid a d n l → q ≡ partnerOf a d 5 (arrivalPos a d k i) → j ≡ slotOf (getD l q 0)
+      → t ≡ laneOf (getD l q 0) → sum 5 a ≡ sum 5 d → Partner a d k i j t
+  end-partner n q j t l size g e x y even = by (g .0 q (omega (arith, e, size, all .within (arrivalPos a d k i) inside)))
     where
       all : Perfect (arrivesAt a d 5) (start a d 5) (partnerOf a d 5)
       all = pairs-perfect (arrivesAt a d 5) (start a d 5) (slots-even a d 5 even)
@@ -314,15 +266,16 @@ module _ (a d : ℕ → ℕ) (k i : ℕ) (here : k < 5) (lane : i < a k) where
           ap (arrivesAt a d 5) e
           ∙ (all .swaps (arrivalPos a d k i) inside ∙ ap not (arrival-kind a d k 5 (a k - 1 - i) here (omega arith)))
 
-      by : EndAt a d q (getD r q 0) (getD s q 0) (getD l q 0) → Partner a d k i j t
-      by (arrives b h m p) =
-          let z = sym (ap (arrivesAt a d 5) p ∙ arrival-kind a d (getD s q 0) 5 (a (getD s q 0) - 1 - getD l q 0) h (omega arith)) ∙ leaves in
+      by : EndAt a d q (getD l q 0) → Partner a d k i j t
+      by (arrives v u h m s p b) =
+          let z = sym (ap (arrivesAt a d 5) p ∙ arrival-kind a d v 5 (a v - 1 - u) h (omega arith)) ∙ leaves in
           let w : _≡_ {A = ℕ} 0 1 = cc in
           absurd (omega arith)
-      by (departs b h m p) =
+      by (departs v u h m s p b) =
+          let f : j ≡ v = omega arith in
+          let c : t ≡ u = omega arith in
           record {
             slot = omega arith;
-            lane = omega (arith, ap d x);
-            place = sym e ∙ (p ∙ ap₂ (departurePos a d) (sym x) (sym y));
+            lane = omega (arith, ap d f);
+            place = sym e ∙ (p ∙ ap₂ (departurePos a d) (sym f) (sym c));
           }
-      by (past b h) = absurd (omega (arith, e, all .within (arrivalPos a d k i) inside))

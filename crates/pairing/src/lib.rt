@@ -3,14 +3,15 @@
 // the place the first neighbouring arrival and departure are joined and struck out, until nothing is left. docs/PAIRING.md has the steps beside the paper's.
 ghost use mathlib.Core.Path.{_≡_};
 ghost use mathlib.Core.List.{_++_};
-ghost use Prim.Native.Nat.{_+_, _*_, _-_, _≤_, _<_};
-ghost use lib.ListN.{length, take, drop, getD};
+ghost use mathlib.Core.Option.{none};
+ghost use Prim.Native.Nat.{ℕ, _+_, _*_, _-_, _≤_, _<_};
+ghost use lib.ListN.{length, take, getD};
 ghost use Rattle.sums.specs.Counting.{sum};
 ghost use Rattle.model.specs.Pairing.{range, strike, pairsOf, partnerIn};
 ghost use Rattle.pairing.specs.Perfect.{Even};
 ghost use Rattle.pairing.specs.Slots.{start};
-ghost use Rattle.pairing.specs.Sequence.{arriving, zipped, EndAt, Blank, Laid, First};
-ghost use Rattle.pairing.specs.Struck.{asStruck};
+ghost use Rattle.pairing.specs.Sequence.{endOf, slotOf, laneOf, arriving, zipped, Blank, Laid, Differs};
+ghost use Rattle.pairing.specs.Struck.{asStruck, Below, Resumes};
 ghost use Rattle.pairing.specs.Answer.{lanes, Partner};
 
 // A lane of the link of a slot.
@@ -19,16 +20,9 @@ pub struct Lane {
     pub lane: usize,
 }
 
-// An end: a lane of the link of a slot that arrives (1) or departs (0).
-struct End {
-    slot: u8,
-    lane: u8,
-    arriving: u8,
-}
-
-// What a round gives: the positions of the two ends that it joins, or that nothing is left to join.
+// What a round gives: the positions of the two ends that it joins and how many ends are left before them, or that nothing is left to join.
 enum Join {
-    Pair { fst: u8, snd: u8 },
+    Pair { fst: u8, snd: u8, before: usize },
     Nothing,
 }
 
@@ -36,6 +30,12 @@ fn wide(x: u8) -> usize
     ensures { λ r. ⌜ (r ≡ x) × (r < 256) ⌝ }
 {
     x as usize
+}
+
+fn number(end: u16) -> usize
+    ensures { λ r. ⌜ r ≡ end ⌝ }
+{
+    end as usize
 }
 
 // How many lanes there are at slot k; 0 past the last slot.
@@ -62,154 +62,116 @@ fn start_of(arrive: &[u8; 5], depart: &[u8; 5], k: usize) -> usize
     n
 }
 
-// The end at a position: slot by slot arriving lanes in falling order, then departing ones in rising order.
-fn end_at(arrive: &[u8; 5], depart: &[u8; 5], p: usize) -> End
-    ensures { λ r. ⌜ EndAt (lanes (now (arrive .entry))) (lanes (now (depart .entry))) p (r .arriving) (r .slot) (r .lane) ⌝ }
+// An end, a lane of the link of a slot that arrives (1) or departs (0), as one number.
+fn end(slot: usize, lane: usize, arrives: usize) -> u16
+    requires { ⌜ (slot < 5) × (lane < 256) × (arrives < 2) ⌝ }
+    ensures { λ r. ⌜ r ≡ endOf slot lane arrives ⌝ }
 {
-    let mut from: usize = 0;
-    let mut k: usize = 0;
-    while k < 5 {
-        let departing = from + lanes_at(arrive, k);
-        let next = departing + lanes_at(depart, k);
-        if p < departing {
-            return End {
-                slot: k as u8,
-                lane: (departing - 1 - p) as u8,
-                arriving: 1,
-            };
-        }
-        if p < next {
-            return End {
-                slot: k as u8,
-                lane: (p - departing) as u8,
-                arriving: 0,
-            };
-        }
-        from = next;
-        k += 1;
-    }
-    End {
-        slot: 5,
-        lane: 0,
-        arriving: 0,
-    }
+    (512 * slot + 2 * lane + arrives) as u16
 }
 
-// Lays the sequence of ends round the place in three rows: of each end the slot of its link, the number of its lane, and whether it arrives. Gives its length.
-fn lay(
-    arrive: &[u8; 5],
-    depart: &[u8; 5],
-    links: &mut [u8],
-    numbers: &mut [u8],
-    arrives: &mut [u8],
-) -> usize
-    requires { do ⌜ Blank (now arrives) × (155 ≤ (← ⟦links.len()⟧)) × (155 ≤ (← ⟦numbers.len()⟧)) × (155 ≤ (← ⟦arrives.len()⟧)) ⌝ }
-    requires { ⌜ start (lanes (now arrive)) (lanes (now depart)) 5 ≤ 155 ⌝ }
-    ensures { λ r. ⌜ r ≡ start (lanes (now (arrive .entry))) (lanes (now (depart .entry))) 5 ⌝ }
-    ensures { λ r. ⌜ Laid (lanes (now (arrive .entry))) (lanes (now (depart .entry))) r (now (links .exit)) (now (numbers .exit)) (now (arrives .exit)) ⌝ }
+// Lays the ends of the link of a slot from a position on: arriving lanes in falling order, then departing ones in rising order. Gives the next position.
+fn lay_link(arrive: &[u8; 5], depart: &[u8; 5], slot: usize, from: usize, ends: &mut [u16]) -> usize
+    requires { do ⌜ (slot < 5) × (from ≡ start (lanes (now arrive)) (lanes (now depart)) slot) × (155 ≤ (← ⟦ends.len()⟧)) ⌝ }
+    requires { ⌜ (start (lanes (now arrive)) (lanes (now depart)) 5 ≤ 155) × Laid (lanes (now arrive)) (lanes (now depart)) from (now ends) ⌝ }
+    ensures { λ r. ⌜ r ≡ start (lanes (now (arrive .entry))) (lanes (now (depart .entry))) (slot + 1) ⌝ }
+    ensures { λ r. ⌜ Laid (lanes (now (arrive .entry))) (lanes (now (depart .entry))) r (now (ends .exit)) ⌝ }
 {
-    let n = start_of(arrive, depart, 5);
-    let mut p: usize = 0;
-    while p < n {
-        let e = end_at(arrive, depart, p);
-        links[p] = e.slot;
-        numbers[p] = e.lane;
-        arrives[p] = e.arriving;
-        p += 1;
+    let come = lanes_at(arrive, slot);
+    let all = come + lanes_at(depart, slot);
+    let mut i: usize = 0;
+    while i < all {
+        if i < come {
+            ends[from + i] = end(slot, come - 1 - i, 1);
+            i += 1;
+        } else {
+            ends[from + i] = end(slot, i - come, 0);
+            i += 1;
+        }
+    }
+    from + all
+}
+
+// Lays the sequence of ends round the place, link by link. Gives its length.
+fn lay(arrive: &[u8; 5], depart: &[u8; 5], ends: &mut [u16]) -> usize
+    requires { do ⌜ Blank (now ends) × (155 ≤ (← ⟦ends.len()⟧)) × (start (lanes (now arrive)) (lanes (now depart)) 5 ≤ 155) ⌝ }
+    ensures { λ r. ⌜ r ≡ start (lanes (now (arrive .entry))) (lanes (now (depart .entry))) 5 ⌝ }
+    ensures { λ r. ⌜ Laid (lanes (now (arrive .entry))) (lanes (now (depart .entry))) r (now (ends .exit)) ⌝ }
+{
+    let mut n: usize = 0;
+    let mut k: usize = 0;
+    while k < 5 {
+        n = lay_link(arrive, depart, k, n, ends);
+        k += 1;
     }
     n
 }
 
-// The entry of a row at a position; 0 past its end.
-fn entry(row: &[u8], p: usize) -> usize
-    ensures { λ r. ⌜ r ≡ getD (now (row .entry)) p 0 ⌝ }
-{
-    if p < row.len() {
-        return wide(row[p]);
-    }
-    0
-}
-
 // Whether the end at a position arrives.
-fn arrives_at(arrives: &[u8], p: usize) -> bool
-    ensures { λ r. ⌜ r ≡ arriving (now (arrives .entry)) p ⌝ }
+fn arrives_at(ends: &[u16], p: usize) -> bool
+    requires { do ⌜ p < (← ⟦ends.len()⟧) ⌝ }
+    ensures { λ r. ⌜ r ≡ arriving (now (ends .entry)) p ⌝ }
 {
-    entry(arrives, p) == 1
+    ends[p] % 2 == 1
 }
 
-// Where the first neighbouring arrival and departure stand among the n positions that are left; the last of these where there are none.
-fn first_pair(arrives: &[u8], left: &[u8], n: usize) -> usize
-    requires { do ⌜ n ≤ (← ⟦left.len()⟧) ⌝ }
-    ensures { λ r. ⌜ First (arriving (now (arrives .entry))) (take n (now (left .entry))) r × (r ≤ n) ⌝ }
+// Whether one of two neighbours arrives and the other departs: the last of the first i positions that are left, and p. False where none is left before p.
+fn differs(ends: &[u16], left: &[u8], i: usize, p: usize) -> bool
+    requires { do ⌜ (i ≤ (← ⟦left.len()⟧)) × (p < (← ⟦ends.len()⟧)) × Below (← ⟦ends.len()⟧) (now left) i ⌝ }
+    ensures { λ r. ⌜ Differs (arriving (now (ends .entry))) (now (left .entry)) i p r ⌝ }
 {
-    let mut i: usize = 0;
-    while i + 1 < n {
-        if arrives_at(arrives, wide(left[i])) != arrives_at(arrives, wide(left[i + 1])) {
-            return i;
+    if i == 0 {
+        return false;
+    }
+    arrives_at(ends, wide(left[i - 1])) != arrives_at(ends, p)
+}
+
+// A round. Left are the first `passed` positions in `left` and all from `next` up to n; no arrival and departure are neighbours among those passed. It goes
+// on past neighbours of one kind to the first arrival and departure, joins these and strikes both out: left are those before and those after them.
+fn round(ends: &[u16], left: &mut [u8], passed: usize, next: usize, n: usize) -> Join
+    requires { do ⌜ (passed ≤ next) × (next ≤ n) × (n ≤ 155) × (n ≤ (← ⟦left.len()⟧)) × (n ≤ (← ⟦ends.len()⟧)) ⌝ }
+    requires { ⌜ Below n (now left) passed × (strike (arriving (now ends)) (take passed (now left)) ≡ none) ⌝ }
+    ensures { λ r. ⌜ asStruck n r (now (left .exit)) ≡ strike (arriving (now (ends .entry))) (take passed (now (left .entry)) ++ range next (n - next)) ⌝ }
+    ensures { λ r. ⌜ Resumes (arriving (now (ends .entry))) passed next n r (now (left .exit)) ⌝ }
+{
+    let mut i = passed;
+    let mut p = next;
+    while p < n {
+        if differs(ends, left, i, p) {
+            let fst = left[i - 1];
+            return Join::Pair {
+                fst: fst,
+                snd: p as u8,
+                before: i - 1,
+            };
         }
+        left[i] = p as u8;
         i += 1;
-    }
-    i
-}
-
-// Strikes out two of the n positions, the i-th and the next; the rest stays in unchanged order.
-fn strike_out(left: &mut [u8], i: usize, n: usize)
-    requires { do ⌜ (i + 2 ≤ n) × (n ≤ (← ⟦left.len()⟧)) ⌝ }
-    ensures { λ _. ⌜ take (n - 2) (now (left .exit)) ≡ take i (take n (now (left .entry))) ++ drop (2 + i) (take n (now (left .entry))) ⌝ }
-{
-    let mut j = i;
-    while j + 2 < n {
-        left[j] = left[j + 2];
-        j += 1;
-    }
-}
-
-// A round on the n positions that are left: joins the first neighbouring arrival and departure, and strikes both out.
-fn round(arrives: &[u8], left: &mut [u8], n: usize) -> Join
-    requires { do ⌜ n ≤ (← ⟦left.len()⟧) ⌝ }
-    ensures { λ r. ⌜ asStruck r (take (n - 2) (now (left .exit))) ≡ strike (arriving (now (arrives .entry))) (take n (now (left .entry))) ⌝ }
-{
-    let i = first_pair(arrives, left, n);
-    if i + 1 < n {
-        let fst = left[i];
-        let snd = left[i + 1];
-        strike_out(left, i, n);
-        return Join::Pair { fst: fst, snd: snd };
+        p += 1;
     }
     Join::Nothing
 }
 
-// Before the first round every end is left: the positions from 0 on, in order.
-fn in_order(left: &mut [u8], n: usize)
-    requires { do ⌜ (n ≤ 155) × (n ≤ (← ⟦left.len()⟧)) ⌝ }
-    ensures { λ _. ⌜ take n (now (left .exit)) ≡ range 0 n ⌝ }
-{
-    let mut p: usize = 0;
-    while p < n {
-        left[p] = p as u8;
-        p += 1;
-    }
-}
-
 // Rounds until nothing is left to join: the pairs in the order in which they are joined. Gives their number; where as many lanes arrive as depart, no
-// position is left.
-fn join_all(arrives: &[u8], n: usize, first: &mut [u8], second: &mut [u8]) -> usize
-    requires { do ⌜ (n ≤ 155) × (n ≤ 2 * (← ⟦first.len()⟧)) × (n ≤ 2 * (← ⟦second.len()⟧)) ⌝ }
-    ensures { λ r. ⌜ zipped (take r (now (first .exit))) (take r (now (second .exit))) ≡ pairsOf (arriving (now (arrives .entry))) n ⌝ }
-    ensures { λ r. do ⌜ (Even (arriving (now (arrives .entry))) n → 2 * r ≡ n) × (r ≤ (← ⟦first.len()⟧ .entry)) × (r ≤ (← ⟦second.len()⟧ .entry)) ⌝ }
+// position is left. Each round begins where the last one struck out: what is left before that has no arrival beside a departure.
+fn join_all(ends: &[u16], n: usize, first: &mut [u8], second: &mut [u8]) -> usize
+    requires { do ⌜ (n ≤ 155) × (n ≤ (← ⟦ends.len()⟧)) × (n ≤ 2 * (← ⟦first.len()⟧)) × (n ≤ 2 * (← ⟦second.len()⟧)) ⌝ }
+    ensures { λ r. ⌜ zipped (take r (now (first .exit))) (take r (now (second .exit))) ≡ pairsOf (arriving (now (ends .entry))) n ⌝ }
+    ensures { λ r. do ⌜ (Even (arriving (now (ends .entry))) n → 2 * r ≡ n) × (r ≤ (← ⟦first.len()⟧ .entry)) × (r ≤ (← ⟦second.len()⟧ .entry)) ⌝ }
 {
     let mut left = [0u8; 155];
-    in_order(&mut left, n);
-    let mut rest = n;
+    let mut passed: usize = 0;
+    let mut next: usize = 0;
     let mut m: usize = 0;
-    while 1 < rest {
-        let Join::Pair { fst, snd } = round(arrives, &mut left, rest) else {
+    while next < n {
+        let Join::Pair { fst, snd, before } = round(ends, &mut left, passed, next, n) else {
             return m;
         };
         first[m] = fst;
         second[m] = snd;
         m += 1;
-        rest -= 2;
+        passed = before;
+        next = wide(snd) + 1;
     }
     m
 }
@@ -234,23 +196,31 @@ fn other_end(first: &[u8], second: &[u8], m: usize, p: usize) -> usize
     p
 }
 
+// The lane of the end at a position; of slot 0 past the last end.
+fn lane_at(ends: &[u16], p: usize) -> Lane
+    ensures { λ r. ⌜ (r .slot ≡ slotOf (getD (now (ends .entry)) p 0)) × (r .lane ≡ laneOf (getD (now (ends .entry)) p 0)) ⌝ }
+{
+    if p < ends.len() {
+        let e = number(ends[p]);
+        return Lane {
+            slot: e / 512,
+            lane: e % 512 / 2,
+        };
+    }
+    Lane { slot: 0, lane: 0 }
+}
+
 // The partner of the arriving lane `lane` of slot `slot`, where as many lanes arrive as depart. At most 31 wires are on a link: a place has at most 155 ends.
 pub fn partner(arrive: &[u8; 5], depart: &[u8; 5], slot: usize, lane: usize) -> Lane
     requires { ⌜ (slot < 5) × (lane < lanes (now arrive) slot) × (start (lanes (now arrive)) (lanes (now depart)) 5 ≤ 155) ⌝ }
     ensures { λ r. ⌜ (sum 5 (lanes (now (arrive .entry))) ≡ sum 5 (lanes (now (depart .entry)))
         → Partner (lanes (now (arrive .entry))) (lanes (now (depart .entry))) slot lane (r .slot) (r .lane)) ⌝ }
 {
-    let mut links = [0u8; 155];
-    let mut numbers = [0u8; 155];
-    let mut arrives = [0u8; 155];
-    let n = lay(arrive, depart, &mut links, &mut numbers, &mut arrives);
+    let mut ends = [0u16; 155];
+    let n = lay(arrive, depart, &mut ends);
     let mut first = [0u8; 78];
     let mut second = [0u8; 78];
-    let m = join_all(&arrives, n, &mut first, &mut second);
+    let m = join_all(&ends, n, &mut first, &mut second);
     let p = start_of(arrive, depart, slot) + (lanes_at(arrive, slot) - 1 - lane);
-    let q = other_end(&first, &second, m, p);
-    Lane {
-        slot: entry(&links, q),
-        lane: entry(&numbers, q),
-    }
+    lane_at(&ends, other_end(&first, &second, m, p))
 }

@@ -1,46 +1,39 @@
 -- `pairing::join_all` meets its contract. The loop's invariant: the pairs joined so far, and then those of the rounds on what is left, are all pairs;
--- and with two positions for each pair the positions left are all. A round strikes out two, so that the rounds end. Assumes nothing.
-use mathlib.Core.Path.{_≡_, refl, sym, _∙_}
-use Prim.Native.Nat.{_+_, _*_}
+-- there are two positions for each pair and those passed before the next, and no arrival and departure are neighbours among those passed. Assumes nothing.
+use mathlib.Core.Path.{_≡_, refl, sym, subst, _∙_}
+use mathlib.Core.List.{[]}
+use mathlib.Core.Option.{none}
+use Prim.Native.Nat.{ℕ, _+_, _*_, _-_, _≤_}
 use native.Mathlib.Omega.{arith}
 use denote.Ref.{now}
-use lib.ListN.{length, length-set, take}
-use lib.Seq.{length-take-le}
+use lib.ListN.{length, length-set, set, take}
 use borrow.Author.Needs.{needs}
+use Rattle.model.specs.Pairing.{strike}
 use Rattle.pairing.specs.Sequence.{arriving}
-use Rattle.pairing.specs.Struck.{Midway, midway-start, joined-more, joined-over, joined-short, joined-all, joined-as, nothing-as}
+use Rattle.pairing.specs.Struck.{remaining, Below, Midway, midway-start, joined-more, joined-over, joined-all, joined-as, resumes-as, nothing-as, round-over}
 use Rattle.pairing.proofs.join_all.Statement.{statement}
 use Rattle.pairing.proofs.join_all.Tie as tie
 
 abbrev Inv-loop : tie.InvT-loop
-Inv-loop arrives n first₀ second₀ left₀ rest₀ m₀ first second left rest m =
-    (length left ≡ 155) × (length first ≡ length first₀) × (length second ≡ length second₀) × (rest + 2 * m ≡ n)
-    × Midway (arriving arrives) n first second m (take rest left)
+Inv-loop ends n first₀ second₀ left₀ passed₀ next₀ m₀ first second left passed next m =
+    (length left ≡ 155) × (length first ≡ length first₀) × (length second ≡ length second₀) × (passed + 2 * m ≡ next) × (next ≤ n) × Below n left passed
+    × (strike (arriving ends) (take passed left) ≡ none) × Midway (arriving ends) n first second m (remaining n left passed next)
 
 abbrev μ-loop : tie.MeasureT-loop
-μ-loop arrives n first₀ second₀ left₀ rest₀ m₀ first second left rest m = rest
-
-slice-aggregate-in-order : tie.Need-slice-aggregate-in-order Inv-loop μ-loop
-slice-aggregate-in-order c = search needs
-
-in-order-requires : tie.Need-in-order-requires Inv-loop μ-loop
-in-order-requires c κs = search needs
+μ-loop ends n first₀ second₀ left₀ passed₀ next₀ m₀ first second left passed next m = n - next
 
 loop-holds : tie.Need-loop-holds Inv-loop μ-loop
 loop-holds c =
-    let a = c .before .before .before .before .before .before .args in (
-      search needs,
-      refl,
-      refl,
-      omega arith,
-      midway-start (arriving (now (a .arrives))) (a .n) (now (a .first)) (now (a .second)) _ (c .before .in-order .ensures),
-    )
+    let a = c .before .before .before .args in
+    (search needs, refl, refl, omega arith, omega arith, λ j h. absurd (omega arith), refl, midway-start (arriving (now (a .ends))) (a .n) (now (a .first)) (now (a .second)) [])
 
 slice-aggregate-round : tie.Need-slice-aggregate-round Inv-loop μ-loop
 slice-aggregate-round c = sym (c .before .before .loop .inv .0)
 
 round-requires : tie.Need-round-requires Inv-loop μ-loop
-round-requires c κs = omega arith
+round-requires c κs =
+    let l = c .before .before .loop in
+    ((omega arith, omega arith, omega arith, omega arith, omega arith), (l .inv .5, l .inv .6))
 
 enum-known-fst : tie.Need-enum-known-fst Inv-loop μ-loop
 enum-known-fst c = search needs
@@ -56,12 +49,14 @@ same-length-2 c = c .before .before .before .before .before .before .loop .inv .
 
 returns : tie.Need-returns Inv-loop μ-loop
 returns c =
-    let a = c .before .before .before .before .before .before .before .before .before .before .before .before .before .args in
+    let a = c .before .before .before .before .before .before .before .before .before .before .args in
     let l = c .before .before .before .before .before .before .loop in
+    let r = c .before .before .before .round in
+    let w = arriving (now (a .ends)) in
     let e =
-    joined-over (arriving (now (a .arrives))) (a .n) (l .m) (l .first) (l .second) (take (l .rest) (l .left))
-    (nothing-as (c .before .before .before .round .result) _ (c .enum-told .given .1) (c .before .before .before .round .ensures)) (l .inv .4) in
-    (e, (joined-all (arriving (now (a .arrives))) (a .n) (l .m) (l .first) (l .second) (omega arith) (omega arith) e, omega arith, omega arith))
+    joined-over w (a .n) (l .m) (l .first) (l .second) (remaining (a .n) (l .left) (l .passed) (l .next))
+    (nothing-as (a .n) (r .result) (r .last .1 .0) {o = strike w (remaining (a .n) (l .left) (l .passed) (l .next))} (c .enum-told .given .1) (r .ensures .0)) (l .inv .7) in
+    (e, (joined-all w (a .n) (l .m) (l .first) (l .second) (omega arith) (omega arith) e, omega arith, omega arith))
 
 slice-write-first : tie.Need-slice-write-first Inv-loop μ-loop
 slice-write-first c = omega arith
@@ -72,25 +67,42 @@ slice-write-second c = omega arith
 add-m : tie.Need-add-m Inv-loop μ-loop
 add-m c = omega arith
 
-sub-rest : tie.Need-sub-rest Inv-loop μ-loop
-sub-rest c = omega arith
+wide-requires : tie.Need-wide-requires Inv-loop μ-loop
+wide-requires c κs = search needs
+
+add-next : tie.Need-add-next Inv-loop μ-loop
+add-next c = omega arith
 
 loop-less : tie.Need-loop-less Inv-loop μ-loop
-loop-less c = omega arith
+loop-less c =
+    let a = c .before .before .before .before .before .before .before .before .before .before .before .before .args in
+    let l = c .before .before .before .before .before .before .before .before .loop in
+    let r = c .before .before .before .before .before .round in
+    let g = c .before .before .fst .given in
+    let z = resumes-as (arriving (now (a .ends))) (l .passed) (l .next) (a .n) (r .result) (g .0 .0) (g .0 .1 .0) (g .0 .1 .1 .0) (r .last .1 .0) (g .1) (r .ensures .1) in
+    omega (arith, z .0, z .1, c .wide .ensures .0)
 
 loop-again : tie.Need-loop-again Inv-loop μ-loop
 loop-again c =
-    let a = c .before .before .before .before .before .before .before .before .before .before .before .before .before .before .args in
-    let l = c .before .before .before .before .before .before .before .loop in (
+    let a = c .before .before .before .before .before .before .before .before .before .before .before .before .args in
+    let l = c .before .before .before .before .before .before .before .before .loop in
+    let r = c .before .before .before .before .before .round in
+    let g = c .before .before .fst .given in
+    let x = g .0 .0 in
+    let y = g .0 .1 .0 in
+    let k = g .0 .1 .1 .0 in
+    let w = arriving (now (a .ends)) in
+    let z = resumes-as w (l .passed) (l .next) (a .n) (r .result) x y k (r .last .1 .0) (g .1) (r .ensures .1) in (
       search needs,
-      length-set (l .first) (l .m) (c .before .fst .given .0 .0) ∙ l .inv .1,
-      length-set (l .second) (l .m) (c .before .fst .given .0 .1 .0) ∙ l .inv .2,
-      omega arith,
-      joined-more (arriving (now (a .arrives))) (a .n) (l .m) (l .first) (l .second) (take (l .rest) (l .left)) _ (c .before .fst .given .0 .0)
-          (c .before .fst .given .0 .1 .0) (omega arith) (omega arith) (omega arith)
-          (joined-as (c .before .before .before .before .round .result) (c .before .fst .given .0 .0) (c .before .fst .given .0 .1 .0) _ (c .before .fst .given .1)
-          (c .before .before .before .before .round .ensures))
-          (l .inv .4),
+      length-set (l .first) (l .m) x ∙ l .inv .1,
+      length-set (l .second) (l .m) y ∙ l .inv .2,
+      omega (arith, z .2, c .wide .ensures .0),
+      omega (arith, z .1, c .wide .ensures .0),
+      z .3,
+      z .4,
+      subst (λ (q : ℕ). Midway w (a .n) (set (l .first) (l .m) x) (set (l .second) (l .m) y) (l .m + 1) (remaining (a .n) (r .last .1 .0) k (q + 1))) (sym (c .wide .ensures .0))
+          (joined-more w (a .n) (l .m) (l .first) (l .second) (remaining (a .n) (l .left) (l .passed) (l .next)) (remaining (a .n) (r .last .1 .0) k (y + 1)) x y
+          (omega arith) (omega arith) (omega arith) (joined-as (a .n) (r .result) x y k (r .last .1 .0) {o = strike w (remaining (a .n) (l .left) (l .passed) (l .next))} (g .1) (r .ensures .0)) (l .inv .7)),
     )
 
 same-length-3 : tie.Need-same-length-3 Inv-loop μ-loop
@@ -101,12 +113,13 @@ same-length-4 c = c .before .loop .inv .2
 
 returns-2 : tie.Need-returns-2 Inv-loop μ-loop
 returns-2 c =
-    let a = c .before .before .before .before .before .before .before .before .args in
+    let a = c .before .before .before .before .before .args in
     let l = c .before .loop in
+    let w = arriving (now (a .ends)) in
     let e =
-    joined-short (arriving (now (a .arrives))) (a .n) (l .m) (l .first) (l .second) (take (l .rest) (l .left))
-    (omega (arith, length-take-le (l .rest) (l .left) (omega arith))) (l .inv .4) in
-    (e, (joined-all (arriving (now (a .arrives))) (a .n) (l .m) (l .first) (l .second) (omega arith) (omega arith) e, omega arith, omega arith))
+    joined-over w (a .n) (l .m) (l .first) (l .second) (remaining (a .n) (l .left) (l .passed) (l .next))
+    (round-over w (a .n) (l .left) (l .passed) (l .next) (l .inv .6) (omega arith)) (l .inv .7) in
+    (e, (joined-all w (a .n) (l .m) (l .first) (l .second) (omega arith) (omega arith) e, omega arith, omega arith))
 
 pub join-all-spec : {M : Type 1} → statement M
 join-all-spec =
@@ -114,8 +127,6 @@ join-all-spec =
     (tie.spec
     Inv-loop
     μ-loop
-    slice-aggregate-in-order
-    in-order-requires
     loop-holds
     slice-aggregate-round
     round-requires
@@ -127,7 +138,8 @@ join-all-spec =
     slice-write-first
     slice-write-second
     add-m
-    sub-rest
+    wide-requires
+    add-next
     loop-less
     loop-again
     same-length-3

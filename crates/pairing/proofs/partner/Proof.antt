@@ -10,14 +10,8 @@ use Rattle.pairing.proofs.partner.Tie as tie
 slice-aggregate-lay : tie.Need-slice-aggregate-lay
 slice-aggregate-lay c = search needs
 
-slice-aggregate-lay-2 : tie.Need-slice-aggregate-lay-2
-slice-aggregate-lay-2 c = search needs
-
-slice-aggregate-lay-3 : tie.Need-slice-aggregate-lay-3
-slice-aggregate-lay-3 c = search needs
-
 lay-requires : tie.Need-lay-requires
-lay-requires c κs = ((λ p. blank 155 p, search needs, search needs, search needs), search needs)
+lay-requires c κs = (λ p. blank 155 p, search needs, search needs)
 
 slice-aggregate-join-all : tie.Need-slice-aggregate-join-all
 slice-aggregate-join-all c = search needs
@@ -46,6 +40,9 @@ sub-p-2 c = search needs
 add-p : tie.Need-add-p
 add-p c = search needs
 
+slice-aggregate-lane-at : tie.Need-slice-aggregate-lane-at
+slice-aggregate-lane-at c = search needs
+
 slice-aggregate-other-end : tie.Need-slice-aggregate-other-end
 slice-aggregate-other-end c = search needs
 
@@ -55,40 +52,29 @@ slice-aggregate-other-end-2 c = search needs
 other-end-requires : tie.Need-other-end-requires
 other-end-requires c κs = search needs
 
-slice-aggregate-entry : tie.Need-slice-aggregate-entry
-slice-aggregate-entry c = search needs
-
-entry-requires : tie.Need-entry-requires
-entry-requires c κs = search needs
-
-slice-aggregate-entry-2 : tie.Need-slice-aggregate-entry-2
-slice-aggregate-entry-2 c = search needs
-
-entry-requires-2 : tie.Need-entry-requires-2
-entry-requires-2 c κs = search needs
+lane-at-requires : tie.Need-lane-at-requires
+lane-at-requires c κs = search needs
 
 returns : tie.Need-returns
 returns c =
-    let o = c .before .before .before .before in
-    let j = o .before .before .before .before .before .before .before in
-    let y = j .before .before .before .before .before .before .before in
-    let a = y .before .before .before .before .args in
-    let s = y .lay .last .1 .1 .0 in
-    let l = y .lay .last .1 .1 .1 .0 in
-    let r = y .lay .last .1 .1 .1 .1 .0 in
+    let o = c .before in
+    let j = o .before .before .before .before .before .before .before .before in
+    let y = j .before .before .before .before .before in
+    let a = y .before .before .args in
+    let l = y .lay .last .1 .1 .0 in
     end-partner (lanes (a .arrive .now)) (lanes (a .depart .now)) (a .slot) (a .lane) (omega arith) (omega arith) (y .lay .result) (o .other-end .result) _ _
-    s l r (y .lay .ensures .0) (y .lay .ensures .1)
-    (partner-joined (lanes (a .arrive .now)) (lanes (a .depart .now)) (y .lay .result) _ (o .other-end .result) _ s l r _
-    (y .lay .ensures .0) (y .lay .ensures .1) (j .join-all .ensures .0) (omega arith) (o .other-end .ensures))
-    (c .before .before .entry .ensures) (c .entry2 .ensures)
+    l (y .lay .ensures .0) (y .lay .ensures .1)
+    (partner-joined (lanes (a .arrive .now)) (lanes (a .depart .now)) (y .lay .result) _ (o .other-end .result) _ l _
+    (y .lay .ensures .0) (y .lay .ensures .1) (j .join-all .ensures .0)
+    (omega (arith, o .before .before .before .before .lanes-at .ensures .0, o .before .before .before .before .before .start-of .ensures .0))
+    (o .other-end .ensures))
+    (c .lane-at .ensures .0) (c .lane-at .ensures .1)
 
 pub partner-spec : {M : Type 1} → statement M
 partner-spec =
     tie.close
     (tie.spec
     slice-aggregate-lay
-    slice-aggregate-lay-2
-    slice-aggregate-lay-3
     lay-requires
     slice-aggregate-join-all
     slice-aggregate-join-all-2
@@ -99,11 +85,9 @@ partner-spec =
     sub-p
     sub-p-2
     add-p
+    slice-aggregate-lane-at
     slice-aggregate-other-end
     slice-aggregate-other-end-2
     other-end-requires
-    slice-aggregate-entry
-    entry-requires
-    slice-aggregate-entry-2
-    entry-requires-2
+    lane-at-requires
     returns)
