@@ -17,6 +17,7 @@ pub mod Counts
 pub mod Places
 -- Hops and parts as the code has them.
 pub mod Hops
+pub mod Five
 pub mod Walks
 pub mod Lengths
 -- The wires of all pins.

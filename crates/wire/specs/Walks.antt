@@ -34,19 +34,9 @@ use Rattle.wire.specs.Ways.{way}
 use Rattle.wire.specs.Next.{hop-may, ends-outside}
 use Rattle.wire.specs.Follow.{none-on}
 use Rattle.wire.specs.Hops.{hop, Runs, Takes, lanesAt, lanesOf, asPart}
+use Rattle.wire.specs.Five.{lanes-at}
 use Rattle.wire.specs.declared.Hop.the-variants.{End, On}
 use Rattle.wire.specs.declared.Part.the-variants.{Unwired, To, Out, PastTheEnd}
-
--- ---- five slots
-
--- the k-th of them
-lanes-at : (f : Step → ℕ) (d k : ℕ) → k < 5 → getD (lanesOf f d) k 0 ≡ lanesAt f (d + k)
-lanes-at f d zero h = let e : d ≡ d + 0 = omega arith in ap (lanesAt f) e
-lanes-at f d (suc zero) h = refl
-lanes-at f d (suc (suc zero)) h = refl
-lanes-at f d (suc (suc (suc zero))) h = refl
-lanes-at f d (suc (suc (suc (suc zero)))) h = refl
-lanes-at f d (suc (suc (suc (suc (suc k))))) h = absurd (omega arith)
 
 -- ---- how many wires a link has, both ways together
 

@@ -3,6 +3,7 @@ ghost use mathlib.Core.Path.{_≡_};
 ghost use mathlib.Core.Option.{some};
 ghost use Prim.Native.Nat.{_+_, _<_};
 ghost use lib.Dec.{T};
+ghost use lib.ListN.{length};
 ghost use Rattle.model.specs.Job.{isChosen};
 ghost use Rattle.model.specs.Links.{pin, at, turn, around};
 ghost use Rattle.model.specs.Record.{jobOf, load, Legal};
@@ -60,32 +61,19 @@ pub fn first_hop(rec: &[u8], row: usize, column: usize) -> Hop
     Hop::End
 }
 
-// How many wires leave by each slot of an exit.
-fn departing(rec: &[u8], first: usize) -> [u8; 5]
-    requires { ⌜ Legal (now rec) × (first + 4 < 105024) ⌝ }
-    ensures { λ r. ⌜ r ≡ lanesOf (load (now (rec .entry))) first ⌝ }
+// How many wires come and leave by each slot of an exit.
+fn lanes_round(rec: &[u8], first: usize, come: &mut [u8; 5], leave: &mut [u8; 5])
+    requires { ⌜ Legal (now rec) × (first + 4 < 105024) × (length (now come) ≡ 5) × (length (now leave) ≡ 5) ⌝ }
+    ensures { λ _. ⌜ (now (come .exit) ≡ lanesOf (λ s. load (now (rec .entry)) (turn s)) first) × (now (leave .exit) ≡ lanesOf (load (now (rec .entry))) first) ⌝ }
 {
-    [
-        wires_out(rec, first),
-        wires_out(rec, first + 1),
-        wires_out(rec, first + 2),
-        wires_out(rec, first + 3),
-        wires_out(rec, first + 4),
-    ]
-}
-
-// How many come by each.
-fn arriving(rec: &[u8], first: usize) -> [u8; 5]
-    requires { ⌜ Legal (now rec) × (first + 4 < 105024) ⌝ }
-    ensures { λ r. ⌜ r ≡ lanesOf (λ s. load (now (rec .entry)) (turn s)) first ⌝ }
-{
-    [
-        wires_in(rec, first),
-        wires_in(rec, first + 1),
-        wires_in(rec, first + 2),
-        wires_in(rec, first + 3),
-        wires_in(rec, first + 4),
-    ]
+    let mut k: usize = 0;
+    while k < 5 {
+        let comes = wires_in(rec, first + k);
+        let leaves = wires_out(rec, first + k);
+        come[k] = comes;
+        leave[k] = leaves;
+        k += 1;
+    }
 }
 
 // The hop after a hop: at the place that the dart leads to, the partner of the lane by which the wire comes. `End` where it is outside.
@@ -98,8 +86,9 @@ pub fn next_hop(rec: &[u8], dart: usize, lane: usize) -> Hop
     }
     let back = step_back(dart);
     let first = back / 8 * 8;
-    let arrive = arriving(rec, first);
-    let depart = departing(rec, first);
+    let mut arrive = [0u8; 5];
+    let mut depart = [0u8; 5];
+    lanes_round(rec, first, &mut arrive, &mut depart);
     let p = partner(&arrive, &depart, back % 8, lane);
     let slot = p.slot;
     let on = p.lane;

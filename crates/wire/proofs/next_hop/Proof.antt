@@ -25,46 +25,43 @@ step-back-requires c κs = search (needs, darts-is)
 mul-first : tie.Need-mul-first
 mul-first c = search needs
 
-arriving-requires : tie.Need-arriving-requires
-arriving-requires c κs = search needs
-
-departing-requires : tie.Need-departing-requires
-departing-requires c κs = search needs
+lanes-round-requires : tie.Need-lanes-round-requires
+lanes-round-requires c κs = search needs
 
 partner-requires : tie.Need-partner-requires
 partner-requires c κs =
     let t = c .before .before in
-    let u = t .before .before .before in
+    let u = t .before .before .before .before in
     let s = u .before .before .before .before in (
       slot-five (s .args .rec .now) (s .pre .0) (s .args .dart) (s .args .lane) (s .pre .1) _ (u .before .before .head-of .ensures .0)
-          (sym (u .before .is-outside .ensures) ∙ u .if1 .left) _ (t .before .before .step-back .ensures .0),
+          (sym (u .before .is-outside .ensures) ∙ u .if1 .left) _ (t .before .before .before .step-back .ensures .0),
       lane-comes (s .args .rec .now) (s .pre .0) (s .args .dart) (s .args .lane) (s .pre .1) _ (u .before .before .head-of .ensures .0)
-          (sym (u .before .is-outside .ensures) ∙ u .if1 .left) _ (t .before .before .step-back .ensures .0)
-          _ _ (t .before .arriving .ensures) (t .departing .ensures),
-      ends-few (s .args .rec .now) (s .pre .0 .values) _ _ _ (t .before .arriving .ensures) (t .departing .ensures),
+          (sym (u .before .is-outside .ensures) ∙ u .if1 .left) _ (t .before .before .before .step-back .ensures .0)
+          _ _ (t .lanes-round .ensures .0) (t .lanes-round .ensures .1),
+      ends-few (s .args .rec .now) (s .pre .0 .values) _ _ _ (t .lanes-round .ensures .0) (t .lanes-round .ensures .1),
     )
 
 add-t12 : tie.Need-add-t12
 add-t12 c =
     let t = c .before .before .before in
-    let u = t .before .before .before in
+    let u = t .before .before .before .before in
     let s = u .before .before .before .before in
     omega (
       arith,
       answer-five (s .args .rec .now) (s .pre .0) (s .args .dart) (s .args .lane) (s .pre .1) _ (u .before .before .head-of .ensures .0)
-          (sym (u .before .is-outside .ensures) ∙ u .if1 .left) _ (t .before .before .step-back .ensures .0)
-          _ _ (t .before .arriving .ensures) (t .departing .ensures)
+          (sym (u .before .is-outside .ensures) ∙ u .if1 .left) _ (t .before .before .before .step-back .ensures .0)
+          _ _ (t .lanes-round .ensures .0) (t .lanes-round .ensures .1)
           _ _ (c .partner .ensures),
     )
 
 returns-2 : tie.Need-returns-2
 returns-2 c =
     let t = c .before .before .before in
-    let u = t .before .before .before in
+    let u = t .before .before .before .before in
     let s = u .before .before .before .before in
     goes-next (s .args .rec .now) (s .pre .0) (s .args .dart) (s .args .lane) (s .pre .1) _ (u .before .before .head-of .ensures .0)
-    (sym (u .before .is-outside .ensures) ∙ u .if1 .left) _ (t .before .before .step-back .ensures .0)
-    _ _ (t .before .arriving .ensures) (t .departing .ensures)
+    (sym (u .before .is-outside .ensures) ∙ u .if1 .left) _ (t .before .before .before .step-back .ensures .0)
+    _ _ (t .lanes-round .ensures .0) (t .lanes-round .ensures .1)
     _ _ (c .partner .ensures)
 
 pub next-hop-spec : {M : Type 1} → statement M
@@ -76,8 +73,7 @@ next-hop-spec =
     returns
     step-back-requires
     mul-first
-    arriving-requires
-    departing-requires
+    lanes-round-requires
     partner-requires
     add-t12
     returns-2)

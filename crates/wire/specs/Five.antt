@@ -1,0 +1,39 @@
+-- The lanes of the five slots of an exit: each by its number, and a list that is filled slot by slot. Assumes nothing.
+use mathlib.Core.Path.{_≡_, refl, sym, ap, _∙_}
+use mathlib.Core.Bool.{Bool, true, false}
+use mathlib.Core.List.{List}
+use Prim.Native.Nat.{ℕ, zero, suc, _+_, _≤_, _<_}
+use native.Mathlib.Omega.{arith}
+use lib.Dec.{eqb}
+use lib.ListN.{length, getD, set, length-set}
+use lib.Seq.{ext-getD, getD-set-same, getD-set-other}
+use borrow.Author.Tests.{eqb-true, eqb-false}
+use Rattle.model.specs.Links.{Step}
+use Rattle.wire.specs.Hops.{lanesAt, lanesOf}
+
+-- the k-th of them
+pub lanes-at : (f : Step → ℕ) (d k : ℕ) → k < 5 → getD (lanesOf f d) k 0 ≡ lanesAt f (d + k)
+lanes-at f d zero h = let e : d ≡ d + 0 = omega arith in ap (lanesAt f) e
+lanes-at f d (suc zero) h = refl
+lanes-at f d (suc (suc zero)) h = refl
+lanes-at f d (suc (suc (suc zero))) h = refl
+lanes-at f d (suc (suc (suc (suc zero)))) h = refl
+lanes-at f d (suc (suc (suc (suc (suc k))))) h = absurd (omega arith)
+
+-- the first k of five entries are those of the slots
+pub record Counted (f : Step → ℕ) (d : ℕ) (l : List ℕ) (k : ℕ) : Type 0 where
+  pub size : length l ≡ 5
+  pub each : (j : ℕ) → j < k → getD l j 0 ≡ lanesAt f (d + j)
+
+module _ (f : Step → ℕ) (d : ℕ) (l : List ℕ) (k : ℕ) where
+  pub counted-more : (n : ℕ) → k < 5 → n ≡ lanesAt f (d + k) → Counted f d l k → Counted f d (set l k n) (k + 1)
+  counted-more n h e c = record { size = length-set l k n ∙ c .size; each = λ j t. by j t (eqb j k) refl }
+    where
+      by : (j : ℕ) → j < k + 1 → (b : Bool) → eqb j k ≡ b → getD (set l k n) j 0 ≡ lanesAt f (d + j)
+      by j t true q =
+          let z = eqb-true j k q in
+          ap (λ (i : ℕ). getD (set l k n) i 0) z ∙ (getD-set-same l k n 0 (omega (arith, c .size)) ∙ (e ∙ ap (λ (i : ℕ). lanesAt f (d + i)) (sym z)))
+      by j t false q = let z = eqb-false j k q in getD-set-other l k j n 0 z ∙ c .each j (omega arith)
+
+  pub counted-all : 5 ≤ k → Counted f d l k → l ≡ lanesOf f d
+  counted-all h c = ext-getD 0 l (lanesOf f d) (c .size) (λ j t. c .each j (omega (arith, c .size)) ∙ sym (lanes-at f d j (omega (arith, c .size))))
