@@ -1,14 +1,19 @@
--- The lanes of the five slots of an exit: each by its number, and a list that is filled slot by slot. Assumes nothing.
+-- The lanes of the five slots of an exit: each by its number, by the word of its row, and a list that is filled slot by slot. Assumes nothing.
 use mathlib.Core.Path.{_≡_, refl, sym, ap, _∙_}
-use mathlib.Core.Bool.{Bool, true, false}
+use mathlib.Core.Logic.{_≢_}
+use mathlib.Core.Bool.{Bool, true, false, not}
 use mathlib.Core.List.{List}
-use Prim.Native.Nat.{ℕ, zero, suc, _+_, _≤_, _<_}
+use Prim.Native.Nat.{ℕ, zero, suc, _+_, _/_, _%_, _≤_, _<_}
 use native.Mathlib.Omega.{arith}
 use lib.Dec.{eqb}
 use lib.ListN.{length, getD, set, length-set}
 use lib.Seq.{ext-getD, getD-set-same, getD-set-other}
-use borrow.Author.Tests.{eqb-true, eqb-false}
-use Rattle.model.specs.Links.{Step}
+use borrow.Author.Tests.{eqb-true, eqb-false, eq-eqb, ne-eqb}
+use Rattle.model.specs.Links.{Step, turn}
+use Rattle.model.specs.Record.{load}
+use Rattle.channel.specs.Map.{placeOf, wayPart}
+use Rattle.channel.specs.Map.Entered.{link-wires, no-wires, against-wires}
+use Rattle.channel.specs.Map.Laden.{word-carries, word-along, word-against}
 use Rattle.wire.specs.Hops.{lanesAt, lanesOf}
 
 -- the k-th of them
@@ -25,6 +30,9 @@ pub record Counted (f : Step → ℕ) (d : ℕ) (l : List ℕ) (k : ℕ) : Type 
   pub size : length l ≡ 5
   pub each : (j : ℕ) → j < k → getD l j 0 ≡ lanesAt f (d + j)
 
+pub counted-start : (f : Step → ℕ) (d : ℕ) (l : List ℕ) → length l ≡ 5 → Counted f d l 0
+counted-start f d l e = record { size = e; each = λ j h. absurd (omega arith) }
+
 module _ (f : Step → ℕ) (d : ℕ) (l : List ℕ) (k : ℕ) where
   pub counted-more : (n : ℕ) → k < 5 → n ≡ lanesAt f (d + k) → Counted f d l k → Counted f d (set l k n) (k + 1)
   counted-more n h e c = record { size = length-set l k n ∙ c .size; each = λ j t. by j t (eqb j k) refl }
@@ -37,3 +45,17 @@ module _ (f : Step → ℕ) (d : ℕ) (l : List ℕ) (k : ℕ) where
 
   pub counted-all : 5 ≤ k → Counted f d l k → l ≡ lanesOf f d
   counted-all h c = ext-getD 0 l (lanesOf f d) (c .size) (λ j t. c .each j (omega (arith, c .size)) ∙ sym (lanes-at f d j (omega (arith, c .size))))
+
+-- ---- by the word of a row
+
+module _ (rec : List ℕ) (w : ℕ) (link : w ≢ 1) (d : ℕ) (row : placeOf (d % 64) ≡ w) where
+  pub word-none : w ≡ 0 → (0 ≡ lanesAt (λ s. load rec (turn s)) d) × (0 ≡ lanesAt (load rec) d)
+  word-none z =
+      let c = word-carries (d % 64) w row link ∙ ap not (eq-eqb w 0 z) in
+      (no-wires d 0 _ c, no-wires d 0 _ c)
+
+  pub word-lanes : (x : ℕ) → d / 64 ≡ x → w ≢ 0 → 41 ≤ x → x < 1600 → (b : ℕ) → b ≡ getD rec (w / 2 + x) 0 → (m n : ℕ) → m ≡ wayPart (not (eqb (w % 2) 0)) b
+      → n ≡ wayPart (eqb (w % 2) 0) b → (m ≡ lanesAt (λ s. load rec (turn s)) d) × (n ≡ lanesAt (load rec) d)
+  word-lanes x h z l g b q m n e f =
+      let c = word-carries (d % 64) w row link ∙ ap not (ne-eqb w 0 z) in
+      (against-wires rec d m c (e ∙ word-against rec d w row x h z link l g b q), link-wires d n _ c (f ∙ word-along rec d w row x h z link l g b q))

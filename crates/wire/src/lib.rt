@@ -1,24 +1,24 @@
 // The wire of a pin, followed hop by hop: a hop is a dart along a link and the lane on it. Callers have audited the record.
 ghost use mathlib.Core.Path.{_≡_};
 ghost use mathlib.Core.Option.{some};
-ghost use Prim.Native.Nat.{_+_, _<_};
 ghost use lib.Dec.{T};
-ghost use lib.ListN.{length};
 ghost use Rattle.model.specs.Job.{isChosen};
-ghost use Rattle.model.specs.Links.{pin, at, turn, around};
+ghost use Rattle.model.specs.Links.{pin, at, around};
 ghost use Rattle.model.specs.Record.{jobOf, load, Legal};
 ghost use Rattle.model.specs.Wires.{firstLoaded, onward, partOf, partAt};
-ghost use Rattle.wire.specs.Hops.{hop, Runs, Takes, lanesOf, asPart};
+ghost use Rattle.wire.specs.Hops.{hop, Runs, Takes, asPart};
 ghost use Rattle.wire.specs.Lengths.{Hops};
+use crate::lanes::lanes_round;
 use channel::head_of;
 use channel::is_outside;
 use channel::places::column_of;
 use channel::places::pin_exit;
 use channel::places::row_of;
 use channel::places::step_back;
-use channel::places::wires_in;
 use channel::places::wires_out;
 use pairing::partner;
+
+pub mod lanes; // how many wires come and leave by the slots of an exit
 
 // The next hop of a wire.
 pub enum Hop {
@@ -61,21 +61,6 @@ pub fn first_hop(rec: &[u8], row: usize, column: usize) -> Hop
     Hop::End
 }
 
-// How many wires come and leave by each slot of an exit.
-fn lanes_round(rec: &[u8], first: usize, come: &mut [u8; 5], leave: &mut [u8; 5])
-    requires { ⌜ Legal (now rec) × (first + 4 < 105024) × (length (now come) ≡ 5) × (length (now leave) ≡ 5) ⌝ }
-    ensures { λ _. ⌜ (now (come .exit) ≡ lanesOf (λ s. load (now (rec .entry)) (turn s)) first) × (now (leave .exit) ≡ lanesOf (load (now (rec .entry))) first) ⌝ }
-{
-    let mut k: usize = 0;
-    while k < 5 {
-        let comes = wires_in(rec, first + k);
-        let leaves = wires_out(rec, first + k);
-        come[k] = comes;
-        leave[k] = leaves;
-        k += 1;
-    }
-}
-
 // The hop after a hop: at the place that the dart leads to, the partner of the lane by which the wire comes. `End` where it is outside.
 pub fn next_hop(rec: &[u8], dart: usize, lane: usize) -> Hop
     requires { ⌜ Legal (now rec) × Runs (now rec) dart lane ⌝ }
@@ -85,10 +70,11 @@ pub fn next_hop(rec: &[u8], dart: usize, lane: usize) -> Hop
         return Hop::End;
     }
     let back = step_back(dart);
-    let first = back / 8 * 8;
+    let u = back / 8;
+    let first = u * 8;
     let mut arrive = [0u8; 5];
     let mut depart = [0u8; 5];
-    lanes_round(rec, first, &mut arrive, &mut depart);
+    lanes_round(rec, u, &mut arrive, &mut depart);
     let p = partner(&arrive, &depart, back % 8, lane);
     let slot = p.slot;
     let on = p.lane;

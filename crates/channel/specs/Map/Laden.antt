@@ -5,7 +5,7 @@ use mathlib.Core.Bool.{Bool, true, false, not, _&&_, _||_}
 use mathlib.Core.List.{List}
 use Prim.Native.Nat.{ℕ, zero, suc, _+_, _*_, _/_, _%_, _^_, _≤_, _<_}
 use native.Mathlib.Omega.{arith}
-use borrow.Author.Tests.{eqb-false, lt-ltb}
+use borrow.Author.Tests.{eqb-false, eq-eqb, ne-eqb, lt-ltb}
 use lib.Dec.{T, eqb, eqb·suc-zero, ltb, ltb→lt, lt→ltb}
 use lib.ListN.{getD}
 use Rattle.sums.specs.Counting.{when}
@@ -59,6 +59,18 @@ row? i l = by (carries (codeOf i)) refl (isPassage (codeOf i)) refl
         subst (Row i) q (along e)
     by false e true f = passage
     by false e false f = nothing e f
+
+-- a row carries the load of a link where its word is neither 0 nor 1
+pub word-carries : (i w : ℕ) → placeOf i ≡ w → w ≢ 1 → carries (codeOf i) ≡ not (eqb w 0)
+unfolding placeOf
+word-carries i w e n = by (carries (codeOf i)) (isPassage (codeOf i)) e
+  where
+    by : (a b : Bool) → when a (2 * (3927 + 1600 * kindOf i + ownerOf i) + signOf i) + when b 1 ≡ w → a ≡ not (eqb w 0)
+    by true b q =
+        let p : 2 * (3927 + 1600 * kindOf i + ownerOf i) + signOf i + when b 1 ≡ w = q in
+        sym (ap not (ne-eqb w 0 (λ z. absurd (omega arith))))
+    by false true q = let p : 0 + 1 ≡ w = q in absurd (n (omega arith))
+    by false false q = let p : 0 + 0 ≡ w = q in sym (ap not (eq-eqb w 0 (omega arith)))
 
 pub place-bound : (i : ℕ) → i < 64 → placeOf i < 53000
 unfolding below placeOf carries isPassage codes codeOf links kindOf owners ownerOf signs signOf

@@ -41,8 +41,8 @@ partner-requires c κs =
       ends-few (s .args .rec .now) (s .pre .0 .values) _ _ _ (t .lanes-round .ensures .0) (t .lanes-round .ensures .1),
     )
 
-add-t12 : tie.Need-add-t12
-add-t12 c =
+add-t13 : tie.Need-add-t13
+add-t13 c =
     let t = c .before .before .before in
     let u = t .before .before .before .before in
     let s = u .before .before .before .before in
@@ -75,5 +75,5 @@ next-hop-spec =
     mul-first
     lanes-round-requires
     partner-requires
-    add-t12
+    add-t13
     returns-2)
