@@ -30,11 +30,8 @@ pub record Counted (f : Step → ℕ) (d : ℕ) (l : List ℕ) (k : ℕ) : Type 
   pub size : length l ≡ 5
   pub each : (j : ℕ) → j < k → getD l j 0 ≡ lanesAt f (d + j)
 
-pub counted-start : (f : Step → ℕ) (d : ℕ) (l : List ℕ) → length l ≡ 5 → Counted f d l 0
-counted-start f d l e = record { size = e; each = λ j h. absurd (omega arith) }
-
 module _ (f : Step → ℕ) (d : ℕ) (l : List ℕ) (k : ℕ) where
-  pub counted-more : (n : ℕ) → k < 5 → n ≡ lanesAt f (d + k) → Counted f d l k → Counted f d (set l k n) (k + 1)
+  counted-more : (n : ℕ) → k < 5 → n ≡ lanesAt f (d + k) → Counted f d l k → Counted f d (set l k n) (k + 1)
   counted-more n h e c = record { size = length-set l k n ∙ c .size; each = λ j t. by j t (eqb j k) refl }
     where
       by : (j : ℕ) → j < k + 1 → (b : Bool) → eqb j k ≡ b → getD (set l k n) j 0 ≡ lanesAt f (d + j)
@@ -43,8 +40,36 @@ module _ (f : Step → ℕ) (d : ℕ) (l : List ℕ) (k : ℕ) where
           ap (λ (i : ℕ). getD (set l k n) i 0) z ∙ (getD-set-same l k n 0 (omega (arith, c .size)) ∙ (e ∙ ap (λ (i : ℕ). lanesAt f (d + i)) (sym z)))
       by j t false q = let z = eqb-false j k q in getD-set-other l k j n 0 z ∙ c .each j (omega arith)
 
-  pub counted-all : 5 ≤ k → Counted f d l k → l ≡ lanesOf f d
+  counted-all : 5 ≤ k → Counted f d l k → l ≡ lanesOf f d
   counted-all h c = ext-getD 0 l (lanesOf f d) (c .size) (λ j t. c .each j (omega (arith, c .size)) ∙ sym (lanes-at f d j (omega (arith, c .size))))
+
+-- the lanes that come and those that leave
+pub record Read (rec : List ℕ) (d : ℕ) (come leave : List ℕ) (k : ℕ) : Type 0 where
+  pub within : k ≤ 5
+  pub comes : Counted (λ s. load rec (turn s)) d come k
+  pub leaves : Counted (load rec) d leave k
+
+module _ (rec : List ℕ) (d : ℕ) (come leave : List ℕ) where
+  pub read-start : length come ≡ 5 → length leave ≡ 5 → Read rec d come leave 0
+  read-start e f =
+      record {
+        within = omega arith;
+        comes = record { size = e; each = λ j h. absurd (omega arith) };
+        leaves = record { size = f; each = λ j h. absurd (omega arith) };
+      }
+
+  module _ (k : ℕ) (r : Read rec d come leave k) where
+    pub read-more : (m n : ℕ) → k < 5 → m ≡ lanesAt (λ s. load rec (turn s)) (d + k) → n ≡ lanesAt (load rec) (d + k)
+        → Read rec d (set come k m) (set leave k n) (k + 1)
+    read-more m n h e f =
+        record {
+          within = omega arith;
+          comes = counted-more (λ s. load rec (turn s)) d come k m h e (r .comes);
+          leaves = counted-more (load rec) d leave k n h f (r .leaves);
+        }
+
+    pub read-all : 5 ≤ k → (come ≡ lanesOf (λ s. load rec (turn s)) d) × (leave ≡ lanesOf (load rec) d)
+    read-all h = (counted-all (λ s. load rec (turn s)) d come k h (r .comes), counted-all (load rec) d leave k h (r .leaves))
 
 -- ---- by the word of a row
 

@@ -1,26 +1,18 @@
 -- `lanes::anywhere` meets its contract. The loop's invariant: the first k entries of both are those of the slots. Assumes nothing.
-use mathlib.Core.Path.{_≡_}
-use Prim.Native.Nat.{_*_, _-_, _≤_}
+use Prim.Native.Nat.{_*_, _-_}
 use native.Mathlib.Omega.{arith}
-use denote.Ref.{now}
-use borrow.Author.Needs.{needs}
-use Rattle.model.specs.Links.{turn}
-use Rattle.model.specs.Record.{load}
-use Rattle.wire.specs.Five.{Counted, counted-start, counted-more, counted-all}
+use Rattle.wire.specs.Five.{Read, read-start, read-more, read-all}
 use Rattle.wire.proofs.lanes.anywhere.Statement.{statement}
 use Rattle.wire.proofs.lanes.anywhere.Tie as tie
 
 abbrev Inv-loop : tie.InvT-loop
-Inv-loop rec u come₀ leave₀ k₀ come leave k =
-    (k ≤ 5) × Counted (λ s. load rec (turn s)) (u * 8) come k × Counted (load rec) (u * 8) leave k
+Inv-loop rec u come₀ leave₀ k₀ come leave k = Read rec (u * 8) come leave k
 
 abbrev μ-loop : tie.MeasureT-loop
 μ-loop rec u come₀ leave₀ k₀ come leave k = 5 - k
 
 loop-holds : tie.Need-loop-holds Inv-loop μ-loop
-loop-holds c =
-    let s = c .before in
-    (omega arith, counted-start (λ x. load (now (s .args .rec)) (turn x)) (s .args .u * 8) _ (s .pre .2), counted-start (load (now (s .args .rec))) (s .args .u * 8) _ (s .pre .3))
+loop-holds c = read-start _ _ _ _ (c .before .pre .2) (c .before .pre .3)
 
 mul-wires-in : tie.Need-mul-wires-in Inv-loop μ-loop
 mul-wires-in c = omega arith
@@ -54,20 +46,13 @@ loop-less c = omega arith
 
 loop-again : tie.Need-loop-again Inv-loop μ-loop
 loop-again c =
-    let s = c .before .before .before .before .before in
-    let l = c .before .before .before .loop in (
-      omega arith,
-      counted-more (λ x. load (now (s .args .rec)) (turn x)) (s .args .u * 8) (l .come) (l .k) _ (omega arith) (c .before .wires-in .ensures) (l .inv .1),
-      counted-more (load (now (s .args .rec))) (s .args .u * 8) (l .leave) (l .k) _ (omega arith) (c .wires-out .ensures) (l .inv .2),
-    )
+    let l = c .before .before .before .loop in
+    read-more _ _ (l .come) (l .leave) (l .k) (l .inv) _ _ (omega arith) (c .before .wires-in .ensures) (c .wires-out .ensures)
 
 returns : tie.Need-returns Inv-loop μ-loop
 returns c =
-    let s = c .before .before .before in
-    let l = c .before .loop in (
-      counted-all (λ x. load (now (s .args .rec)) (turn x)) (s .args .u * 8) (l .come) (l .k) (omega arith) (l .inv .1),
-      counted-all (load (now (s .args .rec))) (s .args .u * 8) (l .leave) (l .k) (omega arith) (l .inv .2),
-    )
+    let l = c .before .loop in
+    read-all _ _ (l .come) (l .leave) (l .k) (l .inv) (omega arith)
 
 pub anywhere-spec : {M : Type 1} → statement M
 anywhere-spec =

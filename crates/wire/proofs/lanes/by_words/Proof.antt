@@ -1,27 +1,20 @@
 -- `lanes::by_words` meets its contract. The loop's invariant: the first k entries of both are those of the slots. Assumes nothing.
 use mathlib.Core.Path.{_≡_, sym, ap, _∙_}
-use Prim.Native.Nat.{ℕ, _+_, _*_, _-_, _/_, _%_, _≤_}
+use Prim.Native.Nat.{ℕ, _+_, _*_, _-_, _/_, _%_}
 use native.Mathlib.Omega.{arith}
-use denote.Ref.{now}
-use borrow.Author.Needs.{needs}
-use Rattle.model.specs.Links.{turn}
-use Rattle.model.specs.Record.{load}
 use Rattle.channel.specs.Map.{placeOf}
-use Rattle.wire.specs.Five.{Counted, counted-start, counted-more, counted-all}
+use Rattle.wire.specs.Five.{Read, read-start, read-more, read-all}
 use Rattle.wire.proofs.lanes.by_words.Statement.{statement}
 use Rattle.wire.proofs.lanes.by_words.Tie as tie
 
 abbrev Inv-loop : tie.InvT-loop
-Inv-loop rec w last u come₀ leave₀ k₀ come leave k =
-    (k ≤ 5) × Counted (λ s. load rec (turn s)) (u * 8) come k × Counted (load rec) (u * 8) leave k
+Inv-loop rec w last u come₀ leave₀ k₀ come leave k = Read rec (u * 8) come leave k
 
 abbrev μ-loop : tie.MeasureT-loop
 μ-loop rec w last u come₀ leave₀ k₀ come leave k = 5 - k
 
 loop-holds : tie.Need-loop-holds Inv-loop μ-loop
-loop-holds c =
-    let s = c .before in
-    (omega arith, counted-start (λ x. load (now (s .args .rec)) (turn x)) (s .args .u * 8) _ (s .pre .4), counted-start (load (now (s .args .rec))) (s .args .u * 8) _ (s .pre .5))
+loop-holds c = read-start _ _ _ _ (c .before .pre .4) (c .before .pre .5)
 
 word-at-requires : tie.Need-word-at-requires Inv-loop μ-loop
 word-at-requires c κs = omega arith
@@ -49,22 +42,16 @@ loop-again c =
     let s = c .before .before .before .before .before in
     let l = c .before .before .before .loop in
     let d = s .args .u * 8 + l .k in
-    let (e, b, n) = c .before .word-at .ensures (s .args .u % 8) (omega arith) (s .pre .3) in
     let q : d % 64 ≡ 8 * (s .args .u % 8) + l .k = omega arith in
     let h : d / 64 ≡ s .args .u / 8 = omega arith in
-    let (i, o) = c .by-word .ensures d h (ap placeOf q ∙ sym e) in (
-      omega arith,
-      counted-more (λ x. load (now (s .args .rec)) (turn x)) (s .args .u * 8) (l .come) (l .k) _ (omega arith) i (l .inv .1),
-      counted-more (load (now (s .args .rec))) (s .args .u * 8) (l .leave) (l .k) _ (omega arith) o (l .inv .2),
-    )
+    let (e, b, n) = c .before .word-at .ensures (s .args .u % 8) (omega arith) (s .pre .3) in
+    let (i, o) = c .by-word .ensures d h (ap placeOf q ∙ sym e) in
+    read-more _ _ (l .come) (l .leave) (l .k) (l .inv) _ _ (omega arith) i o
 
 returns : tie.Need-returns Inv-loop μ-loop
 returns c =
-    let s = c .before .before .before in
-    let l = c .before .loop in (
-      counted-all (λ x. load (now (s .args .rec)) (turn x)) (s .args .u * 8) (l .come) (l .k) (omega arith) (l .inv .1),
-      counted-all (load (now (s .args .rec))) (s .args .u * 8) (l .leave) (l .k) (omega arith) (l .inv .2),
-    )
+    let l = c .before .loop in
+    read-all _ _ (l .come) (l .leave) (l .k) (l .inv) (omega arith)
 
 pub by-words-spec : {M : Type 1} → statement M
 by-words-spec =
