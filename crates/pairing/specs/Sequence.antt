@@ -7,13 +7,17 @@ use native.Mathlib.Omega.{arith}
 use lib.Dec.{eqb, ltb}
 use lib.ListN.{length, getD, set, replicate}
 use lib.Seq.{getD-set-same, getD-set-other}
-use borrow.Author.Tests.{ltb-true, ltb-false, eqb-true, eqb-false}
+use borrow.Author.Tests.{lt-ltb, le-ltb, ltb-true, ltb-false, eqb-true, eqb-false}
 use Rattle.model.specs.Pairing.{Pair}
 use Rattle.pairing.specs.Slots.{start, arrivalPos, departurePos, arrivesAt, arrival-kind, departure-kind, past-kind}
 
 -- the end of the lane i of slot k, which arrives where b is 1 and departs where it is 0
 abbrev pub endOf : ℕ → ℕ → ℕ → ℕ
 endOf k i b = 512 * k + 2 * i + b
+
+-- the i-th end of the link of slot k on which m lanes arrive
+abbrev pub linkEnd : ℕ → ℕ → ℕ → ℕ
+linkEnd k m i = elim (ltb i m) [ true ↦ endOf k (m - 1 - i) 1 | false ↦ endOf k (i - m) 0 ]
 
 abbrev pub slotOf : ℕ → ℕ
 slotOf e = e / 512
@@ -62,6 +66,24 @@ end-kind a d p e (arrives k i h l s q g) =
 end-kind a d p e (departs k i h l s q g) =
     let z : e % 2 ≡ 0 = omega arith in
     ap (λ (x : ℕ). eqb x 1) z ∙ sym (ap (arrivesAt a d 5) q ∙ departure-kind a d k 5 i h l)
+
+module _ (k m i : ℕ) where
+  abbrev either : Bool → ℕ
+  either b = elim b [ true ↦ endOf k (m - 1 - i) 1 | false ↦ endOf k (i - m) 0 ]
+
+  pub link-arrives : i < m → endOf k (m - 1 - i) 1 ≡ linkEnd k m i
+  link-arrives h = ap either (sym (lt-ltb i m h))
+
+  pub link-departs : m ≤ i → endOf k (i - m) 0 ≡ linkEnd k m i
+  link-departs h = ap either (sym (le-ltb i m h))
+
+-- the ends of a link stand from where it starts
+pub link-end : (a d : ℕ → ℕ) (k p m i e : ℕ) → p ≡ start a d k → m ≡ a k → k < 5 → i < m + d k → m < 256 → d k < 256 → e ≡ linkEnd k m i → EndAt a d (p + i) e
+link-end a d k p m i e s c h l g f q = by (ltb i m) refl q
+  where
+    by : (b : Bool) → ltb i m ≡ b → e ≡ either k m i b → EndAt a d (p + i) e
+    by true t q = let u = ltb-true i m t in arrives k (m - 1 - i) h (omega arith) (omega arith) (omega arith) q
+    by false t q = let u = ltb-false i m t in departs k (i - m) h (omega arith) (omega arith) (omega arith) q
 
 -- one end more
 pub lay-more : (a d : ℕ → ℕ) (n m e : ℕ) (l : List ℕ) → m ≡ n + 1 → n < length l → Laid a d n l → EndAt a d n e → Laid a d m (set l n e)

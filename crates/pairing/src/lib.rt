@@ -4,13 +4,13 @@
 ghost use mathlib.Core.Path.{_≡_};
 ghost use mathlib.Core.List.{_++_};
 ghost use mathlib.Core.Option.{none};
-ghost use Prim.Native.Nat.{ℕ, _+_, _*_, _-_, _≤_, _<_};
+ghost use Prim.Native.Nat.{_+_, _*_, _-_, _≤_, _<_};
 ghost use lib.ListN.{length, take, getD};
 ghost use Rattle.sums.specs.Counting.{sum};
 ghost use Rattle.model.specs.Pairing.{range, strike, pairsOf, partnerIn};
 ghost use Rattle.pairing.specs.Perfect.{Even};
 ghost use Rattle.pairing.specs.Slots.{start};
-ghost use Rattle.pairing.specs.Sequence.{endOf, slotOf, laneOf, arriving, zipped, Blank, Laid, Differs};
+ghost use Rattle.pairing.specs.Sequence.{endOf, linkEnd, slotOf, laneOf, arriving, zipped, Blank, Laid, Differs};
 ghost use Rattle.pairing.specs.Struck.{asStruck, Below, Resumes};
 ghost use Rattle.pairing.specs.Answer.{lanes, Partner};
 
@@ -70,7 +70,18 @@ fn end(slot: usize, lane: usize, arrives: usize) -> u16
     (512 * slot + 2 * lane + arrives) as u16
 }
 
-// Lays the ends of the link of a slot from a position on: arriving lanes in falling order, then departing ones in rising order. Gives the next position.
+// The i-th end of the link of a slot on which `come` lanes arrive: arriving lanes in falling order, then departing ones in rising order.
+fn link_end(slot: usize, come: usize, i: usize) -> u16
+    requires { ⌜ (slot < 5) × (come < 256) × (i < come + 256) ⌝ }
+    ensures { λ r. ⌜ r ≡ linkEnd slot come i ⌝ }
+{
+    if i < come {
+        return end(slot, come - 1 - i, 1);
+    }
+    end(slot, i - come, 0)
+}
+
+// Lays the ends of the link of a slot from a position on. Gives the next position.
 fn lay_link(arrive: &[u8; 5], depart: &[u8; 5], slot: usize, from: usize, ends: &mut [u16]) -> usize
     requires { do ⌜ (slot < 5) × (from ≡ start (lanes (now arrive)) (lanes (now depart)) slot) × (155 ≤ (← ⟦ends.len()⟧)) ⌝ }
     requires { ⌜ (start (lanes (now arrive)) (lanes (now depart)) 5 ≤ 155) × Laid (lanes (now arrive)) (lanes (now depart)) from (now ends) ⌝ }
@@ -81,13 +92,8 @@ fn lay_link(arrive: &[u8; 5], depart: &[u8; 5], slot: usize, from: usize, ends: 
     let all = come + lanes_at(depart, slot);
     let mut i: usize = 0;
     while i < all {
-        if i < come {
-            ends[from + i] = end(slot, come - 1 - i, 1);
-            i += 1;
-        } else {
-            ends[from + i] = end(slot, i - come, 0);
-            i += 1;
-        }
+        ends[from + i] = link_end(slot, come, i);
+        i += 1;
     }
     from + all
 }

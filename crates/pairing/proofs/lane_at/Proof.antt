@@ -1,6 +1,5 @@
 -- `pairing::lane_at` meets its contract: it takes the number of the end apart, and past the last end that is 0. Assumes nothing.
 use mathlib.Core.Path.{sym, ap}
-use Prim.Native.Nat.{ℕ}
 use native.Mathlib.Omega.{arith}
 use lib.ListN.{List·getD-eq-default}
 use denote.Ref.{now}

@@ -1,5 +1,5 @@
 -- `pairing::lay_link` meets its contract. The loop's invariant: the first i ends of the link are laid, and no other. Assumes nothing.
-use mathlib.Core.Path.{_≡_, refl, sym, ap, subst, _∙_}
+use mathlib.Core.Path.{_≡_, refl, ap, subst, _∙_}
 use Prim.Native.Nat.{ℕ, _+_, _-_, _≤_}
 use native.Mathlib.Omega.{arith}
 use native.Mathlib.Numerals.{add-one}
@@ -9,7 +9,7 @@ use borrow.Author.Needs.{needs}
 use Rattle.sums.specs.Counting.{sum}
 use Rattle.pairing.specs.Answer.{lanes}
 use Rattle.pairing.specs.Slots.{start, start-later}
-use Rattle.pairing.specs.Sequence.{arrives, departs, Laid, lay-more}
+use Rattle.pairing.specs.Sequence.{Laid, link-end, lay-more}
 use Rattle.pairing.proofs.lay_link.Statement.{statement}
 use Rattle.pairing.proofs.lay_link.Tie as tie
 
@@ -35,28 +35,22 @@ loop-holds c =
     let e : a .from ≡ a .from + 0 = omega arith in
     (omega arith, refl, subst (λ (k : ℕ). Laid (lanes (a .arrive .now)) (lanes (a .depart .now)) k (now (a .ends))) e (c .before .before .before .pre .1 .1))
 
-sub-end : tie.Need-sub-end Inv-loop μ-loop
-sub-end c = omega arith
-
-sub-end-2 : tie.Need-sub-end-2 Inv-loop μ-loop
-sub-end-2 c = omega arith
-
-end-requires : tie.Need-end-requires Inv-loop μ-loop
-end-requires c κs = (omega arith, omega arith, omega arith)
+link-end-requires : tie.Need-link-end-requires Inv-loop μ-loop
+link-end-requires c κs = (omega arith, omega arith, omega arith)
 
 add-ends : tie.Need-add-ends Inv-loop μ-loop
 add-ends c =
-    let s = c .before .before .before .before .before .before .before in
+    let s = c .before .before .before .before .before .before in
     omega (arith, start-later (lanes (s .args .arrive .now)) (lanes (s .args .depart .now)) (s .args .slot) 5 (omega arith))
 
 mul-ends : tie.Need-mul-ends Inv-loop μ-loop
 mul-ends c =
-    let s = c .before .before .before .before .before .before .before in
+    let s = c .before .before .before .before .before .before in
     omega (arith, start-later (lanes (s .args .arrive .now)) (lanes (s .args .depart .now)) (s .args .slot) 5 (omega arith))
 
 slice-write-ends : tie.Need-slice-write-ends Inv-loop μ-loop
 slice-write-ends c =
-    let s = c .before .before .before .before .before .before .before in
+    let s = c .before .before .before .before .before .before in
     omega (arith, start-later (lanes (s .args .arrive .now)) (lanes (s .args .depart .now)) (s .args .slot) 5 (omega arith))
 
 add-i : tie.Need-add-i Inv-loop μ-loop
@@ -67,52 +61,16 @@ loop-less c = omega arith
 
 loop-again : tie.Need-loop-again Inv-loop μ-loop
 loop-again c =
-    let s = c .before .before .before .before .before .before .before in
-    let l = c .before .before .before .loop in
+    let s = c .before .before .before .before .before .before in
+    let l = c .before .before .loop in
     let a = lanes (s .args .arrive .now) in
     let d = lanes (s .args .depart .now) in
     let k = s .args .slot in (
       omega arith,
       length-set (l .ends) (s .args .from + l .i) _ ∙ l .inv .1,
       lay-more a d (s .args .from + l .i) _ _ (l .ends) (omega arith) (omega (arith, start-later a d k 5 (omega arith))) (l .inv .2)
-          (arrives k (a k - 1 - l .i) (omega arith) (omega arith) (omega arith) (omega arith) (omega (arith, c .end .ensures))),
-    )
-
-end-requires-2 : tie.Need-end-requires-2 Inv-loop μ-loop
-end-requires-2 c κs = (omega arith, omega arith, omega arith)
-
-add-ends-2 : tie.Need-add-ends-2 Inv-loop μ-loop
-add-ends-2 c =
-    let s = c .before .before .before .before .before .before .before in
-    omega (arith, start-later (lanes (s .args .arrive .now)) (lanes (s .args .depart .now)) (s .args .slot) 5 (omega arith))
-
-mul-ends-2 : tie.Need-mul-ends-2 Inv-loop μ-loop
-mul-ends-2 c =
-    let s = c .before .before .before .before .before .before .before in
-    omega (arith, start-later (lanes (s .args .arrive .now)) (lanes (s .args .depart .now)) (s .args .slot) 5 (omega arith))
-
-slice-write-ends-2 : tie.Need-slice-write-ends-2 Inv-loop μ-loop
-slice-write-ends-2 c =
-    let s = c .before .before .before .before .before .before .before in
-    omega (arith, start-later (lanes (s .args .arrive .now)) (lanes (s .args .depart .now)) (s .args .slot) 5 (omega arith))
-
-add-i-2 : tie.Need-add-i-2 Inv-loop μ-loop
-add-i-2 c = omega arith
-
-loop-less-2 : tie.Need-loop-less-2 Inv-loop μ-loop
-loop-less-2 c = omega arith
-
-loop-again-2 : tie.Need-loop-again-2 Inv-loop μ-loop
-loop-again-2 c =
-    let s = c .before .before .before .before .before .before .before in
-    let l = c .before .before .before .loop in
-    let a = lanes (s .args .arrive .now) in
-    let d = lanes (s .args .depart .now) in
-    let k = s .args .slot in (
-      omega arith,
-      length-set (l .ends) (s .args .from + l .i) _ ∙ l .inv .1,
-      lay-more a d (s .args .from + l .i) _ _ (l .ends) (omega arith) (omega (arith, start-later a d k 5 (omega arith))) (l .inv .2)
-          (departs k (l .i - a k) (omega arith) (omega arith) (omega arith) (omega arith) (omega (arith, c .end2 .ensures))),
+          (link-end a d k (s .args .from) (c .before .before .before .before .lanes-at .result) (l .i) _ (omega arith) (omega arith) (omega arith) (omega arith) (omega arith) (omega arith)
+          (c .link-end .ensures)),
     )
 
 add-result : tie.Need-add-result Inv-loop μ-loop
@@ -145,22 +103,13 @@ lay-link-spec =
     lanes-at-requires-2
     add-all
     loop-holds
-    sub-end
-    sub-end-2
-    end-requires
+    link-end-requires
     add-ends
     mul-ends
     slice-write-ends
     add-i
     loop-less
     loop-again
-    end-requires-2
-    add-ends-2
-    mul-ends-2
-    slice-write-ends-2
-    add-i-2
-    loop-less-2
-    loop-again-2
     add-result
     same-length
     returns)

@@ -1,12 +1,11 @@
 -- `pairing::round` meets its contract. The loop's invariant: what is left is what was left at first, and no arrival and departure are neighbours among the
 -- first i of it. Assumes nothing.
-use mathlib.Core.Path.{_≡_, refl, sym, ap, _∙_}
+use mathlib.Core.Path.{_≡_, refl, ap, _∙_}
 use mathlib.Core.Option.{none}
-use Prim.Native.Nat.{ℕ, _+_, _-_, _≤_}
+use Prim.Native.Nat.{_+_, _-_, _≤_}
 use native.Mathlib.Omega.{arith}
 use denote.Ref.{now}
 use lib.ListN.{length, take, length-set}
-use borrow.Author.Needs.{needs}
 use Rattle.model.specs.Pairing.{strike}
 use Rattle.pairing.specs.Sequence.{arriving}
 use Rattle.pairing.specs.Struck.{remaining, Below, below-more, plain-before, plain-more, remaining-more, round-joined, round-over}

@@ -1,6 +1,6 @@
 -- `lanes::by_words` meets its contract. The loop's invariant: the first k entries of both are those of the slots. Assumes nothing.
 use mathlib.Core.Path.{_≡_, sym, ap, _∙_}
-use Prim.Native.Nat.{ℕ, _+_, _*_, _-_, _/_, _%_}
+use Prim.Native.Nat.{_+_, _*_, _-_, _/_, _%_}
 use native.Mathlib.Omega.{arith}
 use Rattle.channel.specs.Map.{placeOf}
 use Rattle.wire.specs.Five.{Read, read-start, read-more, read-all}
