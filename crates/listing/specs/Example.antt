@@ -17,10 +17,11 @@ use Rattle.model.specs.Loads.{departures}
 use Rattle.model.specs.Wires.{fallingEnds, endsOn, arrivalAt, leaving, firstLoaded, hopAt, isWired, wireCount, out, partAt}
 use Rattle.model.specs.Examples.{jobShut, jobMissing}
 use Rattle.model.proofs.FourPins.{job22, loads22, sound22}
-use Rattle.listing.specs.Lines.{decimal, close, line, pairLine, spread, row, column}
+use Rattle.model.specs.Listing.{tens, decimal, close, line, pairLine, spread, row, column}
 use Rattle.model.specs.Near.{spot}
 use Rattle.listing.specs.Near.{nearWord, pinWord, entryWord, exitWord, shortWord, nearLine, chosenLine, missingLines, sideLines, centreLines, groupLines, shortListing, refusedListing}
-use Rattle.listing.specs.Wires.{wireWord, partBytes, partsBytes, wireLine, wiresLine}
+use Rattle.model.specs.Listing.{wireWord, partBytes, partsBytes, wireLine, wiresLine}
+use Rattle.listing.specs.Spread.{spread-none}
 use Rattle.listing.specs.Walked.{parts-end}
 
 -- ---- four pins
@@ -64,7 +65,7 @@ pub lines22 :
     (wiresLine job22 loads22 ≡ first22)
     × (wireLine job22 loads22 0 0 ≡ line00) × (wireLine job22 loads22 0 1 ≡ line01)
     × (wireLine job22 loads22 1 0 ≡ line10) × (wireLine job22 loads22 1 1 ≡ line11)
-unfolding decimal partsBytes partAt hopAt leaving firstLoaded arrivalAt endsOn fallingEnds each isWired wireCount departures total places those
+unfolding decimal tens partsBytes partAt hopAt leaving firstLoaded arrivalAt endsOn fallingEnds each isWired wireCount departures total places those
     isChosen isMissing isOpen head aheadOf behindOf
 lines22 = (refl, two-parts 0 0 line00 refl refl, two-parts 0 1 line01 refl refl, two-parts 1 0 line10 refl refl, two-parts 1 1 line11 refl refl)
 
@@ -72,7 +73,7 @@ lines22 = (refl, two-parts 0 0 line00 refl refl, two-parts 0 1 line01 refl refl,
 
 -- " (out p 0)"
 pub direct-part : partBytes (out pin 0) ≡ 32 ∷ 40 ∷ 111 ∷ 117 ∷ 116 ∷ 32 ∷ 112 ∷ 32 ∷ 48 ∷ 41 ∷ []
-unfolding decimal
+unfolding decimal tens
 direct-part = refl
 
 -- ---- 3 by 3, every tile closed, pin (1, 1) chosen
@@ -125,11 +126,6 @@ blank (suc (suc g)) p h =
     (ap₂ _++_ (far 6 nearWord (32 ∷ 99 ∷ 105 ∷ close) p (omega arith) h) (far 7 nearWord (32 ∷ 99 ∷ 111 ∷ close) p (omega arith) h))
 
 -- cells of which at most one has lines
-spread-none : (g : ℕ → List ℕ) (n p : ℕ) → ((q : ℕ) → p ≤ q → g q ≡ []) → spread g p n ≡ []
-unfolding spread
-spread-none g zero p h = refl
-spread-none g (suc n) p h = ap₂ _++_ (h p (omega arith)) (spread-none g n (suc p) (λ q l. h q (omega (arith, l))))
-
 spread-one : (g : ℕ → List ℕ) (n p m : ℕ) → p ≤ m → m < p + n → ((q : ℕ) → q ≢ m → g q ≡ []) → spread g p n ≡ g m
 unfolding spread
 spread-one g zero p m a b h = absurd (omega arith)
@@ -144,7 +140,7 @@ only-inner : (g : ℕ) → spread (groupLines jobShut nearShut g) 0 1600 ≡ gro
 only-inner g = spread-one (groupLines jobShut nearShut g) 1600 0 inner (omega arith) (omega arith) (blank g)
 
 pub listing-shut : shortListing jobShut nearShut 1 ≡ bytesShut
-unfolding shortListing groupLines chosenLine missingLines sideLines centreLines decimal isChosen isMissing
+unfolding shortListing groupLines chosenLine missingLines sideLines centreLines decimal tens isChosen isMissing
 listing-shut = ap₂ (λ (l m : List ℕ). line shortWord 1 ++ (l ++ m)) (only-inner 0) (ap₂ _++_ (only-inner 1) (only-inner 2))
 
 -- ---- a missing pin, entry before exit
@@ -157,7 +153,7 @@ bytesMissing =
 
 -- the lines of the cell of pin (0, 1), wherever both are near
 pub missing-listed : (near : List ℕ) → getD near (spot 0 0 1) 0 ≡ 1 → getD near (spot 1 0 1) 0 ≡ 1 → groupLines jobMissing near 1 1 ≡ bytesMissing
-unfolding groupLines missingLines isMissing decimal
+unfolding groupLines missingLines isMissing decimal tens
 missing-listed near a b =
     ap₂ (λ (x y : ℕ). only (eqb x 1) (pairLine entryWord 0 1 close) ++ only (eqb y 1) (pairLine exitWord 0 1 close)) a b
 
@@ -166,5 +162,5 @@ abbrev refused45 : List ℕ
 refused45 = 40 ∷ 114 ∷ 101 ∷ 102 ∷ 117 ∷ 115 ∷ 101 ∷ 100 ∷ 32 ∷ 54 ∷ 32 ∷ 52 ∷ 53 ∷ 41 ∷ 10 ∷ []
 
 pub listing-refused : refusedListing 45 ≡ refused45
-unfolding refusedListing decimal
+unfolding refusedListing decimal tens
 listing-refused = refl

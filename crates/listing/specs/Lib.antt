@@ -1,11 +1,16 @@
--- The bytes of the listing.
-pub mod Lines
+-- The letters of places, and the bytes of a short job's listing and of a refusal.
+pub mod Letters
 pub mod Near
-pub mod Wires
--- Laying them on a page.
+-- Laying bytes on a page.
+pub mod Spread
 pub mod Puts
+pub mod Tens
 pub mod Counts
 pub mod Walked
--- The pages together, and the examples of document 01.
+-- What is left where a page ends.
+pub mod Left
+pub mod Passed
+pub mod ShortPages
 pub mod Whole
+-- The examples of document 01.
 pub mod Example

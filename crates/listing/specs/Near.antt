@@ -2,14 +2,14 @@
 -- cell (r, c) stands at `spot k r c`. Assumes nothing.
 use mathlib.Core.Path.{_≡_, refl}
 use mathlib.Core.List.{List, [], _∷_, _++_}
-use Prim.Native.Nat.{ℕ, zero, suc, _≤_}
+use Prim.Native.Nat.{ℕ, zero, suc, _-_, _/_, _%_, _≤_}
 use native.Mathlib.Omega.{arith}
 use lib.Dec.{eqb}
 use lib.ListN.{getD}
 use Rattle.sums.specs.Counting.{only}
 use Rattle.model.specs.Job.{Job, isChosen, isMissing}
 use Rattle.model.specs.Near.{spot}
-use Rattle.listing.specs.Lines.{close, line, pairLine, spread, row, column}
+use Rattle.model.specs.Listing.{close, line, pairLine, spread, row, column}
 
 -- ---- words
 
@@ -81,6 +81,14 @@ unfoldable pub shortListing : Job → List ℕ → ℕ → List ℕ
 shortListing J near k =
     line shortWord k
     ++ (spread (groupLines J near 0) 0 1600 ++ (spread (groupLines J near 1) 0 1600 ++ spread (groupLines J near 2) 0 1600))
+
+-- the entries of the three groups in one row: 1,600 cells to a group
+abbrev pub nearAt : Job → List ℕ → ℕ → List ℕ
+nearAt J near q = groupLines J near (q / 1600) (q % 1600)
+
+-- those from q on
+abbrev pub nearFrom : Job → List ℕ → ℕ → List ℕ
+nearFrom J near q = spread (nearAt J near) q (4800 - q)
 
 -- "A wrong text prints (refused 6 45), number and offset."
 unfoldable pub refusedListing : ℕ → List ℕ

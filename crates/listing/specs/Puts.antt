@@ -2,19 +2,24 @@
 use mathlib.Core.Path.{_≡_, refl, sym, ap, ap₂, subst, _∙_}
 use mathlib.Core.Bool.{Bool, true, false}
 use mathlib.Core.List.{List, [], _∷_, _++_, append-nil, append-assoc}
-use Prim.Native.Nat.{ℕ, zero, suc, _+_, _<_}
+use Prim.Native.Nat.{ℕ, suc, _+_, _≤_, _<_}
 use native.Mathlib.Nat.{add-zero, add-suc, suc-add}
 use native.Mathlib.Numerals.{add-one}
 use native.Mathlib.Omega.{arith}
-use lib.ListN.{length, length-append, getD, set, take}
-use lib.Seq.{sets, take-suc, length-take-le}
+use lib.ListN.{length, length-append, getD, set, take, drop}
+use lib.Seq.{sets, length-sets, sets-eq, take-suc, length-take-le, take-append-seam}
 use Rattle.sums.specs.Counting.{only}
-use Rattle.listing.specs.Lines.{spread}
 
 -- the bytes bs stand on the page from `at` on, r is the place after them, and the rest of the page is as it was
 pub record Puts (bs : List ℕ) (at : ℕ) (old new : List ℕ) (r : ℕ) : Type 0 where
   pub bytes : new ≡ sets old at bs
   pub next : r ≡ at + length bs
+
+-- of the bytes `before`, some are laid so, and the bytes `rest` are left
+pub record Parts (before rest : List ℕ) (at : ℕ) (old new : List ℕ) (r : ℕ) : Type 0 where
+  pub bytes : List ℕ
+  pub puts : Puts bytes at old new r
+  pub split : before ≡ bytes ++ rest
 
 pub sets-append : (a b l : List ℕ) (i : ℕ) → sets l i (a ++ b) ≡ sets (sets l i a) (i + length a) b
 sets-append [] b l i = ap (λ (k : ℕ). sets l k b) (sym (add-zero i))
@@ -47,13 +52,33 @@ sets-more w l at k h =
     ap (λ (n : ℕ). set (sets l at (take k w)) (at + n) (getD w k 0)) (sym (length-take-le k w (omega arith)))
     ∙ (sym (sets-append (take k w) (getD w k 0 ∷ []) l at) ∙ ap (sets l at) (sym (take-suc w k 0 h) ∙ ap (λ (n : ℕ). take n w) (sym (add-one k))))
 
--- one cell more
-spread-next : (g : ℕ → List ℕ) (n p : ℕ) → spread g p n ++ g (p + n) ≡ spread g p (suc n)
-unfolding spread
-spread-next g zero p = ap g (add-zero p) ∙ sym (append-nil (g p))
-spread-next g (suc n) p =
-    append-assoc (g p) (spread g (suc p) n) (g (p + suc n))
-    ∙ ap (λ (t : List ℕ). g p ++ t) (ap (λ (k : ℕ). spread g (suc p) n ++ g k) (add-suc p n ∙ sym (suc-add p n)) ∙ spread-next g n (suc p))
+pub puts-length : {bs old new : List ℕ} {at r : ℕ} → Puts bs at old new r → length new ≡ length old
+puts-length {bs} {old} {at = at} P = ap length (P .bytes) ∙ length-sets old at bs
 
-pub spread-more : (g : ℕ → List ℕ) (p n : ℕ) → spread g p n ++ g (p + n) ≡ spread g p (n + 1)
-spread-more g p n = spread-next g n p ∙ ap (spread g p) (sym (add-one n))
+-- nothing yet, one part and the next, and all when nothing is left
+pub parts-none : {before old : List ℕ} {at : ℕ} → Parts before before at old old at
+parts-none = record { bytes = []; puts = puts-none; split = refl }
+
+pub parts-then : {before middle rest old mid new : List ℕ} {at m r : ℕ} → Parts before middle at old mid m → Parts middle rest m mid new r
+    → Parts before rest at old new r
+parts-then {rest = rest} P Q =
+    record {
+      bytes = P .bytes ++ Q .bytes;
+      puts = puts-then (P .puts) (Q .puts);
+      split = P .split ∙ (ap (λ (x : List ℕ). P .bytes ++ x) (Q .split) ∙ sym (append-assoc (P .bytes) (Q .bytes) rest));
+    }
+
+pub parts-all : {before rest old new : List ℕ} {at r : ℕ} → Parts before rest at old new r → rest ≡ [] → Puts before at old new r
+parts-all P z = puts-as (sym (P .split ∙ (ap (λ (x : List ℕ). P .bytes ++ x) z ∙ append-nil (P .bytes)))) (P .puts)
+
+-- as many as were laid
+pub parts-length : {before rest old new : List ℕ} {at r : ℕ} → Parts before rest at old new r → at + length before ≡ r + length rest
+parts-length {rest = rest} P = omega (arith, ap length (P .split), length-append (P .bytes) rest, P .puts .next)
+
+-- on a page from its start: its first bytes
+pub puts-page : {bs old new : List ℕ} {r : ℕ} → Puts bs 0 old new r → r ≤ length old → bs ≡ take r new
+puts-page {bs} {old} {new} {r} P l =
+    let e : r ≡ length bs = omega (arith, P .next) in
+    let fits : 0 + length bs ≤ length old = omega (arith, l) in
+    sym
+    (ap₂ (λ (k : ℕ) (x : List ℕ). take k x) e (P .bytes ∙ sets-eq bs old 0 fits) ∙ take-append-seam bs (drop (0 + length bs) old))

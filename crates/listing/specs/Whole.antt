@@ -1,60 +1,70 @@
--- What the pages of a listing come to: one page and the rest are the whole, and no wire is cut off. Assumes nothing.
-use mathlib.Core.Path.{_≡_, refl, sym, ap, ap₂, _∙_}
+-- The pages together are the listing, and what it leaves in an output. Assumes nothing.
+use mathlib.Core.Path.{_≡_, refl, sym, ap, _∙_}
 use mathlib.Core.Bool.{Bool, true, false}
-use mathlib.Core.List.{List, [], _++_, append-assoc}
-use mathlib.Core.Option.{none}
-use Prim.Native.Nat.{ℕ, zero, suc, _+_, _-_, _≤_}
-use native.Mathlib.Nat.{zero-add, add-zero, add-suc, suc-add}
+use mathlib.Core.List.{List, [], _++_}
+use Prim.Native.Nat.{ℕ, zero, suc, _+_, _≤_, _<_}
 use native.Mathlib.Omega.{arith}
-use lib.ListN.{getElem?}
-use Rattle.sums.specs.Tests.{so}
-use Rattle.sums.specs.Entries.{entry-past}
+use lib.ListN.{length, take, drop}
+use lib.Seq.{sets-eq}
+use borrow.Author.Tests.{le-leb, lt-leb}
 use Rattle.model.specs.Job.{Job}
 use Rattle.model.specs.Links.{Step}
-use Rattle.model.specs.Record.{jobOf, load, Legal}
-use Rattle.model.specs.Wires.{Part, unwired, hopAt, isWired, partOf, partAt}
-use Rattle.wire.specs.Threads.{Thread, hops, thread, thread-wire}
-use Rattle.wire.specs.Lengths.{places-few, goes-short}
-use Rattle.listing.specs.Lines.{spread}
-use Rattle.listing.specs.Wires.{partBytes}
+use Rattle.model.specs.Record.{jobOf, load, over}
+use Rattle.model.specs.Listing.{spread, wiresLine, wiresFrom, wiresListing}
+use Rattle.model.specs.Calls.{refused, wrote, After, after, listedOut}
+use Rattle.listing.specs.declared.whole.Listed.{Listed}
+use Rattle.listing.specs.declared.whole.Listed.the-variants.{Wrote, Short}
+use Rattle.listing.specs.Puts.{Puts, Parts, puts-as, puts-page}
+use Rattle.listing.specs.Left.{left, Stands}
+use Rattle.listing.specs.Passed.{left-first}
 
--- ---- pages
+-- "7 output shorter than the text. Gives the length": the answer, the record and the output afterwards
+abbrev pub listedAs : Listed → List ℕ → List ℕ → After
+listedAs (Wrote n) rec out = after (wrote n) rec [] out
+listedAs Short rec out = after (refused 7) rec [] out
 
-pub spread-split : (g : ℕ → List ℕ) (p m n : ℕ) → spread g p (m + n) ≡ spread g p m ++ spread g (p + m) n
-unfolding spread
-spread-split g p zero n = ap₂ (λ (q k : ℕ). spread g q k) (sym (add-zero p)) (zero-add n)
-spread-split g p (suc m) n =
-    ap (spread g p) (suc-add m n)
-    ∙ (ap (λ (l : List ℕ). g p ++ l) (spread-split g (suc p) m n ∙ ap (λ (q : ℕ). spread g (suc p) m ++ spread g q n) (suc-add p m ∙ sym (add-suc p m)))
-    ∙ sym (append-assoc (g p) (spread g (suc p) m) (spread g (p + suc m) n)))
+-- ---- from the first page to the last
 
--- a page that ends at the cell `next`, and what is left
-pub pages-join : (g : ℕ → List ℕ) (from next : ℕ) → from ≤ next → next ≤ 1600
-    → spread g from (1600 - from) ≡ spread g from (next - from) ++ spread g next (1600 - next)
-pages-join g from next a b =
-    let all : 1600 - from ≡ next - from + (1600 - next) = omega arith in
-    let on : from + (next - from) ≡ next = omega arith in
-    ap (spread g from) all
-    ∙ (spread-split g from (next - from) (1600 - next) ∙ ap (λ (q : ℕ). spread g from (next - from) ++ spread g q (1600 - next)) on)
+module _ (J : Job) (f : Step → ℕ) where
+  -- the first line, and all wires
+  pub listing-first : (p i : ℕ) → p ≡ 0 → i ≡ 0 → wiresListing J f ≡ wiresLine J f ++ left J f p i
+  unfolding wiresListing
+  listing-first p i a b = ap (λ (l : List ℕ). wiresLine J f ++ l) (sym (left-first J f p i b ∙ ap (wiresFrom J f) a))
 
--- ---- wires
+  pub listing-parts : {at r p i : ℕ} {old new : List ℕ} → p ≡ 0 → i ≡ 0 → Puts (wiresLine J f) at old new r → Parts (wiresListing J f) (left J f p i) at old new r
+  listing-parts {p = p} {i = i} a b P = record { bytes = wiresLine J f; puts = P; split = listing-first p i a b }
 
--- no wire of a legal record has more than 11,201 parts
-module _ (rec : List ℕ) (legal : Legal rec) where
-  abbrev J : Job
-  J = jobOf rec
+  -- behind the last cell nothing is left
+  pub left-done : (rec : List ℕ) (p i d l : ℕ) → Stands rec p i d l → 1600 ≤ p → left J f p i ≡ []
+  unfolding spread
+  left-done rec p zero d l s k =
+      let none : 1600 ≡ p = omega (arith, s .within) in
+      left-first J f p 0 refl ∙ ap (wiresFrom J f) (sym none)
+  left-done rec p (suc i) d l s k = absurd (omega (arith, s .inside (omega arith) .cell))
 
-  abbrev f : Step → ℕ
-  f = load rec
+-- ---- pages copied
 
-  pub no-more : (r c n : ℕ) → 11201 ≤ n → partBytes (partAt J f r c n) ≡ []
-  unfolding partAt
-  no-more r c n l = by (isWired J f r c) refl
-    where
-      by : (b : Bool) → isWired J f r c ≡ b → partBytes (elim b as (λ z. Part) [ true ↦ partOf J f (hopAt J f r c n) | false ↦ unwired ]) ≡ []
-      by true e =
-          let t : Thread J f r c = thread J f (legal .sound) r c (so e) in
-          let short = goes-short J f (legal .sound) (t .first) (t .rest) (t .loaded) (t .goes) in
-          let past : getElem? (hops t) n ≡ none = entry-past (hops t) n (omega (arith, short, places-few J (legal .values .array))) in
-          ap (λ o. partBytes (partOf J f o)) (thread-wire J f (legal .sound) r c t n ∙ past)
-      by false e = refl
+-- a page, copied behind what is laid
+pub page-copied : {before rest empty page mid new : List ℕ} {k m n : ℕ} → Parts before rest 0 empty page k → k ≤ length empty → Puts (take k page) m mid new n
+    → Parts before rest m mid new n
+page-copied P l Q = record { bytes = P .bytes; puts = puts-as (sym (puts-page (P .puts) l)) Q; split = P .split }
+
+-- ---- the answers
+
+module _ (rec out : List ℕ) where
+  abbrev text : List ℕ
+  text = wiresListing (jobOf rec) (load rec)
+
+  -- what is written, by whether the output has room
+  abbrev picked : Bool → After
+  picked b = elim b [ false ↦ after (refused 7) rec [] out | true ↦ after (wrote (length text)) rec [] (over text out) ]
+
+  pub lists-short : length out < length text → listedAs Short rec out ≡ listedOut out rec
+  lists-short l = sym (ap picked (lt-leb (length text) (length out) l))
+
+  pub lists-whole : {out′ : List ℕ} {n : ℕ} → length text ≤ length out → Puts text 0 out out′ n → listedAs (Wrote n) rec out′ ≡ listedOut out rec
+  lists-whole {out′} {n} l p =
+      let e : n ≡ length text = omega (arith, p .next) in
+      let k : 0 + length text ≡ length text = omega arith in
+      let laid : out′ ≡ over text out = p .bytes ∙ (sets-eq text out 0 (omega (arith, l)) ∙ ap (λ (m : ℕ). text ++ drop m out) k) in
+      (λ i. after (wrote (e i)) rec [] (laid i)) ∙ sym (ap picked (le-leb (length text) (length out) l))

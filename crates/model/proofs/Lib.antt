@@ -17,6 +17,9 @@ pub mod Over
 pub mod LegalRecord
 -- Calls: the tests of a paragraph in their order.
 pub mod Asked
+-- The listing: its length, and its numbers.
+pub mod ListingLength
+pub mod Decimals
 -- Text: one verdict at most, what is read is proper, and reading and writing undo each other.
 pub mod TextUnique
 pub mod TextProper

@@ -1,4 +1,5 @@
--- Document 01, "Record and operations": the calls, their answers, and what each does to record, scratch and output. Assumes nothing.
+-- Document 01, "Record and operations": the calls, their answers, and what each does to record, scratch and output; and an operation beyond document 01,
+-- which lists all wires of a record at once. Assumes nothing.
 use mathlib.Core.Path.{_≡_}
 use mathlib.Core.Bool.{Bool, true, false, not, _&&_}
 use mathlib.Core.List.{List, [], _∷_}
@@ -13,6 +14,7 @@ use Rattle.model.specs.Near.{Smallest}
 use Rattle.model.specs.Record.{recordSize, scratchSize, jobOf, load, Legal, bytes, unwiredRecord, over}
 use Rattle.model.specs.Wires.{Part, partAt, isWired, wireCount}
 use Rattle.model.specs.Text.{Verdict, reads, wrongAt, Reading, textOf}
+use Rattle.model.specs.Listing.{wiresListing}
 
 -- ---- calls and answers
 
@@ -26,6 +28,7 @@ pub data Call : Type 0 where
   part : (row column index : ℕ) → Call
   readText : (text : List ℕ) → Call
   writeText : (output : List ℕ) → Call
+  listing : (output : List ℕ) → Call
 
 pub data Answer : Type 0 where
   refused : ℕ → Answer
@@ -35,7 +38,7 @@ pub data Answer : Type 0 where
   -- the chosen pins less the greatest number
   lacks : ℕ → Answer
   lists : Part → Answer
-  -- the length of the text
+  -- the length of the text or of the listing
   wrote : ℕ → Answer
 
 -- the paper's number of a refusal; none for an accepted call
@@ -114,10 +117,16 @@ readIn (reads K) rec = after done (over (unwiredRecord K) rec) [] []
 readIn (wrongAt o) rec = after (wrongText o) rec [] []
 
 -- "7 output shorter than the text. Gives the length; bytes beyond it are untouched."
-abbrev pub written : List ℕ → List ℕ → After
-written output rec =
-    let text : List ℕ = textOf (jobOf rec) in
+abbrev pub putOut : (text output rec : List ℕ) → After
+putOut text output rec =
     asked (test (leb (length text) (length output)) 7 ∷ []) rec output (after (wrote (length text)) rec [] (over text output))
+
+abbrev pub written : List ℕ → List ℕ → After
+written output rec = putOut (textOf (jobOf rec)) output rec
+
+-- the listing of the wires that the record holds, by the same rules
+abbrev pub listedOut : List ℕ → List ℕ → After
+listedOut output rec = putOut (wiresListing (jobOf rec) (load rec)) output rec
 
 -- ---- what is free
 
@@ -155,7 +164,7 @@ pub data Shown (J : Job) (g : ℕ) (output output′ : List ℕ) : Type 0 where
   none-short : chosenCount J ≡ g → output′ ≡ output → Shown J g output output′
   side : g < chosenCount J → (S : ℕ → Bool) → Smallest J S g → output′ ≡ over (nearBytes S) output → Shown J g output output′
 
--- ---- the eight operations
+-- ---- the operations
 
 -- "Wherever a record is taken, 1 comes before every other number"; a refused call leaves every byte.
 pub record On (rec scratch output : List ℕ) (a : After) (Accepts : Type 0) : Type 0 where
@@ -190,3 +199,4 @@ Did (shortfall scratch output) rec a = On rec scratch output a (Lacks scratch ou
 Did (part r c i) rec a = On rec [] [] a (a ≡ listed r c i rec)
 Did (readText text) rec a = ReadIn text rec a
 Did (writeText output) rec a = On rec [] output a (a ≡ written output rec)
+Did (listing output) rec a = On rec [] output a (a ≡ listedOut output rec)

@@ -9,6 +9,7 @@ pub mod Pairing
 pub mod Wires
 pub mod Record
 pub mod Text
+pub mod Listing
 pub mod Calls
 pub mod Run
 -- The rows of the examples.

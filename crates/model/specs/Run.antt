@@ -13,7 +13,7 @@ use Rattle.model.specs.Near.{Smallest}
 use Rattle.model.specs.Record.{recordSize, scratchSize, jobOf, load, over}
 use Rattle.model.specs.Wires.{partAt, Holds}
 use Rattle.model.specs.Text.{reads, Reading}
-use Rattle.model.specs.Calls.{Call, new, mark, close, step, shortfall, part, readText, writeText, Answer, added, allWired, short, lacks, lists, refusal, Accepted, After, Did, wiresIn, nearBytes}
+use Rattle.model.specs.Calls.{Call, new, mark, close, step, shortfall, part, readText, writeText, listing, Answer, added, allWired, short, lacks, lists, refusal, Accepted, After, Did, wiresIn, nearBytes}
 
 -- ---- what can be lent
 
@@ -35,8 +35,9 @@ Lent (shortfall scratch output) = Buffer scratch × Buffer output
 Lent (part r c i) = Word r × Word c × Word i
 Lent (readText text) = Buffer text
 Lent (writeText output) = Buffer output
+Lent (listing output) = Buffer output
 
--- The eight operations as they are promised: every call on a buffer ends and leaves what its paragraph states.
+-- The operations as they are promised: every call on a buffer ends and leaves what its paragraph states.
 pub record Service : Type 0 where
   pub does : Call → List ℕ → After
   pub did : (c : Call) (rec : List ℕ) → Lent c → Buffer rec → Did c rec (does c rec)
@@ -54,6 +55,7 @@ module _ (S : Service) where
   Sets (part r c i) J K = K ≡ J
   Sets (readText text) J K = Reading text (reads K)
   Sets (writeText output) J K = K ≡ J
+  Sets (listing output) J K = K ≡ J
 
   -- "A refused call changes nothing in the job."
   abbrev pub Becomes : Answer → Call → Job → Job → Type 0

@@ -15,9 +15,10 @@ use Rattle.model.specs.Job.{Job, arrayFits, capsAdmitted, fresh, marked, closed
 use Rattle.model.specs.Record.{recordSize, scratchSize, jobOf, load, Legal, noLoads, unwiredRecord, over}
 use Rattle.model.specs.Wires.{partAt}
 use Rattle.model.specs.Text.{Verdict, reads, wrongAt, Reading, textOf}
-use Rattle.model.specs.Calls.{Call, new, mark, close, step, shortfall, part, readText, writeText}
+use Rattle.model.specs.Listing.{wiresListing}
+use Rattle.model.specs.Calls.{Call, new, mark, close, step, shortfall, part, readText, writeText, listing}
 use Rattle.model.specs.Calls.{Answer, refused, done, lists, wrote, refusal, Accepted, After, after}
-use Rattle.model.specs.Calls.{Test, test, asked, edited, newly, markedBy, closedBy, listed, readIn, written, Stepped, adds, stays, lacking, Steps, Lacks, Did}
+use Rattle.model.specs.Calls.{Test, test, asked, edited, newly, markedBy, closedBy, listed, readIn, putOut, Stepped, adds, stays, lacking, Steps, Lacks, Did}
 use Rattle.model.specs.Run.{Buffer, Service, Sets}
 use Rattle.model.proofs.RecordOf.{length-record}
 use Rattle.model.proofs.Asked.{allHold, numbered, both-hold, asked-holds, asked-either}
@@ -139,11 +140,11 @@ module _ (S : Service) (rec : List ℕ) (J : Job) (k : Kept rec J) where
       asked-either rec [] (after (lists (partAt (jobOf rec) (load rec) r c i)) rec [] []) (Leaves S (part r c i) rec J) notOne
       (test (isChosen (jobOf rec) r c) 4 ∷ []) tt (refused-leaves S (part r c i) rec J []) (λ t. accepts J refl refl k)
 
-  write-leaves : (output : List ℕ) → Leaves S (writeText output) rec J (written output rec)
-  write-leaves output =
-      let text : List ℕ = textOf (jobOf rec) in
-      asked-either rec output (after (wrote (length text)) rec [] (over text output)) (Leaves S (writeText output) rec J) notOne
-      (test (leb (length text) (length output)) 7 ∷ []) tt (refused-leaves S (writeText output) rec J output) (λ t. accepts J refl refl k)
+  -- a text put out leaves the record
+  put-leaves : (c : Call) → Sets S c J J → (text output : List ℕ) → Leaves S c rec J (putOut text output rec)
+  put-leaves c s text output =
+      asked-either rec output (after (wrote (length text)) rec [] (over text output)) (Leaves S c rec J) notOne
+      (test (leb (length text) (length output)) 7 ∷ []) tt (refused-leaves S c rec J output) (λ t. accepts J refl s k)
 
   -- an accepted call that leaves the record
   stays-kept : {rec′ : List ℕ} → rec′ ≡ rec → Kept rec′ J
@@ -194,4 +195,6 @@ module _ (S : Service) (rec : List ℕ) (J : Job) (k : Kept rec J) where
   call-leaves (readText text) a d =
       let (v, r, e) = d .long (k .legal .long) in
       subst (Leaves S (readText text) rec J) (sym e) (read-leaves S rec J (k .buffer) (k .legal .long) text v r)
-  call-leaves (writeText output) a d = subst (Leaves S (writeText output) rec J) (sym (d .legal (k .legal))) (write-leaves output)
+  call-leaves (writeText output) a d = subst (Leaves S (writeText output) rec J) (sym (d .legal (k .legal))) (put-leaves (writeText output) refl (textOf (jobOf rec)) output)
+  call-leaves (listing output) a d =
+      subst (Leaves S (listing output) rec J) (sym (d .legal (k .legal))) (put-leaves (listing output) refl (wiresListing (jobOf rec) (load rec)) output)

@@ -14,7 +14,7 @@ use Rattle.sums.specs.Entries.{none-some, some-one}
 use Rattle.model.specs.Job.{Job, arrayFits, capsAdmitted, fresh}
 use Rattle.model.specs.Record.{recordSize, unwiredRecord, over}
 use Rattle.model.specs.Text.{reads, Reading}
-use Rattle.model.specs.Calls.{Call, new, mark, close, step, shortfall, part, readText, writeText}
+use Rattle.model.specs.Calls.{Call, new, mark, close, step, shortfall, part, readText, writeText, listing}
 use Rattle.model.specs.Calls.{Answer, refused, done, refusal, Accepted, After, after, test, newly, ReadIn}
 use Rattle.model.specs.Run.{Buffer, Service, Sets, Becomes, Lent, Starts, byNew, byText, Follows, NeverOne}
 use Rattle.model.proofs.Asked.{asked-fails}
@@ -34,6 +34,7 @@ module _ (S : Service) where
   sets-one (part r c i) J K L a b = a ∙ sym b
   sets-one (readText text) J K L a b = reads-same K L (reads-unique a b)
   sets-one (writeText output) J K L a b = a ∙ sym b
+  sets-one (listing output) J K L a b = a ∙ sym b
 
   -- the job after a call, by what it answered
   abbrev After? : Option ℕ → Call → Job → Job → Type 0

@@ -16,10 +16,12 @@ use Rattle.model.specs.Route.{chosenCount}
 use Rattle.model.specs.Record.{recordSize, scratchSize, jobOf, load, Legal, unwiredRecord, over}
 use Rattle.model.specs.Wires.{Part, partAt}
 use Rattle.model.specs.Text.{Verdict, reads, wrongAt, Reading, textOf}
-use Rattle.model.specs.Calls.{Call, new, mark, close, step, shortfall, part, readText, writeText, Answer, refused, wrongText, done, lacks, lists, wrote}
-use Rattle.model.specs.Calls.{After, after, Test, test, asked, edited, newly, listed, readIn, written, Stepped, adds, stays, lacking, On, Steps, Lacks, ReadIn, Did}
+use Rattle.model.specs.Listing.{wiresListing}
+use Rattle.model.specs.Calls.{Call, new, mark, close, step, shortfall, part, readText, writeText, listing, Answer, refused, wrongText, done, lacks, lists, wrote}
+use Rattle.model.specs.Calls.{After, after, Test, test, asked, edited, newly, listed, readIn, putOut, Stepped, adds, stays, lacking, On, Steps, Lacks, ReadIn, Did}
 use Rattle.model.proofs.Asked.{allHold, numbered, asked-either}
 use Rattle.model.proofs.Over.{legal-proper}
+use Rattle.model.proofs.ListingLength.{listing-short}
 use Rattle.wire.specs.Places.{when-drop}
 use Rattle.wire.specs.Lengths.{places-few}
 use Rattle.talusdish.specs.TextBound.{reading-within, text-short}
@@ -106,11 +108,15 @@ read-fits text rec a d =
     by (reads K) r = tt
     by (wrongAt o) r = lt→ltb o (2 ^ 56) (omega (arith, reading-within text (wrongAt o) r))
 
-written-fits : (output rec : List ℕ) → Legal rec → Fits (writeText output) (written output rec)
-written-fits output rec g =
-    let text : List ℕ = textOf (jobOf rec) in
-    asked-fits (writeText output) (test (leb (length text) (length output)) 7 ∷ []) rec output (after (wrote (length text)) rec [] (over text output)) tt
-    (λ t. lt→ltb (length text) (2 ^ 56) (omega (arith, text-short (jobOf rec) (legal-proper rec g))))
+put-fits : (c : Call) (text output rec : List ℕ) → T (fits c (wrote (length text))) → Fits c (putOut text output rec)
+put-fits c text output rec t =
+    asked-fits c (test (leb (length text) (length output)) 7 ∷ []) rec output (after (wrote (length text)) rec [] (over text output)) tt (λ u. t)
+
+written-fits : (output rec : List ℕ) → Legal rec → T (fits (writeText output) (wrote (length (textOf (jobOf rec)))))
+written-fits output rec g = lt→ltb (length (textOf (jobOf rec))) (2 ^ 56) (omega (arith, text-short (jobOf rec) (legal-proper rec g)))
+
+listing-fits : (output rec : List ℕ) → T (fits (listing output) (wrote (length (wiresListing (jobOf rec) (load rec)))))
+listing-fits output rec = lt→ltb (length (wiresListing (jobOf rec) (load rec))) (2 ^ 56) (omega (arith, listing-short (jobOf rec) (load rec)))
 
 newly-fits : (rows columns O D E : ℕ) (rec : List ℕ) → Fits (new rows columns O D E) (newly rows columns O D E rec)
 newly-fits rows columns O D E rec =
@@ -143,7 +149,11 @@ did-fits (shortfall scratch output) rec a d = on-fits (shortfall scratch output)
 did-fits (part r c i) rec a d = on-fits (part r c i) rec [] [] a d (λ g e. as-fits (part r c i) e (listed-fits rec g r c i))
 did-fits (readText text) rec a d = read-fits text rec a d
 did-fits (writeText output) rec a d =
-    on-fits (writeText output) rec [] output a d (λ g e. as-fits (writeText output) e (written-fits output rec g))
+    on-fits (writeText output) rec [] output a d
+    (λ g e. as-fits (writeText output) e (put-fits (writeText output) (textOf (jobOf rec)) output rec (written-fits output rec g)))
+did-fits (listing output) rec a d =
+    on-fits (listing output) rec [] output a d
+    (λ g e. as-fits (listing output) e (put-fits (listing output) (wiresListing (jobOf rec) (load rec)) output rec (listing-fits output rec)))
 
 pub did-small : (c : Call) (rec : List ℕ) (a : After) → Did c rec a → word (a .answer) < 2 ^ 64
 did-small c rec a d = word-small c (a .answer) (did-fits c rec a d)

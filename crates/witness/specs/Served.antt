@@ -1,6 +1,6 @@
 -- Document 01, "Record and operations": a service, by mathematics alone. Each call is answered by decisions: whether the record is legal, what the verdict
 -- of a text is, whether one wire more fits, and what the greatest number and the smallest near side are. Nothing of it is ever run; it shows that the
--- promises of the eight operations can be kept together, so that a theorem about every service has something to speak of. Assumes nothing.
+-- promises of the operations can be kept together, so that a theorem about every service has something to speak of. Assumes nothing.
 use mathlib.Core.Path.{_≡_, refl}
 use mathlib.Core.Logic.{_⊎_, inl, inr}
 use mathlib.Core.List.{List, []}
@@ -11,9 +11,9 @@ use lib.ListN.{length}
 use Rattle.model.specs.Route.{chosenCount}
 use Rattle.model.specs.Record.{recordSize, scratchSize, jobOf, load, Legal, over}
 use Rattle.model.specs.Text.{Verdict, Reading}
-use Rattle.model.specs.Calls.{Call, new, mark, close, step, shortfall, part, readText, writeText}
+use Rattle.model.specs.Calls.{Call, new, mark, close, step, shortfall, part, readText, writeText, listing}
 use Rattle.model.specs.Calls.{Answer, refused, added, allWired, short, lacks, After, after, cleared}
-use Rattle.model.specs.Calls.{newly, markedBy, closedBy, listed, readIn, written, OneMore, Stepped, adds, stays, lacking, wiresIn, nearBytes}
+use Rattle.model.specs.Calls.{newly, markedBy, closedBy, listed, readIn, written, listedOut, OneMore, Stepped, adds, stays, lacking, wiresIn, nearBytes}
 use Rattle.model.specs.Calls.{Shown, none-short, side, On, Steps, Lacks, ReadIn, Did}
 use Rattle.model.specs.Run.{Service}
 use Rattle.witness.specs.Damage.{legal?}
@@ -90,7 +90,7 @@ module _ (rec : List ℕ) where
       by (no n) r = (after (refused 1) rec [] [], record { brief = λ h. refl; long = λ h. absurd (n h) })
       by (yes l) (v, r) = (readIn v rec, record { brief = λ h. absurd (omega arith); long = λ h. (v, r, refl) })
 
--- ---- the eight operations
+-- ---- the operations
 
 serve : (c : Call) (rec : List ℕ) → (a : After) × Did c rec a
 serve (new rows columns O D E) rec = (newly rows columns O D E rec, refl)
@@ -101,6 +101,7 @@ serve (shortfall scratch output) rec = on rec scratch output (Lacks scratch outp
 serve (part r c i) rec = on rec [] [] (λ a. a ≡ listed r c i rec) (λ g. (listed r c i rec, refl))
 serve (readText text) rec = read-in rec text
 serve (writeText output) rec = on rec [] output (λ a. a ≡ written output rec) (λ g. (written output rec, refl))
+serve (listing output) rec = on rec [] output (λ a. a ≡ listedOut output rec) (λ g. (listedOut output rec, refl))
 
 pub service : Service
 service = record { does = λ c rec. serve c rec .0; did = λ c rec lent buffer. serve c rec .1 }

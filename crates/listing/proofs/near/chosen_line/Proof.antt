@@ -3,7 +3,7 @@ use mathlib.Core.Path.{sym, _∙_}
 use native.Mathlib.Omega.{arith}
 use denote.Ref.{now}
 use borrow.Author.Needs.{needs}
-use Rattle.listing.specs.Lines.{close}
+use Rattle.model.specs.Listing.{close}
 use Rattle.listing.specs.Near.{pinWord, nearLine, chosenLine}
 use Rattle.listing.specs.Puts.{puts-if, puts-not}
 use Rattle.listing.proofs.near.chosen_line.Statement.{statement}

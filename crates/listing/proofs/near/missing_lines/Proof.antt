@@ -4,7 +4,7 @@ use mathlib.Core.List.{_++_}
 use native.Mathlib.Omega.{arith}
 use denote.Ref.{now}
 use borrow.Author.Needs.{needs}
-use Rattle.listing.specs.Lines.{close}
+use Rattle.model.specs.Listing.{close}
 use Rattle.listing.specs.Near.{entryWord, exitWord, nearLine, missingLines}
 use Rattle.listing.specs.Puts.{puts-then, puts-if, puts-not}
 use Rattle.listing.proofs.near.missing_lines.Statement.{statement}

@@ -8,7 +8,7 @@ use borrow.Author.Tests.{eq-eqb, ne-eqb}
 use lib.Dec.{eqb}
 use lib.ListN.{getD}
 use Rattle.model.specs.Near.{spot}
-use Rattle.listing.specs.Lines.{pairLine, row, column}
+use Rattle.model.specs.Listing.{pairLine, row, column}
 use Rattle.listing.specs.Puts.{puts-if, puts-not}
 use Rattle.listing.proofs.near.near_line.Statement.{statement}
 use Rattle.listing.proofs.near.near_line.Tie as tie

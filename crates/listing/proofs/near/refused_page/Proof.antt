@@ -13,7 +13,12 @@ number-line-requires c κs = search needs
 
 returns : tie.Need-returns
 unfolding refusedListing
-returns c = (c .number-line .ensures .0, omega arith)
+returns c = (c .number-line .ensures .0, omega (arith, c .number-line .ensures .1))
 
 pub refused-page-spec : {M : Type 1} → statement M
-refused-page-spec = tie.close (tie.spec slice-aggregate-number-line number-line-requires returns)
+refused-page-spec =
+    tie.close
+    (tie.spec
+    slice-aggregate-number-line
+    number-line-requires
+    returns)

@@ -1,8 +1,6 @@
--- `short_page` meets its contract: the first line, then the three groups. Assumes nothing.
+-- `short_page` meets its contract: one line. Assumes nothing.
 use native.Mathlib.Omega.{arith}
 use borrow.Author.Needs.{needs}
-use Rattle.listing.specs.Near.{shortListing}
-use Rattle.listing.specs.Puts.{puts-then}
 use Rattle.listing.proofs.near.short_page.Statement.{statement}
 use Rattle.listing.proofs.near.short_page.Tie as tie
 
@@ -12,22 +10,8 @@ slice-aggregate-number-line c = search needs
 number-line-requires : tie.Need-number-line-requires
 number-line-requires c κs = search needs
 
-all-lines-requires : tie.Need-all-lines-requires
-all-lines-requires c κs = search needs
-
-all-lines-requires-2 : tie.Need-all-lines-requires-2
-all-lines-requires-2 c κs = search needs
-
-all-lines-requires-3 : tie.Need-all-lines-requires-3
-all-lines-requires-3 c κs = search needs
-
 returns : tie.Need-returns
-unfolding shortListing
-returns c = (
-  puts-then (c .before .before .before .before .before .before .number-line .ensures .0)
-      (puts-then (c .before .before .before .before .all-lines .ensures .0) (puts-then (c .before .before .all-lines2 .ensures .0) (c .all-lines3 .ensures .0))),
-  omega arith,
-)
+returns c = (c .number-line .ensures .0, omega (arith, c .number-line .ensures .1))
 
 pub short-page-spec : {M : Type 1} → statement M
 short-page-spec =
@@ -35,7 +19,4 @@ short-page-spec =
     (tie.spec
     slice-aggregate-number-line
     number-line-requires
-    all-lines-requires
-    all-lines-requires-2
-    all-lines-requires-3
     returns)

@@ -2,8 +2,7 @@
 use mathlib.Core.Path.{ap}
 use native.Mathlib.Omega.{arith}
 use borrow.Author.Needs.{needs}
-use Rattle.listing.specs.Lines.{line}
-use Rattle.listing.specs.Wires.{wiresWord}
+use Rattle.model.specs.Listing.{line, wiresWord}
 use Rattle.listing.specs.Puts.{puts-as}
 use Rattle.listing.proofs.wires.count_page.Statement.{statement}
 use Rattle.listing.proofs.wires.count_page.Tie as tie
@@ -18,9 +17,13 @@ number-line-requires : tie.Need-number-line-requires
 number-line-requires c κs = search needs
 
 returns : tie.Need-returns
-returns c = (puts-as (ap (line wiresWord) (c .before .before .before .count-wires .ensures)) (c .number-line .ensures .0), omega arith)
+returns c = (puts-as (ap (line wiresWord) (c .before .before .before .count-wires .ensures)) (c .number-line .ensures .0), omega (arith, c .number-line .ensures .1))
 
 pub count-page-spec : {M : Type 1} → statement M
 count-page-spec =
     tie.close
-    (tie.spec count-wires-requires slice-aggregate-number-line number-line-requires returns)
+    (tie.spec
+    count-wires-requires
+    slice-aggregate-number-line
+    number-line-requires
+    returns)

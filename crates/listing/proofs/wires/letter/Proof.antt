@@ -3,7 +3,7 @@ use native.Mathlib.Omega.{arith}
 use borrow.Author.Needs.{needs}
 use mathlib.Core.Path.{sym}
 use lib.ListN.{List·getD-eq-default}
-use Rattle.listing.specs.Wires.{letters}
+use Rattle.listing.specs.Letters.{letters}
 use Rattle.listing.proofs.wires.letter.Statement.{statement}
 use Rattle.listing.proofs.wires.letter.Tie as tie
 

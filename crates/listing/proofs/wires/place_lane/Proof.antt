@@ -4,8 +4,8 @@ use borrow.Author.Needs.{needs}
 use mathlib.Core.Path.{ap, _∙_}
 use mathlib.Core.List.{[], _∷_, _++_}
 use Prim.Native.Nat.{ℕ}
-use Rattle.listing.specs.Lines.{spaced}
-use Rattle.listing.specs.Wires.{letter-kind}
+use Rattle.model.specs.Listing.{spaced}
+use Rattle.listing.specs.Letters.{letter-kind}
 use Rattle.listing.specs.Puts.{puts-then, puts-as}
 use Rattle.listing.proofs.wires.place_lane.Statement.{statement}
 use Rattle.listing.proofs.wires.place_lane.Tie as tie

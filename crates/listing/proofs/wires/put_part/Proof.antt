@@ -10,7 +10,7 @@ use Rattle.wire.specs.declared.Part.{Part}
 use Rattle.wire.specs.declared.Part.the-variants.{Unwired, To, Out, PastTheEnd}
 use Rattle.wire.specs.Hops.{asPart}
 use Rattle.wire.proofs.Part.{enum}
-use Rattle.listing.specs.Wires.{partBytes}
+use Rattle.model.specs.Listing.{partBytes}
 use Rattle.listing.specs.Puts.{puts-none, puts-then, puts-as}
 use Rattle.listing.proofs.wires.put_part.Statement.{statement}
 use Rattle.listing.proofs.wires.put_part.Tie as tie

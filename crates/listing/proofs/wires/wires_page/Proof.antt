@@ -1,67 +1,48 @@
--- `wires_page` meets its contract. The loop's invariant: the lines of the cells before this one stand on the page, which has room for one more.
--- Assumes nothing.
-use mathlib.Core.Path.{_≡_, ap, _∙_}
-use mathlib.Core.List.{List, _++_}
-use Prim.Native.Nat.{ℕ, _+_, _-_, _*_, _≤_}
+-- `wires_page` meets its contract. The loop's invariant: what was left at the first cursor stands on the page up to n, and the rest is left at this one.
+-- Each turn leads further. Assumes nothing.
+use Prim.Native.Nat.{ℕ, _+_, _*_, _≤_, _<_}
 use native.Mathlib.Omega.{arith}
 use denote.Ref.{now}
 use Rattle.model.specs.Record.{jobOf, load}
-use Rattle.listing.specs.Lines.{spread}
-use Rattle.listing.specs.Wires.{cellWire}
-use Rattle.listing.specs.Puts.{Puts, puts-none, puts-then, puts-as, spread-more}
+use Rattle.listing.specs.Left.{left, ahead, Passes}
+use Rattle.listing.specs.Passed.{stands-few, ahead-done, passes-none, passes-then}
 use Rattle.listing.proofs.wires.wires_page.Statement.{statement}
 use Rattle.listing.proofs.wires.wires_page.Tie as tie
 
 abbrev Inv-loop : tie.InvT-loop
-Inv-loop rec from out₀ n₀ cell₀ out n cell =
-    (from ≤ cell) × (cell ≤ 1600) × (n ≤ 992100) × (n ≤ 392100 * (cell - from))
-    × Puts (spread (cellWire (jobOf rec) (load rec)) from (cell - from)) 0 out₀ out n
+Inv-loop rec out₀ n₀ at₀ out n at =
+    (n ≤ 32760) × (n + 160 * ahead (at .cell) (at .index) ≤ 160 * ahead (at₀ .cell) (at₀ .index))
+    × Passes rec (left (jobOf rec) (load rec) (at₀ .cell) (at₀ .index)) 0 out₀ out n (at .cell) (at .index) (at .dart) (at .lane)
 
 abbrev μ-loop : tie.MeasureT-loop
-μ-loop rec from out₀ n₀ cell₀ out n cell = 1600 - cell
+μ-loop rec out₀ n₀ at₀ out n at = ahead (at .cell) (at .index)
 
 loop-holds : tie.Need-loop-holds Inv-loop μ-loop
-unfolding spread
-loop-holds c =
-    let a = c .before .args in
-    let none : 0 ≡ a .from - a .from = omega arith in (
-      omega arith,
-      omega arith,
-      omega arith,
-      omega arith,
-      puts-as (ap (spread (cellWire (jobOf (now (a .rec))) (load (now (a .rec)))) (a .from)) none) puts-none,
-    )
+loop-holds c = (omega arith, omega arith, passes-none (c .before .pre .2))
 
 returns : tie.Need-returns Inv-loop μ-loop
-returns c = (c .before .before .loop .inv .4, omega arith)
+returns c =
+    let l = c .before .before .before .loop in
+    let s = c .before .before .before .before .before in
+    (l .inv .2, (omega (arith, l .inv .0), omega (arith, l .inv .1, c .if2 .taken)))
 
-cell-wire-requires : tie.Need-cell-wire-requires Inv-loop μ-loop
-cell-wire-requires c κs = (c .before .before .before .before .before .pre .0, omega arith)
-
-add-cell : tie.Need-add-cell Inv-loop μ-loop
-add-cell c = omega arith
+put-next-requires : tie.Need-put-next-requires Inv-loop μ-loop
+put-next-requires c κs = let l = c .before .before .before .before .loop in ((c .before .before .before .before .before .before .pre .0, c .before .before .if1 .taken, l .inv .2 .stands), omega (arith, c .before .if2 .left))
 
 loop-less : tie.Need-loop-less Inv-loop μ-loop
-loop-less c = omega arith
+loop-less c = c .before .put-next .ensures .1 .1
 
 loop-again : tie.Need-loop-again Inv-loop μ-loop
 loop-again c =
-    let l = c .before .before .before .before .loop in
-    let a = c .before .before .before .before .before .before .args in
-    let g : ℕ → List ℕ = cellWire (jobOf (now (a .rec))) (load (now (a .rec))) in
-    let k : ℕ = l .cell - a .from in
-    let here : l .cell ≡ a .from + k = omega arith in
-    let more : k + 1 ≡ l .cell + 1 - a .from = omega arith in (
-      omega arith,
-      omega arith,
-      omega arith,
-      omega arith,
-      puts-as (ap (λ (p : ℕ). spread g (a .from) k ++ g p) here ∙ (spread-more g (a .from) k ∙ ap (spread g (a .from)) more))
-          (puts-then (l .inv .4) (c .cell-wire .ensures .0)),
-    )
+    let l = c .before .before .before .before .before .before .loop in
+    let r = c .before .put-next .ensures in
+    (omega (arith, c .before .before .before .if2 .left, r .1 .0), omega (arith, l .inv .1, r .1), passes-then (l .inv .2) (r .0))
 
 returns-2 : tie.Need-returns-2 Inv-loop μ-loop
-returns-2 c = (c .before .loop .inv .4, omega arith)
+returns-2 c =
+    let l = c .before .before .loop in
+    let s = c .before .before .before .before in
+    (l .inv .2, (omega (arith, l .inv .0), ahead-done (s .args .from .cell) (s .args .from .index) _ _ (s .pre .1) (stands-few (now (s .args .rec)) (s .pre .0) _ _ _ _ (s .pre .2)) (c .if1 .left)))
 
 pub wires-page-spec : {M : Type 1} → statement M
 wires-page-spec =
@@ -71,8 +52,7 @@ wires-page-spec =
     μ-loop
     loop-holds
     returns
-    cell-wire-requires
-    add-cell
+    put-next-requires
     loop-less
     loop-again
     returns-2)
