@@ -1,13 +1,14 @@
-// Step, Shortfall and Part: the wires of a record.
+// Step, Shortfall, Part and the listing: the wires of a record.
 use answers::Answer;
 use audit::sound;
 use channel::clear;
 use channel::is_chosen;
+use listing::Listed;
 use search::lacking;
 use search::step::Progress;
 use wire::part_at;
 ghost use mathlib.Core.List.{[]};
-ghost use Rattle.model.specs.Calls.{step as Step, shortfall as Shortfall, part as Part, after, Did};
+ghost use Rattle.model.specs.Calls.{step as Step, shortfall as Shortfall, part as Part, listing as Listing, after, Did};
 ghost use Rattle.answers.specs.Answers.{asAnswer};
 
 // One wire more, if one fits.
@@ -60,4 +61,17 @@ pub fn part(rec: &[u8], row: usize, column: usize, index: usize) -> Answer
         return Answer::Refused(4);
     }
     Answer::Lists(part_at(rec, row, column, index))
+}
+
+// The listing of the wires that the record holds.
+pub fn list_wires(rec: &[u8], output: &mut [u8]) -> Answer
+    ensures { λ a. ⌜ Did (Listing (now (output .entry))) (now (rec .entry)) (after (asAnswer a) (now (rec .entry)) [] (now (output .exit))) ⌝ }
+{
+    if !sound(rec) {
+        return Answer::Refused(1);
+    }
+    match listing::write(rec, output) {
+        Listed::Wrote(n) => Answer::Wrote(n),
+        Listed::Short => Answer::Refused(7),
+    }
 }

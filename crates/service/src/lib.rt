@@ -1,4 +1,4 @@
-// The operations of document 01 on lent buffers. Each takes any bytes and any numbers, refuses by the first number that fits, and says what it leaves in
+// The operations of document 01, and the listing of a record's wires, on lent buffers. Each takes any bytes and any numbers, refuses by the first number that fits, and says what it leaves in
 // every byte.
 pub use answers::Answer;
 pub use editing::close;
@@ -6,6 +6,7 @@ pub use editing::mark;
 pub use making::new;
 pub use making::read_text;
 pub use making::write_text;
+pub use routing::list_wires;
 pub use routing::part;
 pub use routing::shortfall;
 pub use routing::step;

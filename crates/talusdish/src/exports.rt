@@ -1,7 +1,7 @@
-// The eight operations. Each passes its buffers on and returns the word of an answer with which the operation did what it promises.
+// The eight operations of document 01, and the listing of a record's wires. Each passes its buffers on and returns the word of an answer with which the operation did what it promises.
 ghost use mathlib.Core.Path.{_≡_};
 ghost use mathlib.Core.List.{[]};
-ghost use Rattle.model.specs.Calls.{new as New, mark as Mark, close as Close, step as Step, shortfall as Shortfall, part as Part, readText, writeText};
+ghost use Rattle.model.specs.Calls.{new as New, mark as Mark, close as Close, step as Step, shortfall as Shortfall, part as Part, readText, writeText, listing as Listing};
 ghost use Rattle.model.specs.Calls.{Answer, after, Did};
 ghost use Rattle.talusdish.specs.Words.{word};
 use crate::word::word_of;
@@ -91,4 +91,13 @@ pub extern "C" fn talusdish_write_text(rec: &[u8], output: &mut [u8]) -> u64
         × Did (writeText (now (output .entry))) (now (rec .entry)) (after a (now (rec .entry)) [] (now (output .exit)))) ⌝ }
 {
     word_of(service::write_text(rec, output))
+}
+
+// The listing of the wires that the record holds.
+#[no_mangle]
+pub extern "C" fn talusdish_listing(rec: &[u8], output: &mut [u8]) -> u64
+    ensures { λ n. ⌜ ((a : Answer) × (n ≡ word a)
+        × Did (Listing (now (output .entry))) (now (rec .entry)) (after a (now (rec .entry)) [] (now (output .exit)))) ⌝ }
+{
+    word_of(service::list_wires(rec, output))
 }

@@ -28,22 +28,16 @@ slice-aggregate-show-routed c = search needs
 
 show-routed-requires : tie.Need-show-routed-requires
 show-routed-requires c κs =
-    let c5 = c .before .before .before .before .before in
-    let t = now (c5 .before .before .before .args .text) in
-    code-round-trip .read-legal t zeros (c5 .read-into .last .1 .0)
-    (subst (ReadsInto t zeros (c5 .read-into .last .1 .0)) (c .before .before .enum-told .given .1) (c5 .read-into .ensures))
+    let c4 = c .before .before .before .before in
+    let t = now (c .before .before .before .before .before .before .before .args .text) in
+    code-round-trip .read-legal t zeros (c4 .read-into .last .1 .0)
+    (subst (ReadsInto t zeros (c4 .read-into .last .1 .0)) (c .before .enum-told .given .1) (c4 .read-into .ensures))
 
 enum-known-o : tie.Need-enum-known-o
 enum-known-o c = search needs
 
-refused-page-requires : tie.Need-refused-page-requires
-refused-page-requires c κs = search needs
-
-whole-requires : tie.Need-whole-requires
-whole-requires c κs = search needs
-
-print-requires : tie.Need-print-requires
-print-requires c κs = search needs
+show-refused-requires : tie.Need-show-refused-requires
+show-refused-requires c κs = search needs
 
 returns : tie.Need-returns
 returns c = search needs
@@ -61,8 +55,6 @@ show-text-spec =
     slice-aggregate-show-routed
     show-routed-requires
     enum-known-o
-    refused-page-requires
-    whole-requires
-    print-requires
+    show-refused-requires
     returns
     returns-2)

@@ -1,0 +1,2 @@
+-- What is handed to standard output.
+pub mod Handed
