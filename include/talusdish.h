@@ -24,7 +24,7 @@
  * calls, so calls on different records may run at the same time. docs/RECORD.md says what each byte of a record and of shortfall's output holds.
  *
  * A call works on the stack of its thread: step and shortfall need 263 KiB of it, mark, close, part and write_text 103 KiB, new and read_text at most 17 KiB
- * (measured on x86-64 with two 40 by 40 jobs, not proved; rules was not measured). A thread with 512 KiB is safe.
+ * (measured on x86-64 with two 40 by 40 jobs, not proved; listing and rules were not measured). A thread with 512 KiB is safe.
  */
 #ifndef TALUSDISH_H
 #define TALUSDISH_H
@@ -71,6 +71,11 @@ uint64_t talusdish_read_text(uint8_t *record, uint64_t record_len, const uint8_t
 /* The text of the job, wires left out. 1; 7 for output shorter than the text. The value is the text's length. The longest
  * text has 46,877 bytes (40 by 40, every pin missing, every tile closed); that 320,200 are always enough is proved. */
 uint64_t talusdish_write_text(const uint8_t *record, uint64_t record_len, uint8_t *output, uint64_t output_len);
+
+/* The listing of the wires that the record holds, as the program escape prints wires, whether all are wired or not; beyond document 01. 1; 7 for output
+ * shorter than the listing. The value is the listing's length; bytes beyond it are untouched. The longest listing found has 678,069 bytes; that
+ * 1,254,600,029 are always enough is proved. */
+uint64_t talusdish_listing(const uint8_t *record, uint64_t record_len, uint8_t *output, uint64_t output_len);
 
 /* The capacities that design rules give: pitch p, pad diameter d, wire width w and spacing s, in micrometres. 9; 10. No record is needed.
  * *o        the quotient of p - d - s by w + s, and *o_rest its remainder

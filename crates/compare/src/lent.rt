@@ -77,3 +77,10 @@ pub fn write_on(rec: &[u8], output: &mut [u8], m: usize) -> Answer {
     }
     Answer::Done
 }
+
+pub fn list_on(rec: &[u8], output: &mut [u8], m: usize) -> Answer {
+    if m <= output.len() {
+        return service::list_wires(rec, &mut output[..m]);
+    }
+    Answer::Done
+}

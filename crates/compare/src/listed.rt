@@ -1,18 +1,22 @@
 // The router's listings, made as `escape` makes them, and its search.
 use audit::sound;
-use listing::Page;
-use listing::count_page;
+use listing::NearFilled;
+use listing::near_page;
 use listing::refused_page;
 use listing::short_page;
-use listing::wires_page;
 use oracle_text::page::Page as Sheet;
 use search::route_all;
+use service::Answer;
+use service::list_wires;
 use text::Judged;
 use text::read_into;
 use verdict::bytes::first;
-ghost use Rattle.model.specs.Record.{Legal};
+ghost use Prim.Native.Nat.{_≤_, _<_};
 
 pub type Near = [u8; 32768];
+
+// A whole listing.
+pub type Page = [u8; 1048576];
 
 // What `routed` and `listed` answer of a damaged record.
 pub const DAMAGED: usize = 100000;
@@ -41,23 +45,12 @@ fn append(out: &mut Page, at: usize, s: &[u8]) -> usize {
     n
 }
 
-// The wires of a legal record.
-fn list_wires(rec: &[u8], page: &mut Page) -> usize
-    requires { ⌜ Legal (now rec) ⌝ }
-{
-    let mut work = [0u8; 1048576];
-    let a = count_page(rec, &mut work);
-    let n = append(page, 0, shown(&work, a));
-    let filled = wires_page(rec, 0, &mut work);
-    append(page, n, shown(&work, filled.length))
-}
-
-// The wires of a record, as many as one page takes; gives the length.
+// The wires of a record; gives the length.
 pub fn listed(rec: &[u8], page: &mut Page) -> usize {
-    if !sound(rec) {
+    let Answer::Wrote(n) = list_wires(rec, page) else {
         return DAMAGED;
-    }
-    list_wires(rec, page)
+    };
+    n
 }
 
 // All wires laid that fit; gives how many chosen pins stay unwired, with the near side where some do.
@@ -68,9 +61,39 @@ pub fn routed(rec: &mut [u8], near: &mut Near) -> usize {
     route_all(rec, near)
 }
 
-// The near side of a job that lacks `short` wires.
+// A page of the near side, from this entry on.
+fn near_part(rec: &Near, near: &Near, from: usize, work: &mut Near) -> NearFilled
+    requires { ⌜ from < 4800 ⌝ }
+    ensures { λ r. ⌜ (from < r .next) × (r .next ≤ 4800) ⌝ }
+{
+    near_page(rec, near, from, work)
+}
+
+// The first `n` bytes of a page of 32 KB.
+fn laid(work: &Near, n: usize) -> &[u8] {
+    let all: &[u8] = work;
+    first(all, n)
+}
+
+// The near side of a job that lacks `short` wires, page by page.
 fn list_near(rec: &Near, near: &Near, short: usize, page: &mut Page) -> usize {
-    short_page(rec, near, short, page)
+    let mut work = [0u8; 32768];
+    let a = short_page(short, &mut work);
+    let mut n = append(page, 0, laid(&work, a));
+    let mut from: usize = 0;
+    while from < 4800 {
+        let filled = near_part(rec, near, from, &mut work);
+        n = append(page, n, laid(&work, filled.length));
+        from = filled.next;
+    }
+    n
+}
+
+// A refusal at this offset.
+fn list_refused(offset: usize, page: &mut Page) -> usize {
+    let mut work = [0u8; 32768];
+    let n = refused_page(offset, &mut work);
+    append(page, 0, laid(&work, n))
 }
 
 // The listing of a text; gives its length.
@@ -78,7 +101,7 @@ pub fn list_text(text: &[u8], page: &mut Page) -> usize {
     let mut rec = [0u8; 32768];
     let mut near = [0u8; 32768];
     match read_into(text, &mut rec) {
-        Judged::WrongAt(o) => refused_page(o, page),
+        Judged::WrongAt(o) => list_refused(o, page),
         Judged::Reads => {
             let short = routed(&mut rec, &mut near);
             if short == 0 {

@@ -4,6 +4,7 @@ use crate::words::Counts;
 use crate::words::count;
 use crate::words::says;
 use check::same;
+use compare::lent::list_on;
 use compare::listed::held;
 use oracle_text::random::below;
 use oracle_text::random::random_job;
@@ -11,6 +12,7 @@ use oracle_text::random::xorshift;
 use oracle_text::text::write_text;
 use service::Answer;
 use talusdish::exports::talusdish_close;
+use talusdish::exports::talusdish_listing;
 use talusdish::exports::talusdish_mark;
 use talusdish::exports::talusdish_new;
 use talusdish::exports::talusdish_part;
@@ -218,6 +220,42 @@ fn call_write(tally: &mut Tally, rec: &[u8], twin: &[u8], seed: u32) -> Answer {
     write_both(tally, rec, twin, &mut output, &mut target)
 }
 
+// The exported function on the first `m` bytes of the output.
+fn listing_on(rec: &[u8], output: &mut [u8], m: usize) -> u64 {
+    if m <= output.len() {
+        return talusdish_listing(rec, &mut output[..m]);
+    }
+    0
+}
+
+// The length of the listing; 0 where there is none.
+fn listing_length(rec: &[u8]) -> usize {
+    let mut whole = [0u8; 50000];
+    let Answer::Wrote(n) = service::list_wires(rec, &mut whole) else {
+        return 0;
+    };
+    n
+}
+
+// The output is empty, as long as the listing, a byte shorter, a byte longer, or all.
+fn call_listing(tally: &mut Tally, rec: &[u8], twin: &[u8], seed: u32) -> Answer {
+    let mut output = [90u8; 50000];
+    let mut target = [90u8; 50000];
+    let n = listing_length(rec);
+    let m = match below(seed, 8) {
+        0 => 0,
+        1 => std::num::wrapping_sub_usize(n, 1),
+        2 => std::num::wrapping_add_usize(n, 1),
+        3 => 50000,
+        _ => n,
+    };
+    let answer = list_on(rec, &mut output, m);
+    let word = listing_on(twin, &mut target, m);
+    hold(tally, says(word, answer), b"the word of listing");
+    hold(tally, same(&output, &target), b"the output of listing");
+    answer
+}
+
 // A call of this kind.
 fn call(tally: &mut Tally, rec: &mut [u8], twin: &mut [u8], seed: u32, kind: usize) -> Answer {
     match kind {
@@ -228,7 +266,8 @@ fn call(tally: &mut Tally, rec: &mut [u8], twin: &mut [u8], seed: u32, kind: usi
         4 => call_step(tally, rec, twin, seed),
         5 => call_shortfall(tally, rec, twin, seed),
         6 => call_part(tally, rec, twin, seed),
-        _ => call_write(tally, rec, twin, seed),
+        7 => call_write(tally, rec, twin, seed),
+        _ => call_listing(tally, rec, twin, seed),
     }
 }
 
@@ -277,7 +316,8 @@ fn kind_of(n: usize, k: usize) -> usize {
         match n {
             0..=14 => 4,
             15..=16 => 5,
-            17..=30 => 6,
+            17..=28 => 6,
+            29 | 30 => 8,
             _ => 7,
         }
     }

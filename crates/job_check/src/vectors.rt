@@ -1,11 +1,11 @@
 // The vectors of data/: NAME.job with NAME.expect, what `escape` prints for it, of a wired job the first line alone. A wired job's listing has to be legal.
 use check::same;
+use compare::listed::Page;
 use compare::listed::held;
 use compare::listed::list_text;
 use compare::listed::shown;
 use judge::listing::check_listing;
 use judge::walk::LEGAL;
-use listing::Page;
 use oracle_text::page::Page as Sheet;
 use oracle_text::page::byte;
 use oracle_text::page::decimal;

@@ -1,4 +1,4 @@
-// Random calls on one record, of all eight kinds, on buffers of all lengths. The job of the list is kept beside it in the oracle's terms, and says what each
+// Random calls on one record, of all nine kinds, on buffers of all lengths. The job of the list is kept beside it in the oracle's terms, and says what each
 // call has to answer; a call that is refused, or has nothing to change, leaves every byte as it is.
 use crate::draws::pick;
 use crate::draws::pick_length;
@@ -16,9 +16,11 @@ use crate::expect::expect_step;
 use crate::expect::expect_write;
 use crate::lookup::put_expected;
 use check::same;
+use compare::lent::list_on;
 use compare::lent::shortfall_on;
 use compare::lent::step_on;
 use compare::lent::write_on;
+use compare::listed::Page;
 use compare::listed::held;
 use compare::listed::listed;
 use compare::listed::shown;
@@ -29,7 +31,6 @@ use compare::said::LISTS;
 use compare::said::REFUSED;
 use compare::said::Said;
 use compare::said::put_listed;
-use listing::Page;
 use oracle::near::shortfall;
 use oracle_text::job::Job;
 use oracle_text::job::fresh;
@@ -163,6 +164,26 @@ fn call_write(tally: &mut Tally, rec: &Record, job: &Job, seed: u32) -> u32 {
     b
 }
 
+// The listing of the wires, into an output of any length. `listed` gives the whole, which `job_check` has judged.
+fn call_listing(tally: &mut Tally, rec: &Record, page: &mut Page, seed: u32) -> u32 {
+    let a = xorshift(seed);
+    let b = xorshift(a);
+    let mut output = [90u8; 66000];
+    let length = listed(rec, page);
+    let n = pick_length(a, 32768, 32800);
+    let m = pick_length(b, length, 66000);
+    let answer = list_on(first(rec, n), &mut output, m);
+    let expected = expect_write(n, m, length);
+    hold_answer(tally, answer, expected, b"listing answers");
+    hold_text(
+        tally,
+        &output,
+        shown(page, length),
+        expected.kind == REFUSED,
+    );
+    b
+}
+
 // A call of this kind.
 fn call(
     tally: &mut Tally,
@@ -180,7 +201,8 @@ fn call(
         4 => call_step(tally, rec, job, seed),
         5 => call_shortfall(tally, rec, job, seed),
         6 => call_part(tally, rec, job, page, seed),
-        _ => call_write(tally, rec, job, seed),
+        7 => call_write(tally, rec, job, seed),
+        _ => call_listing(tally, rec, page, seed),
     }
 }
 
@@ -194,7 +216,8 @@ fn editing(n: usize) -> usize {
         22..=24 => 4,
         25 => 5,
         26..=28 => 6,
-        _ => 7,
+        29 | 30 => 7,
+        _ => 8,
     }
 }
 
@@ -205,8 +228,9 @@ fn asking(n: usize) -> usize {
         1 => 3,
         2..=17 => 4,
         18..=21 => 5,
-        22..=28 => 6,
-        _ => 7,
+        22..=27 => 6,
+        28 | 29 => 7,
+        _ => 8,
     }
 }
 

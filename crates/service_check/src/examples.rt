@@ -1,5 +1,6 @@
 // The examples of document 01: those of its text, and those settled by hand, with direct exits; and short jobs with inner pins.
 use check::same;
+use compare::listed::Page;
 use compare::listed::held;
 use compare::listed::list_text;
 use compare::listed::shown;
@@ -18,7 +19,6 @@ use compare::said::put_listed;
 use compare::said::say;
 use judge::listing::check_listing;
 use judge::walk::LEGAL;
-use listing::Page;
 use oracle_text::text::read_text;
 use verdict::bytes::Tally;
 use verdict::bytes::first;
