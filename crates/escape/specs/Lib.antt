@@ -1,2 +1,3 @@
--- What is handed to standard output.
+-- What is handed to standard output, and what has to be printed for a text.
 pub mod Handed
+pub mod Prints

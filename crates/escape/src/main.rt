@@ -10,11 +10,16 @@ use pages::show_wires;
 use search::route_all;
 use text::Judged;
 use text::read_into;
-ghost use Rattle.model.specs.Record.{Legal};
+ghost use mathlib.Core.List.{List};
+ghost use Prim.Native.Nat.{ℕ};
+ghost use Rattle.model.specs.Record.{jobOf, Legal};
+ghost use Rattle.escape.specs.Handed.{Handed};
+ghost use Rattle.escape.specs.Prints.{Lists, Prints};
 
 // The wires of a job in which all are laid that fit, or the near side where some pin stays unwired.
 fn show_routed(rec: &mut [u8]) -> Shown
     requires { ⌜ Legal (now rec) ⌝ }
+    ensures { λ r. ⌜ ((bytes : List ℕ) × Lists (jobOf (now (rec .entry))) bytes × Handed r bytes) ⌝ }
 {
     let mut near = [0u8; 32768];
     let short = route_all(rec, &mut near);
@@ -25,7 +30,9 @@ fn show_routed(rec: &mut [u8]) -> Shown
 }
 
 // The listing of a text.
-fn show_text(text: &[u8]) -> Shown {
+fn show_text(text: &[u8]) -> Shown
+    ensures { λ r. ⌜ ((bytes : List ℕ) × Prints (now (text .entry)) bytes × Handed r bytes) ⌝ }
+{
     let mut rec = [0u8; 32768];
     match read_into(text, &mut rec) {
         Judged::Reads => show_routed(&mut rec),

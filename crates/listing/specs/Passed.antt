@@ -1,27 +1,25 @@
 -- How a page of wires is filled: a part more, the end of a line, a cell without a wire, and one after the other. Assumes nothing.
-use mathlib.Core.Path.{_≡_, refl, sym, ap, ap₂, subst, _∙_}
+use mathlib.Core.Path.{_≡_, refl, sym, ap, subst, _∙_}
 use mathlib.Core.Bool.{Bool, true, false, _&&_}
 use mathlib.Core.List.{List, [], _∷_, _++_, append-assoc}
-use mathlib.Core.Option.{Option, none, some}
+use mathlib.Core.Option.{none, some}
 use Prim.Native.Nat.{ℕ, zero, suc, _+_, _-_, _≤_, _<_}
-use native.Mathlib.Numerals.{add-one}
 use native.Mathlib.Omega.{arith}
 use lib.Dec.{T, ltb}
 use Rattle.sums.specs.Counting.{only}
-use Rattle.sums.specs.Tests.{so}
 use Rattle.sums.specs.Entries.{entry-below}
 use Rattle.model.specs.Job.{Job, isChosen}
 use Rattle.model.specs.Links.{pin, at, Step}
 use Rattle.model.specs.Loads.{departures}
 use Rattle.model.specs.Record.{jobOf, load, Legal}
-use Rattle.model.specs.Wires.{Hop, Part, unwired, hopAt, isWired, partOf, partAt}
-use Rattle.model.specs.Listing.{close, pairLine, row, column, spread, wireWord, partBytes, partsBytes, wireLine, cellWire, wiresFrom}
+use Rattle.model.specs.Wires.{Part, unwired, hopAt, isWired, partOf, partAt}
+use Rattle.model.specs.Listing.{close, pairLine, row, column, wireWord, partBytes, partsBytes, wireLine, cellWire, wiresFrom}
 use Rattle.wire.specs.Hops.{hop, Runs}
 use Rattle.wire.specs.Follow.{none-on}
 use Rattle.wire.specs.Threads.{Thread, hops, thread, thread-wire}
 use Rattle.wire.specs.Lengths.{places-few, goes-short}
 use Rattle.listing.specs.Spread.{spread-first, spread-none, each-spread}
-use Rattle.listing.specs.Puts.{Puts, puts-then, Parts, parts-none, parts-then}
+use Rattle.listing.specs.Puts.{Puts, puts-then, parts-none, parts-then}
 use Rattle.listing.specs.Walked.{part-none}
 use Rattle.listing.specs.Left.{partsLeft, hopLeft, left, ahead, Inside, Stands, Passes}
 

@@ -1,7 +1,7 @@
 -- The listing of a short job: its first line, and the entries of its three groups in one row. Assumes nothing.
 use mathlib.Core.Path.{_≡_, sym, ap, ap₂, _∙_}
 use mathlib.Core.List.{List, _++_}
-use Prim.Native.Nat.{ℕ, _+_, _*_, _/_, _%_, _≤_, _<_}
+use Prim.Native.Nat.{ℕ, _+_, _*_, _/_, _%_, _<_}
 use native.Mathlib.Omega.{arith}
 use Rattle.model.specs.Job.{Job}
 use Rattle.model.specs.Listing.{line, spread}

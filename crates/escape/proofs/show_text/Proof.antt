@@ -1,5 +1,5 @@
--- `escape::show_text` is safe: the record of a text that reads is legal. Assumes nothing.
-use mathlib.Core.Path.{subst}
+-- `show_text` prints what document 01 says of a text; the record of one that reads is legal. Assumes nothing.
+use mathlib.Core.Path.{refl, subst}
 use mathlib.Core.List.{List}
 use Prim.Native.Nat.{ℕ}
 use denote.Ref.{now}
@@ -7,6 +7,8 @@ use lib.ListN.{replicate}
 use Rattle.text.specs.Into.{ReadsInto}
 use Rattle.text.proofs.RoundTrip.{code-round-trip}
 use borrow.Author.Needs.{needs}
+use Rattle.listing.specs.Near.{refusedListing}
+use Rattle.escape.specs.Prints.{refused, prints-routed}
 use Rattle.escape.proofs.show_text.Statement.{statement}
 use Rattle.escape.proofs.show_text.Tie as tie
 
@@ -40,10 +42,19 @@ show-refused-requires : tie.Need-show-refused-requires
 show-refused-requires c κs = search needs
 
 returns : tie.Need-returns
-returns c = search needs
+returns c =
+    let t = now (c .before .before .before .before .before .before .before .before .before .args .text) in
+    let r = c .before .before .before .before .before .before .read-into in
+    let (bytes, l, h) = c .before .show-routed .ensures in
+    (bytes, prints-routed t (r .last .1 .0) zeros bytes (subst (ReadsInto t zeros (r .last .1 .0)) (c .before .before .before .enum-told .given .1) (r .ensures)) l, h)
 
 returns-2 : tie.Need-returns-2
-returns-2 c = search needs
+returns-2 c =
+    let t = now (c .before .before .before .before .before .before .before .before .args .text) in
+    let r = c .before .before .before .before .before .read-into in
+    let o = c .before .before .o .given .0 .0 in
+    let (judged, e) = subst (ReadsInto t zeros (r .last .1 .0)) (c .before .before .o .given .1) (r .ensures) in
+    (refusedListing o, refused o judged refl, c .show-refused .ensures)
 
 pub show-text-spec : {M : Type 1} → statement M
 show-text-spec =

@@ -1,8 +1,8 @@
 -- `show_refused` meets its contract: one line. Assumes nothing.
-use mathlib.Core.Path.{_≡_, sym, _∙_}
+use mathlib.Core.Path.{sym, _∙_}
 use Prim.Native.Nat.{ℕ}
 use native.Mathlib.Omega.{arith}
-use lib.ListN.{length, length-replicate}
+use lib.ListN.{length-replicate}
 use borrow.Author.Needs.{needs}
 use Rattle.listing.specs.Puts.{puts-length, puts-page}
 use Rattle.escape.specs.Handed.{handed-as}

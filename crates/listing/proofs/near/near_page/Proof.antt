@@ -1,7 +1,7 @@
 -- `near_page` meets its contract. The loop's invariant: the lines of the entries before this one stand on the page, which has room for one more.
 -- Assumes nothing.
 use mathlib.Core.List.{List}
-use Prim.Native.Nat.{ℕ, _+_, _-_, _*_, _≤_, _<_}
+use Prim.Native.Nat.{ℕ, _-_, _*_, _≤_}
 use native.Mathlib.Omega.{arith}
 use denote.Ref.{now}
 use Rattle.model.specs.Job.{Job}

@@ -4,7 +4,7 @@ use mathlib.Core.List.{List}
 use Prim.Native.Nat.{ℕ, _+_, _-_, _≤_}
 use native.Mathlib.Omega.{arith}
 use denote.Ref.{now}
-use lib.ListN.{length, getD, set, take, length-set}
+use lib.ListN.{length, getD, set, take}
 use lib.Seq.{sets, length-sets, length-take-le}
 use Rattle.listing.specs.Puts.{sets-more}
 use Rattle.listing.proofs.whole.copy_page.Statement.{statement}

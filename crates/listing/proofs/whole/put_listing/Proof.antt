@@ -1,13 +1,11 @@
 -- `put_listing` meets its contract. The loop's invariant: what is laid behind the first line and what is left at the cursor are all wires. Assumes nothing.
-use mathlib.Core.Path.{_≡_, refl, sym, ap, _∙_}
-use mathlib.Core.List.{List}
-use Prim.Native.Nat.{ℕ, _+_, _≤_, _<_}
+use mathlib.Core.Path.{_≡_, refl, _∙_}
+use Prim.Native.Nat.{ℕ}
 use native.Mathlib.Omega.{arith}
 use denote.Ref.{now}
 use lib.ListN.{length, length-replicate}
 use borrow.Author.Needs.{needs}
 use Rattle.model.specs.Record.{jobOf, load}
-use Rattle.model.specs.Listing.{wiresListing}
 use Rattle.listing.specs.Puts.{Parts, puts-length, parts-none, parts-then, parts-all, parts-length}
 use Rattle.listing.specs.Left.{left, ahead, Stands}
 use Rattle.listing.specs.Passed.{stands-first}

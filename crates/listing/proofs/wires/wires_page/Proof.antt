@@ -1,6 +1,6 @@
 -- `wires_page` meets its contract. The loop's invariant: what was left at the first cursor stands on the page up to n, and the rest is left at this one.
 -- Each turn leads further. Assumes nothing.
-use Prim.Native.Nat.{ℕ, _+_, _*_, _≤_, _<_}
+use Prim.Native.Nat.{_+_, _*_, _≤_}
 use native.Mathlib.Omega.{arith}
 use denote.Ref.{now}
 use Rattle.model.specs.Record.{jobOf, load}
