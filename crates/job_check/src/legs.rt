@@ -3,12 +3,13 @@ use oracle_text::job::CHOSEN;
 use oracle_text::job::Job;
 use oracle_text::job::is_open;
 use oracle_text::job::mark;
+use oracle_text::job::room;
 use verdict::record::Record;
 
-// The wire of the pin (0, c), where it is chosen and its tile open: the leg east, at 21,568 + c, and the north side of the tile, at 3,968 + c.
+// The wire of the pin (0, c), where it is chosen, its tile open and the side free: the leg east, at 21,568 + c, and the north side of the tile, at 3,968 + c.
 fn lay(rec: &mut Record, job: &Job, c: usize) {
     if c < 39 {
-        if mark(job, c) == CHOSEN && is_open(job, 0, c) {
+        if mark(job, c) == CHOSEN && is_open(job, 0, c) && room(job, 0, c, b'n') > 0 {
             rec[21568 + c] = 1;
             rec[3968 + c] = 1;
         }
