@@ -77,8 +77,20 @@ module _ (rec : List ℕ) (g : Legal rec) where
         omega (arith, g .values .loads k r c .0, ap (λ (n : ℕ). cell rec n r c) m),
       )
 
+  five : (jobOf rec .rows ≤ 40) × (jobOf rec .columns ≤ 40) × (jobOf rec .O ≤ 8) × (jobOf rec .D ≤ 2 * (jobOf rec .O)) × (jobOf rec .E ≤ 16)
+  five =
+      let J : Job = jobOf rec in
+      let t : T (inRange (J .O) (2 * (J .O)) (J .D) && inRange 0 16 (J .E)) =
+      and-right (inRange 1 8 (J .O)) (inRange (J .O) (2 * (J .O)) (J .D) && inRange 0 16 (J .E)) (g .values .caps) in (
+        range-most 2 40 (J .rows) (and-left (inRange 2 40 (J .rows)) (inRange 2 40 (J .columns)) (g .values .array)),
+        range-most 2 40 (J .columns) (and-right (inRange 2 40 (J .rows)) (inRange 2 40 (J .columns)) (g .values .array)),
+        range-most 1 8 (J .O) (and-left (inRange 1 8 (J .O)) (inRange (J .O) (2 * (J .O)) (J .D) && inRange 0 16 (J .E)) (g .values .caps)),
+        range-most (J .O) (2 * (J .O)) (J .D) (and-left (inRange (J .O) (2 * (J .O)) (J .D)) (inRange 0 16 (J .E)) t),
+        range-most 0 16 (J .E) (and-right (inRange (J .O) (2 * (J .O)) (J .D)) (inRange 0 16 (J .E)) t),
+      )
+
   laid-small : (b : Bool) (m : ℕ) → T (leb m (when b (laidMost (jobOf rec)))) → m < 256
-  laid-small true m t = omega (arith, leb→le m (laidMost (jobOf rec)) t)
+  laid-small true m t = omega (arith, leb→le m (laidMost (jobOf rec)) t, five .2)
   laid-small false m t = omega (arith, leb→le m 0 t)
 
   own-small : (b : Bool) (d : ℕ) → T (elim b as (λ x. Bool) [ true ↦ ownDFits (jobOf rec) d | false ↦ eqb d 0 ]) → d < 256
@@ -103,18 +115,6 @@ module _ (rec : List ℕ) (g : Legal rec) where
   seen-small : (b : Bool) (m : ℕ) → T (leb m (when b (seenMost (jobOf rec)))) → m < 256
   seen-small true m t = omega (arith, leb→le m (seenMost (jobOf rec)) t)
   seen-small false m t = omega (arith, leb→le m 0 t)
-
-  five : (jobOf rec .rows ≤ 40) × (jobOf rec .columns ≤ 40) × (jobOf rec .O ≤ 8) × (jobOf rec .D ≤ 2 * (jobOf rec .O)) × (jobOf rec .E ≤ 16)
-  five =
-      let J : Job = jobOf rec in
-      let t : T (inRange (J .O) (2 * (J .O)) (J .D) && inRange 0 16 (J .E)) =
-      and-right (inRange 1 8 (J .O)) (inRange (J .O) (2 * (J .O)) (J .D) && inRange 0 16 (J .E)) (g .values .caps) in (
-        range-most 2 40 (J .rows) (and-left (inRange 2 40 (J .rows)) (inRange 2 40 (J .columns)) (g .values .array)),
-        range-most 2 40 (J .columns) (and-right (inRange 2 40 (J .rows)) (inRange 2 40 (J .columns)) (g .values .array)),
-        range-most 1 8 (J .O) (and-left (inRange 1 8 (J .O)) (inRange (J .O) (2 * (J .O)) (J .D) && inRange 0 16 (J .E)) (g .values .caps)),
-        range-most (J .O) (2 * (J .O)) (J .D) (and-left (inRange (J .O) (2 * (J .O)) (J .D)) (inRange 0 16 (J .E)) t),
-        range-most 0 16 (J .E) (and-right (inRange (J .O) (2 * (J .O)) (J .D)) (inRange 0 16 (J .E)) t),
-      )
 
   abbrev HeadAgain : ℕ → Type 0
   HeadAgain i = (headByte (jobOf rec) i ≡ getD rec i 0) × (headByte (jobOf rec) i < 256)

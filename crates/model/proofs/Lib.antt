@@ -10,6 +10,7 @@ pub mod LaneOrder
 pub mod Clockwise
 -- Records: of a job with loads, of a job without, and the rest of a longer buffer.
 pub mod Added
+pub mod Sides
 pub mod RecordOf
 pub mod Unwired
 pub mod JobBytes

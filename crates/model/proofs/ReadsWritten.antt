@@ -12,12 +12,14 @@ use lib.ListN.{length, length-append}
 use Rattle.sums.specs.Counting.{when, only, each}
 use Rattle.sums.specs.Tests.{Same, same, other, same?, below-or, and-left, and-right, and-both}
 use Rattle.model.specs.Job.{Job, arrayFits, capsAdmitted, fresh, isPin, isTile, isChosen, isMissing, isClosed, Proper}
-use Rattle.model.specs.Text.{Group, chosenPins, missingPins, closedTiles, groups, Line, arrayLine, groupLine, endLine, says, lineBytes, afterArray}
-use Rattle.model.specs.Text.{finished, within, rank, keyOf, Reader, start, asking, inTurn, names, named, admit, Verdict, reads, Reads, ended, line}
+use Rattle.model.specs.Text.{Group, chosenPins, missingPins, closedTiles, laidSides, groups, Line, arrayLine, groupLine, endLine, says, lineBytes}
+use Rattle.model.specs.Text.{afterArray}
+use Rattle.model.specs.Text.{finished, within, rank, keyOf, Reader, start, asking, inTurn, writesSide, names, named, admit, Verdict, reads, Reads, ended, line}
 use Rattle.model.specs.Text.{Reading, valueAt, valueLine, groupText, listed, textOf}
+use Rattle.model.proofs.Sides.{value-most}
 use Rattle.model.proofs.TextProper.{fresh-proper, named-proper}
 use Rattle.model.proofs.TextNames.{turn, due, rank-group, turn-same, Ranked, groups-ranked, when-so, when-not, when-some, zero-so, names-inside}
-use Rattle.model.proofs.TextNames.{value-inside, value-line, proper-size, fresh-none, named-here, named-else, Alike, named-alike, job-known}
+use Rattle.model.proofs.TextNames.{side-written, value-inside, value-line, proper-size, fresh-none, named-here, named-else, Alike, named-alike, job-known}
 
 -- ---- reading on
 
@@ -83,7 +85,7 @@ equal-some (suc n) m f g = f (omega arith)
 
 -- the job read so far has the values of J before the turn p
 record Partly (J : Job) (p : ℕ) (R : Reader) : Type 0 where
-  stage : (1 ≤ rank (R .stage)) × (rank (R .stage) ≤ 4)
+  stage : (1 ≤ rank (R .stage)) × (rank (R .stage) ≤ 5)
   next : due R ≤ p
   proper : Proper (R .job)
   alike : Alike (R .job) J
@@ -119,15 +121,15 @@ told d n b l =
     and-both (eqb d 0) (eqb (when (eqb d 0 && b) n) n) (and-left (eqb d 0) b t)
     (subst (λ (m : ℕ). T (eqb m n)) (sym (when-so (eqb d 0 && b) n t)) (eqb-refl n))
 
-may-name : (J K : Job) → Alike K J → ((h : Group) (i j e : ℕ) → 0 < valueAt K h i j e → valueAt K h i j e ≡ valueAt J h i j e)
+may-name : (J K : Job) → Proper J → Alike K J → ((h : Group) (i j e : ℕ) → 0 < valueAt K h i j e → valueAt K h i j e ≡ valueAt J h i j e)
     → (g : Group) (r c d : ℕ) → 0 < valueAt J g r c d → T (names K g r c d (valueAt J g r c d))
 unfolding isChosen isMissing isClosed
-may-name J K a f chosenPins r c d l =
+may-name J K p a f chosenPins r c d l =
     let t : T (isChosen J r c) = and-right (eqb d 0) (isChosen J r c) (when-some (eqb d 0 && isChosen J r c) 1 l) in
     and-both (isPin K r c) (says chosenPins d (valueAt J chosenPins r c d))
     (subst₂ (λ (n m : ℕ). T (ltb r n && ltb c m)) (sym (a .rows)) (sym (a .columns)) (and-left (isPin J r c) (eqb (J .mark r c) 1) t))
     (told d 1 (isChosen J r c) l)
-may-name J K a f missingPins r c d l =
+may-name J K p a f missingPins r c d l =
     let t : T (isMissing J r c) = and-right (eqb d 0) (isMissing J r c) (when-some (eqb d 0 && isMissing J r c) 2 l) in
     let two : J .mark r c ≡ 2 = eqb→eq (J .mark r c) 2 (and-right (isPin J r c) (eqb (J .mark r c) 2) t) in
     let pin : T (isPin K r c) =
@@ -140,11 +142,20 @@ may-name J K a f missingPins r c d l =
     (and-both (isPin K r c) unchosen pin (not-T (eqb (K .mark r c) 1) (λ u.
     absurd (omega (arith, two, eqb→eq (J .mark r c) 1 (and-right (isPin J r c) (eqb (J .mark r c) 1) (chosen u)))))))
     (told d 2 (isMissing J r c) l)
-may-name J K a f closedTiles r c d l =
+may-name J K p a f closedTiles r c d l =
     let t : T (isClosed J r c) = and-right (eqb d 0) (isClosed J r c) (when-some (eqb d 0 && isClosed J r c) 1 l) in
     and-both (isTile K r c) (says closedTiles d (valueAt J closedTiles r c d))
     (subst₂ (λ (n m : ℕ). T (ltb (suc r) n && ltb (suc c) m)) (sym (a .rows)) (sym (a .columns)) (and-left (isTile J r c) (eqb (J .state r c) 1) t))
     (told d 1 (isClosed J r c) l)
+
+may-name J K p a f laidSides r c d l =
+    let (ld, t, w) = side-written J r c d l in
+    let v : ℕ = valueAt J laidSides r c d in
+    let tile : T (isTile K r c) = subst₂ (λ (n m : ℕ). T (ltb (suc r) n && ltb (suc c) m)) (sym (a .rows)) (sym (a .columns)) t in
+    let most : T (leb v (K .O)) = subst (λ (n : ℕ). T (leb v n)) (sym (a .O)) (value-most J p r c d) in
+    and-both (isTile K r c && (writesSide r c d && leb v (K .O))) (says laidSides d v)
+    (and-both (isTile K r c) _ tile (and-both (writesSide r c d) (leb v (K .O)) w most))
+    (and-both (ltb d 4) (ltb 0 v) (lt→ltb d 4 ld) (lt→ltb 0 v l))
 
 in-turn : (R : Reader) (g : Group) (r c d : ℕ) → 1 ≤ rank (R .stage) → due R ≤ turn g r c d → r < 40 → c < 40 → d < 4 → T (inTurn R g r c d)
 in-turn R g r c d a l lr lc ld =
@@ -213,7 +224,7 @@ module _ (J : Job) (proper : Proper J) where
     partly-line R s =
         let (lr, lc, ld) = small g r c d here in
         let may : T (names (R .job) g r c d value) =
-        may-name J (R .job) (s .alike) (λ h i j e l. partly-before J (turn g r c d) R s h i j e l .1) g r c d here in
+        may-name J (R .job) proper (s .alike) (λ h i j e l. partly-before J (turn g r c d) R s h i j e l .1) g r c d here in
         let turns : T (inTurn R g r c d) = in-turn R g r c d (s .stage .0) (s .next) lr lc ld in
         leads-line (groupLine g r c d value) (after R)
         (asking-so (inTurn R g r c d && names (R .job) g r c d value) (after R) (and-both (inTurn R g r c d) _ turns may))
@@ -293,27 +304,27 @@ module _ (J : Job) (proper : Proper J) where
   Done : Reader → Type 0
   Done R = (R .stage ≡ finished) × (R .job ≡ J)
 
-  partly-end : (R : Reader) → Partly J (6400 * 5) R → Leads R (lineBytes endLine) Done
+  partly-end : (R : Reader) → Partly J (6400 * 6) R → Leads R (lineBytes endLine) Done
   unfolding admit Done
   partly-end R s =
       let S : Reader = record { stage = finished; from = 0; job = R .job } in
       leads-line endLine S
-      (asking-so (leb 1 (rank (R .stage)) && ltb (rank (R .stage)) 5) S
-      (and-both (leb 1 (rank (R .stage))) _ (le→leb 1 (rank (R .stage)) (s .stage .0)) (lt→ltb (rank (R .stage)) 5 (omega (arith, s .stage .1))))) (
+      (asking-so (leb 1 (rank (R .stage)) && ltb (rank (R .stage)) 6) S
+      (and-both (leb 1 (rank (R .stage))) _ (le→leb 1 (rank (R .stage)) (s .stage .0)) (lt→ltb (rank (R .stage)) 6 (omega (arith, s .stage .1))))) (
         refl,
         job-known (R .job) J (s .proper) proper (s .alike) (λ h i j e.
             s .agree h i j e
-            ∙ equal-some (when (ltb (turn h i j e) (6400 * 5)) (valueAt J h i j e)) (valueAt J h i j e)
-            (λ l. before (turn h i j e) (6400 * 5) (valueAt J h i j e) (ltb→lt _ _ (when-some (ltb (turn h i j e) (6400 * 5)) (valueAt J h i j e) l)))
+            ∙ equal-some (when (ltb (turn h i j e) (6400 * 6)) (valueAt J h i j e)) (valueAt J h i j e)
+            (λ l. before (turn h i j e) (6400 * 6) (valueAt J h i j e) (ltb→lt _ _ (when-some (ltb (turn h i j e) (6400 * 6)) (valueAt J h i j e) l)))
             (λ l. let (li, lj, le) = small h i j e l in
-            before (turn h i j e) (6400 * 5) (valueAt J h i j e) (omega (arith, rank-group h .1)))),
+            before (turn h i j e) (6400 * 6) (valueAt J h i j e) (omega (arith, rank-group h .1)))),
       )
 
   -- the groups from one rank on, and the end
-  partly-groups : (n : ℕ) (l : List Group) → Ranked n l → n + length l ≡ 5 → (R : Reader) → Partly J (6400 * n) R
+  partly-groups : (n : ℕ) (l : List Group) → Ranked n l → n + length l ≡ 6 → (R : Reader) → Partly J (6400 * n) R
       → Leads R (listed (groupText J) l (lineBytes endLine)) Done
   partly-groups n [] q e R s =
-      let i : n ≡ 5 = omega arith in
+      let i : n ≡ 6 = omega arith in
       partly-end R (subst (λ (m : ℕ). Partly J (6400 * m) R) i s)
   partly-groups n (g ∷ l) (q, k) e R s =
       let i : 6400 * n ≡ turn g 0 0 0 = omega arith in

@@ -11,7 +11,7 @@ use lib.Dec.{T, leb, leb→le}
 use lib.ListN.{length, getD, drop}
 use Rattle.sums.specs.Counting.{only, each}
 use Rattle.model.specs.Job.{Job, fresh, marked, closed, isChosen, isMissing, isClosed}
-use Rattle.model.specs.Text.{chosenPins, missingPins, closedTiles, Line, arrayLine, groupLine, endLine, lineBytes, Stage, begin, afterArray, finished}
+use Rattle.model.specs.Text.{chosenPins, missingPins, closedTiles, laidSides, Line, arrayLine, groupLine, endLine, lineBytes, Stage, begin, afterArray, finished}
 use Rattle.model.specs.Text.{within, rank, Reader, admit, Verdict, reads, wrongAt, Reads, ended, line, wrong, Reading, textOf}
 use Rattle.model.specs.Examples.{job64}
 use Rattle.model.proofs.TextUnique.{Says, admit-says, line-unique, line-some}
@@ -103,8 +103,8 @@ NoLine text = (l : Line) (rest : List ℕ) → text ≢ lineBytes l ++ rest
 bytes-refused : {R : Reader} {o : ℕ} {text : List ℕ} → (R .stage ≡ finished → text ≢ []) → NoLine text → Reads R o text (wrongAt o)
 bytes-refused f n = wrong f (λ l R′ rest a. n l rest)
 
-unfinished : {A : Type 0} (s : Stage) → T (leb (rank s) 4) → s ≡ finished → A
-unfinished s t e = absurd (omega (arith, leb→le (rank s) 4 t, ap rank e))
+unfinished : {A : Type 0} (s : Stage) → T (leb (rank s) 5) → s ≡ finished → A
+unfinished s t e = absurd (omega (arith, leb→le (rank s) 5 t, ap rank e))
 
 -- the byte i of two texts
 byte : {X Y : List ℕ} (i : ℕ) → X ≡ Y → getD X i 0 ≡ getD Y i 0
@@ -117,6 +117,7 @@ short text z (arrayLine a b c d e) rest q = omega (arith, byte 1 q)
 short text z (groupLine chosenPins r c d v) rest q = omega (arith, byte 1 q)
 short text z (groupLine missingPins r c d v) rest q = omega (arith, byte 1 q)
 short text z (groupLine closedTiles r c d v) rest q = omega (arith, byte 1 q)
+short text z (groupLine laidSides r c d v) rest q = omega (arith, byte 1 q)
 short text z endLine rest q = omega (arith, byte 1 q)
 
 -- ---- the 64-byte text
@@ -183,6 +184,7 @@ unfinished64 = closed-read endForm (bytes-refused (unfinished (within closedTile
     none-begins (groupLine chosenPins r c d v) rest q = omega (arith, byte 1 q)
     none-begins (groupLine missingPins r c d v) rest q = omega (arith, byte 1 q)
     none-begins (groupLine closedTiles r c d v) rest q = omega (arith, byte 1 q)
+    none-begins (groupLine laidSides r c d v) rest q = omega (arith, byte 1 q)
     none-begins endLine rest q = omega (arith, byte 5 q)
 
 -- (chosen 00 0): "no leading zeros"
@@ -199,4 +201,5 @@ zeros64 = begun (chosenForm (48 ∷ zeroZero) ++ (closed64 ++ end64)) (bytes-ref
     none-begins (groupLine chosenPins r c d v) rest q = no-number (leb 10 r) r _ _ (leb→le 10 r) (ap (drop 8) (simp append-assoc at q))
     none-begins (groupLine missingPins r c d v) rest q = omega (arith, byte 1 q)
     none-begins (groupLine closedTiles r c d v) rest q = omega (arith, byte 2 q)
+    none-begins (groupLine laidSides r c d v) rest q = omega (arith, byte 1 q)
     none-begins endLine rest q = omega (arith, byte 1 q)

@@ -9,11 +9,13 @@ use native.Mathlib.Omega.{arith}
 use lib.Dec.{T, T-not, eqb, leb, ltb, eqb→eq, eqb-refl, leb→le, ltb→lt, lt→ltb}
 use Rattle.sums.specs.Counting.{when, only}
 use Rattle.sums.specs.Tests.{Same, same, other, same?, and-left, and-right, and-both}
-use Rattle.model.specs.Job.{Job, inRange, fresh, put, isPin, isTile, isChosen, isMissing, isClosed, Proper}
-use Rattle.model.specs.Text.{Group, chosenPins, missingPins, closedTiles, groups, groupLine, says, lineBytes, within, rank, groupOf, keyOf, Reader}
-use Rattle.model.specs.Text.{names, named, valueAt, valueLine}
-use Rattle.model.proofs.Added.{nothing-known}
-use Rattle.model.proofs.TextProper.{by-word, names-says}
+use Rattle.sums.specs.Sums.{when-cong}
+use Rattle.model.specs.Job.{Job, inRange, fresh, marked, closed, put, Side, ofNorth, ofWest, sideOf, laidOn, laidBy, isPin, isTile, isChosen, isMissing, isClosed, Proper}
+use Rattle.model.specs.Text.{Group, chosenPins, missingPins, closedTiles, laidSides, groups, groupLine, says, lineBytes, within, rank, groupOf, keyOf}
+use Rattle.model.specs.Text.{Reader, writesSide, names, named, valueAt, valueLine}
+use Rattle.model.proofs.Added.{added-known}
+use Rattle.model.proofs.Sides.{put-here, count-here, count-other, counts-same, one-writer, norths-known, wests-known}
+use Rattle.model.proofs.TextProper.{by-word, names-says, names-laid}
 
 -- ---- turns
 
@@ -25,16 +27,18 @@ turn g r c d = 6400 * rank (within g) + keyOf r c d
 abbrev pub due : Reader → ℕ
 due R = 6400 * rank (R .stage) + R .from
 
-pub rank-group : (g : Group) → (2 ≤ rank (within g)) × (rank (within g) ≤ 4)
+pub rank-group : (g : Group) → (2 ≤ rank (within g)) × (rank (within g) ≤ 5)
 rank-group chosenPins = omega arith
 rank-group missingPins = omega arith
 rank-group closedTiles = omega arith
+rank-group laidSides = omega arith
 
 pub of-rank : (g : Group) → groupOf (rank (within g)) ≡ g
 unfolding groupOf
 of-rank chosenPins = refl
 of-rank missingPins = refl
 of-rank closedTiles = refl
+of-rank laidSides = refl
 
 pub rank-same : (g h : Group) → rank (within g) ≡ rank (within h) → g ≡ h
 rank-same g h e = sym (of-rank g) ∙ (ap groupOf e ∙ of-rank h)
@@ -45,7 +49,7 @@ Ranked n [] = Unit {0}
 Ranked n (g ∷ l) = (rank (within g) ≡ n) × Ranked (suc n) l
 
 pub groups-ranked : Ranked 2 groups
-groups-ranked = (refl, (refl, (refl, tt)))
+groups-ranked = (refl, (refl, (refl, (refl, tt))))
 
 pub turn-same : (g h : Group) (r c d i j e : ℕ) → (r < 40) × (c < 40) × (d < 4) → (i < 40) × (j < 40) × (e < 4) → turn g r c d ≡ turn h i j e
     → (g ≡ h) × (r ≡ i) × (c ≡ j) × (d ≡ e)
@@ -95,6 +99,7 @@ pub says-some : (g : Group) (d v : ℕ) → T (says g d v) → (d < 4) × (0 < v
 says-some chosenPins d v t = let (x, y) = by-word d v 1 t in omega arith
 says-some missingPins d v t = let (x, y) = by-word d v 2 t in omega arith
 says-some closedTiles d v t = let (x, y) = by-word d v 1 t in omega arith
+says-some laidSides d v t = (ltb→lt d 4 (and-left (ltb d 4) (ltb 0 v) t), ltb→lt 0 v (and-right (ltb d 4) (ltb 0 v) t))
 
 names-cell : (K : Job) (g : Group) (r c d v : ℕ) → T (names K g r c d v) → (r < K .rows) × (c < K .columns)
 names-cell K chosenPins r c d v t = pin-inside K r c (and-left (isPin K r c) (says chosenPins d v) t)
@@ -102,6 +107,7 @@ names-cell K missingPins r c d v t =
     let unchosen : Bool = not (eqb (K .mark r c) 1) in
     pin-inside K r c (and-left (isPin K r c) unchosen (and-left (isPin K r c && unchosen) (says missingPins d v) t))
 names-cell K closedTiles r c d v t = tile-inside K r c (and-left (isTile K r c) (says closedTiles d v) t)
+names-cell K laidSides r c d v t = tile-inside K r c (names-laid K r c d v t .0)
 
 pub names-inside : (K : Job) (g : Group) (r c d v : ℕ) → T (names K g r c d v) → (r < K .rows) × (c < K .columns) × (d < 4)
 names-inside K g r c d v t =
@@ -113,6 +119,15 @@ word-value : (d n : ℕ) (b : Bool) → 0 < when (eqb d 0 && b) n → (d < 4) ×
 word-value d n b l =
     let t : T (eqb d 0 && b) = when-some (eqb d 0 && b) n l in
     (omega (arith, eqb→eq d 0 (and-left (eqb d 0) b t)), and-right (eqb d 0) b t)
+
+-- a count that is written, by its test
+pub side-written : (K : Job) (r c d : ℕ) → 0 < valueAt K laidSides r c d → (d < 4) × T (isTile K r c) × T (writesSide r c d)
+side-written K r c d l =
+    let a : Bool = ltb d 4 in
+    let b : Bool = isTile K r c in
+    let w : Bool = writesSide r c d in
+    let t : T (a && (b && w)) = when-some (a && (b && w)) (laidOn K (sideOf r c d)) l in
+    (ltb→lt d 4 (and-left a (b && w) t), and-left b w (and-right a (b && w) t), and-right b w (and-right a (b && w) t))
 
 pub value-inside : (K : Job) (g : Group) (r c d : ℕ) → 0 < valueAt K g r c d → (r < K .rows) × (c < K .columns) × (d < 4)
 unfolding isChosen isMissing isClosed
@@ -127,6 +142,10 @@ value-inside K missingPins r c d l =
 value-inside K closedTiles r c d l =
     let (x, t) = word-value d 1 (isClosed K r c) l in
     let (y, z) = tile-inside K r c (and-left (isTile K r c) (eqb (K .state r c) 1) t) in
+    (y, z, x)
+value-inside K laidSides r c d l =
+    let (x, t, u) = side-written K r c d l in
+    let (y, z) = tile-inside K r c t in
     (y, z, x)
 
 pub proper-size : (K : Job) → Proper K → (K .rows ≤ 40) × (K .columns ≤ 40)
@@ -145,13 +164,14 @@ unfolding isChosen isMissing isClosed
 fresh-none rows columns O D E chosenPins r c d = untold (eqb d 0) (isPin (fresh rows columns O D E) r c) 1
 fresh-none rows columns O D E missingPins r c d = untold (eqb d 0) (isPin (fresh rows columns O D E) r c) 2
 fresh-none rows columns O D E closedTiles r c d = untold (eqb d 0) (isTile (fresh rows columns O D E) r c) 1
-
-put-here : (f : ℕ → ℕ → ℕ) (r c v : ℕ) → put f r c v r c ≡ v
-put-here f r c v = by (eqb r r && eqb c c) (and-both (eqb r r) (eqb c c) (eqb-refl r) (eqb-refl c))
+fresh-none rows columns O D E laidSides r c d =
+    let J : Job = fresh rows columns O D E in
+    none-laid (ltb d 4 && (isTile J r c && writesSide r c d)) (sideOf r c d)
   where
-    by : (b : Bool) → T b → elim b as (λ y. ℕ) [ true ↦ v | false ↦ f r c ] ≡ v
-    by true t = refl
-    by false t = absurd t
+    none-laid : (b : Bool) (s : Side) → when b (laidOn (fresh rows columns O D E) s) ≡ 0
+    none-laid true (ofNorth i j) = refl
+    none-laid true (ofWest i j) = refl
+    none-laid false s = refl
 
 -- a test of an entry is as before, if it is so at the entry changed
 put-test : (f : ℕ → ℕ → ℕ) (r c v w i j : ℕ) → (i ≡ r → j ≡ c → eqb v w ≡ eqb (f r c) w) → eqb (put f r c v i j) w ≡ eqb (f i j) w
@@ -191,6 +211,15 @@ named-here K missingPins r c d v t =
 named-here K closedTiles r c d v t =
     put-value (K .state) (isTile K r c) r c d v 1 (names-says K closedTiles r c d v t) (and-left (isTile K r c) (says closedTiles d v) t)
 
+named-here K laidSides r c d v t =
+    let (a, w, l) = names-laid K r c d v t in
+    let (ld, some-v) = says-some laidSides d v (names-says K laidSides r c d v t) in
+    let b : Bool = ltb d 4 in
+    let x : Bool = isTile K r c in
+    let y : Bool = writesSide r c d in
+    when-so (b && (x && y)) (laidOn (laidBy K (sideOf r c d) v) (sideOf r c d)) (and-both b (x && y) (lt→ltb d 4 ld) (and-both x y a w))
+    ∙ count-here K (sideOf r c d) v
+
 -- a value that a word says is as before, if its test is so at the entry changed
 put-keeps : (f : ℕ → ℕ → ℕ) (b : Bool) (r c v n i j e : ℕ) → (e ≡ 0 → i ≡ r → j ≡ c → eqb v n ≡ eqb (f r c) n)
     → when (eqb e 0 && (b && eqb (put f r c v i j) n)) n ≡ when (eqb e 0 && (b && eqb (f i j) n)) n
@@ -214,6 +243,8 @@ named-else K chosenPins r c d v t f missingPins i j e n =
     λ u. f missingPins 0 (omega arith) (omega (arith, when-so (isPin K r c && eqb (K .mark r c) 2) 2 (and-both (isPin K r c) _ (and-left (isPin K r c) (says chosenPins d v) t) u))) in
     put-keeps (K .mark) (isPin K i j) r c v 2 i j e (λ z x y. ap (λ (m : ℕ). eqb m 2) q ∙ fails (eqb (K .mark r c) 2) none-missing)
 named-else K chosenPins r c d v t f closedTiles i j e n = refl
+named-else K chosenPins r c d v t f laidSides i j e n =
+    ap (when (ltb e 4 && (isTile K i j && writesSide i j e))) (counts-same (marked K r c v) K refl (sideOf i j e))
 named-else K missingPins r c d v t f chosenPins i j e n =
     let unchosen : Bool = not (eqb (K .mark r c) 1) in
     let (p, q) = by-word d v 2 (names-says K missingPins r c d v t) in
@@ -224,11 +255,34 @@ named-else K missingPins r c d v t f missingPins i j e n =
     let (p, q) = by-word d v 2 (names-says K missingPins r c d v t) in
     put-keeps (K .mark) (isPin K i j) r c v 2 i j e (λ z x y. absurd (n (omega arith)))
 named-else K missingPins r c d v t f closedTiles i j e n = refl
+named-else K missingPins r c d v t f laidSides i j e n =
+    ap (when (ltb e 4 && (isTile K i j && writesSide i j e))) (counts-same (marked K r c v) K refl (sideOf i j e))
 named-else K closedTiles r c d v t f chosenPins i j e n = refl
 named-else K closedTiles r c d v t f missingPins i j e n = refl
 named-else K closedTiles r c d v t f closedTiles i j e n =
     let (p, q) = by-word d v 1 (names-says K closedTiles r c d v t) in
     put-keeps (K .state) (isTile K i j) r c v 1 i j e (λ z x y. absurd (n (omega arith)))
+named-else K closedTiles r c d v t f laidSides i j e n =
+    ap (when (ltb e 4 && (isTile K i j && writesSide i j e))) (counts-same (closed K r c v) K refl (sideOf i j e))
+named-else K laidSides r c d v t f chosenPins i j e n = refl
+named-else K laidSides r c d v t f missingPins i j e n = refl
+named-else K laidSides r c d v t f closedTiles i j e n = refl
+named-else K laidSides r c d v t f laidSides i j e n =
+    when-cong (ltb e 4 && (isTile K i j && writesSide i j e)) _ _
+    (λ u. let (le, k) = written u in count-other K (sideOf r c d) (sideOf i j e) v (λ q. n (same-turn le k q)))
+  where
+    written : T (ltb e 4 && (isTile K i j && writesSide i j e)) → (e < 4) × T (writesSide i j e)
+    written u =
+        let a : Bool = ltb e 4 in
+        let b : Bool = isTile K i j in
+        let w : Bool = writesSide i j e in
+        (ltb→lt e 4 (and-left a (b && w) u), and-right b w (and-right a (b && w) u))
+
+    same-turn : e < 4 → T (writesSide i j e) → sideOf i j e ≡ sideOf r c d → turn laidSides i j e ≡ turn laidSides r c d
+    same-turn le k q =
+        let ld : d < 4 = says-some laidSides d v (names-says K laidSides r c d v t) .0 in
+        let (x, y, z) = one-writer i j e r c d le ld k (names-laid K r c d v t .1) q in
+        omega arith
 
 -- ---- a job by what it names
 
@@ -244,6 +298,7 @@ pub named-alike : (K J : Job) (g : Group) (r c d v : ℕ) → Alike K J → Alik
 named-alike K J chosenPins r c d v a = record { rows = a .rows; columns = a .columns; O = a .O; D = a .D; E = a .E }
 named-alike K J missingPins r c d v a = record { rows = a .rows; columns = a .columns; O = a .O; D = a .D; E = a .E }
 named-alike K J closedTiles r c d v a = record { rows = a .rows; columns = a .columns; O = a .O; D = a .D; E = a .E }
+named-alike K J laidSides r c d v a = record { rows = a .rows; columns = a .columns; O = a .O; D = a .D; E = a .E }
 
 -- an entry by its tests
 by-tests : (b : Bool) (m : ℕ) → T (leb m (when b 2)) → m ≡ when (b && eqb m 1) 1 + when (b && eqb m 2) 2
@@ -277,7 +332,7 @@ job-known K J p q a e =
       E = a .E t;
       mark = λ r c. marks r c t;
       state = λ r c. states r c t;
-      added = (nothing-known K (p .added) ∙ sym (nothing-known J (q .added))) t;
+      added = added-known K J (p .added) (q .added) (norths-known K J p q (e laidSides)) (wests-known K J p q (e laidSides)) t;
     }
   where
     marks : (r c : ℕ) → K .mark r c ≡ J .mark r c

@@ -10,9 +10,10 @@ use lib.Dec.{T, eqb, leb, ltb, eqb→eq, leb→le, le→leb}
 use Rattle.sums.specs.Counting.{when}
 use Rattle.sums.specs.Tests.{and-left, and-right}
 use Rattle.model.specs.Job.{Job, arrayFits, capsFit, capsAdmitted, fresh, marked, closed, put, isPin, isTile, Proper}
-use Rattle.model.specs.Text.{Group, chosenPins, missingPins, closedTiles, Line, arrayLine, groupLine, endLine, says, begin, rank, Reader, asking, inTurn}
-use Rattle.model.specs.Text.{names, named, admit, Verdict, reads, wrongAt, Reads, ended, line, wrong, Reading}
-use Rattle.model.proofs.Added.{nothing-fits, fits-kept}
+use Rattle.model.specs.Text.{Group, chosenPins, missingPins, closedTiles, laidSides, Line, arrayLine, groupLine, endLine, says, begin, rank, Reader, asking, inTurn}
+use Rattle.model.specs.Text.{writesSide, names, named, admit, Verdict, reads, wrongAt, Reads, ended, line, wrong, Reading}
+use Rattle.model.proofs.Added.{fresh-fits, fits-kept}
+use Rattle.model.proofs.Sides.{put-fits, laid-proper}
 
 -- ---- proper jobs
 
@@ -27,26 +28,8 @@ fresh-proper rows columns O D E a b =
       caps = b;
       marks = λ r c. zero-fits (when (isPin J r c) 2);
       states = λ r c. zero-fits (when (isTile J r c) 1);
-      added = nothing-fits J refl;
+      added = fresh-fits rows columns O D E;
     }
-
--- a table within its bounds, with one entry changed to another within its bound
-put-fits : (f : ℕ → ℕ → ℕ) (b : ℕ → ℕ → Bool) (n r c v : ℕ) → ((i j : ℕ) → T (leb (f i j) (when (b i j) n))) → T (b r c) → T (leb v n)
-    → (i j : ℕ) → T (leb (put f r c v i j) (when (b i j) n))
-put-fits f b n r c v h t u i j = by (eqb i r && eqb j c) here
-  where
-    here : T (eqb i r && eqb j c) → T (b i j)
-    here s =
-        subst (λ (x : ℕ). T (b x j)) (sym (eqb→eq i r (and-left (eqb i r) (eqb j c) s)))
-        (subst (λ (y : ℕ). T (b r y)) (sym (eqb→eq j c (and-right (eqb i r) (eqb j c) s))) t)
-
-    full : (x : Bool) → T x → T (leb v (when x n))
-    full true s = u
-    full false s = absurd s
-
-    by : (x : Bool) → (T x → T (b i j)) → T (leb (elim x as (λ y. ℕ) [ true ↦ v | false ↦ f i j ]) (when (b i j) n))
-    by true k = full (b i j) (k tt)
-    by false k = h i j
 
 pub marked-proper : (J : Job) (r c m : ℕ) → Proper J → T (isPin J r c) → T (leb m 2) → Proper (marked J r c m)
 marked-proper J r c m p t u =
@@ -85,6 +68,16 @@ pub names-says : (J : Job) (g : Group) (r c d v : ℕ) → T (names J g r c d v)
 names-says J chosenPins r c d v t = and-right (isPin J r c) (says chosenPins d v) t
 names-says J missingPins r c d v t = and-right (isPin J r c && not (eqb (J .mark r c) 1)) (says missingPins d v) t
 names-says J closedTiles r c d v t = and-right (isTile J r c) (says closedTiles d v) t
+names-says J laidSides r c d v t = and-right (isTile J r c && (writesSide r c d && leb v (J .O))) (says laidSides d v) t
+
+-- a line of a count names a side that its tile writes, and a count in range
+pub names-laid : (J : Job) (r c d v : ℕ) → T (names J laidSides r c d v) → T (isTile J r c) × T (writesSide r c d) × T (leb v (J .O))
+names-laid J r c d v t =
+    let a : Bool = isTile J r c in
+    let b : Bool = writesSide r c d in
+    let l : Bool = leb v (J .O) in
+    let u : T (a && (b && l)) = and-left (a && (b && l)) (says laidSides d v) t in
+    (and-left a (b && l) u, and-left b l (and-right a (b && l) u), and-right b l (and-right a (b && l) u))
 
 pub named-proper : (J : Job) (g : Group) (r c d v : ℕ) → Proper J → T (names J g r c d v) → Proper (named J g r c d v)
 named-proper J chosenPins r c d v p t =
@@ -97,6 +90,7 @@ named-proper J missingPins r c d v p t =
 named-proper J closedTiles r c d v p t =
     let (x, y) = by-word d v 1 (names-says J closedTiles r c d v t) in
     closed-proper J r c v p (and-left (isTile J r c) (says closedTiles d v) t) (le→leb v 1 (omega arith))
+named-proper J laidSides r c d v p t = let (a, b, l) = names-laid J r c d v t in laid-proper J r c d v p a l
 
 abbrev Good : Reader → Type 0
 Good R = 1 ≤ rank (R .stage) → Proper (R .job)
@@ -118,7 +112,7 @@ admit-proper R (groupLine g r c d v) R′ good e =
     subst (λ (S : Reader). Proper (S .job)) q (named-proper (R .job) g r c d v (good (leb→le 1 (rank (R .stage)) begun)) (and-right a b t))
 admit-proper R endLine R′ good e =
     let a : Bool = leb 1 (rank (R .stage)) in
-    let b : Bool = ltb (rank (R .stage)) 5 in
+    let b : Bool = ltb (rank (R .stage)) 6 in
     let (t, q) = asked (a && b) _ R′ e in
     subst (λ (S : Reader). Proper (S .job)) q (good (leb→le 1 (rank (R .stage)) (and-left a b t)))
 

@@ -5,14 +5,15 @@ use mathlib.Core.Logic.{_≢_}
 use mathlib.Core.Bool.{Bool, true, false, not, _&&_}
 use mathlib.Core.List.{List, [], _∷_, _++_, append-assoc}
 use mathlib.Core.Option.{Option, some}
-use Prim.Native.Nat.{ℕ, _+_, _/_, _%_, _<_}
+use Prim.Native.Nat.{ℕ, zero, suc, _+_, _/_, _%_, _<_}
 use native.Mathlib.Omega.{arith}
-use lib.Dec.{T, eqb, leb, nleb→lt}
+use lib.Dec.{T, eqb, leb, ltb, nleb→lt, ltb→lt}
 use lib.ListN.{length, getD, drop}
 use lib.Seq.{drop-append-seam}
 use Rattle.sums.specs.Counting.{only}
-use Rattle.sums.specs.Tests.{and-right}
-use Rattle.model.specs.Text.{Group, chosenPins, missingPins, closedTiles, Line, arrayLine, groupLine, endLine, groupWord, tailOf, says, lineBytes}
+use Rattle.sums.specs.Tests.{and-left, and-right}
+use Rattle.model.specs.Text.{Group, chosenPins, missingPins, closedTiles, laidSides, Line, arrayLine, groupLine, endLine, groupWord, sideLetter, tailOf}
+use Rattle.model.specs.Text.{says, lineBytes}
 use Rattle.model.specs.Text.{Reader, finished, inTurn, names, admit, Verdict, reads, wrongAt, Reads, ended, line, wrong}
 use Rattle.model.proofs.TextProper.{asked, by-word, names-says}
 
@@ -50,6 +51,19 @@ ending-starts : (g : Group) (d v : ℕ) (X : List ℕ) → Starts (ending g d v 
 ending-starts chosenPins d v X = record { byte = 41; more = 10 ∷ X; low = omega arith; is = refl }
 ending-starts missingPins d v X = record { byte = 41; more = 10 ∷ X; low = omega arith; is = refl }
 ending-starts closedTiles d v X = record { byte = 41; more = 10 ∷ X; low = omega arith; is = refl }
+ending-starts laidSides d v X = record { byte = 32; more = drop 1 (ending laidSides d v X); low = omega arith; is = refl }
+
+-- a side by its letter
+byLetter : ℕ → ℕ
+byLetter x = elim (eqb x 110) [ true ↦ 0 | false ↦ elim (eqb x 101) [ true ↦ 1 | false ↦ elim (eqb x 115) [ true ↦ 2 | false ↦ 3 ] ] ]
+
+letter-back : (d : ℕ) → d < 4 → byLetter (sideLetter d) ≡ d
+unfolding byLetter
+letter-back zero l = refl
+letter-back (suc zero) l = refl
+letter-back (suc (suc zero)) l = refl
+letter-back (suc (suc (suc zero))) l = refl
+letter-back (suc (suc (suc (suc d)))) l = absurd (omega arith)
 
 -- two words without tails say the same
 word-unique : (n d v d′ v′ : ℕ) → T (eqb d 0 && eqb v n) → T (eqb d′ 0 && eqb v′ n) → (d ≡ d′) × (v ≡ v′)
@@ -63,6 +77,13 @@ ending-unique : (g : Group) (d v d′ v′ : ℕ) (X Y : List ℕ) → T (says g
 ending-unique chosenPins d v d′ v′ X Y t t′ e = (word-unique 1 d v d′ v′ t t′, ap (drop 2) e)
 ending-unique missingPins d v d′ v′ X Y t t′ e = (word-unique 2 d v d′ v′ t t′, ap (drop 2) e)
 ending-unique closedTiles d v d′ v′ X Y t t′ e = (word-unique 1 d v d′ v′ t t′, ap (drop 2) e)
+ending-unique laidSides d v d′ v′ X Y t t′ e =
+    let f : 32 ∷ sideLetter d ∷ 32 ∷ digits v (41 ∷ 10 ∷ X) ≡ 32 ∷ sideLetter d′ ∷ 32 ∷ digits v′ (41 ∷ 10 ∷ Y) = simp append-assoc at e in
+    let (p, h) = number-unique v v′ 41 41 (10 ∷ X) (10 ∷ Y) (omega arith) (omega arith) (ap (drop 3) f) in
+    let code : (x y : ℕ) → T (says laidSides x y) → x < 4 = λ x y u. ltb→lt x 4 (and-left (ltb x 4) (ltb 0 y) u) in
+    let q : d ≡ d′ =
+    sym (letter-back d (code d v t)) ∙ (ap (λ (l : List ℕ). byLetter (getD l 1 0)) f ∙ letter-back d′ (code d′ v′ t′)) in
+    ((q, p), ap (drop 2) h)
 
 -- two numbers, the tail and the end of the line
 pair-unique : (g : Group) (r c d v r′ c′ d′ v′ : ℕ) (X Y : List ℕ) → T (says g d v) → T (says g d′ v′)
@@ -101,13 +122,18 @@ differ i X Y n e = absurd (n (ap (λ (l : List ℕ). getD l i 0) e))
 
 -- the group by the second byte of its word
 bySecond : ℕ → Group
-bySecond x = elim (eqb x 104) [ true ↦ chosenPins | false ↦ elim (eqb x 105) [ true ↦ missingPins | false ↦ closedTiles ] ]
+bySecond x =
+    elim (eqb x 104) [
+      | true ↦ chosenPins
+      | false ↦ elim (eqb x 105) [ true ↦ missingPins | false ↦ elim (eqb x 97) [ true ↦ laidSides | false ↦ closedTiles ] ]
+    ]
 
 second-of : (g : Group) (X : List ℕ) → bySecond (getD (groupWord g ++ (32 ∷ X)) 1 0) ≡ g
 unfolding bySecond
 second-of chosenPins X = refl
 second-of missingPins X = refl
 second-of closedTiles X = refl
+second-of laidSides X = refl
 
 -- what stands before a space is one group's word
 pub words-unique : (g h : Group) (X Y : List ℕ) → groupWord g ++ (32 ∷ X) ≡ groupWord h ++ (32 ∷ Y) → (g ≡ h) × (X ≡ Y)
@@ -124,6 +150,7 @@ unfolding lineBytes
 group-bytes chosenPins r c d v X = simp append-assoc
 group-bytes missingPins r c d v X = simp append-assoc
 group-bytes closedTiles r c d v X = simp append-assoc
+group-bytes laidSides r c d v X = simp append-assoc
 
 group-unique : (g h : Group) (r c d v r′ c′ d′ v′ : ℕ) (X Y : List ℕ) → T (says g d v) → T (says h d′ v′)
     → Same (groupLine g r c d v) (groupLine h r′ c′ d′ v′) X Y
@@ -139,6 +166,7 @@ unfolding lineBytes
 apart chosenPins r c d v X = omega arith
 apart missingPins r c d v X = omega arith
 apart closedTiles r c d v X = omega arith
+apart laidSides r c d v X = omega arith
 
 -- the line tells its side and value
 abbrev pub Says : Line → Type 0

@@ -8,7 +8,7 @@ use Prim.Native.Nat.{ℕ, suc, _-_, _≤_, _<_}
 use lib.Dec.{T, eqb, leb}
 use lib.ListN.{length, replicate}
 use Rattle.sums.specs.Counting.{when}
-use Rattle.model.specs.Job.{Job, arrayFits, capsAdmitted, fresh, marked, closed, isPin, isTile, isChosen}
+use Rattle.model.specs.Job.{Job, arrayFits, capsAdmitted, fresh, marked, closed, sideOf, laidOn, laidBy, isPin, isTile, isChosen}
 use Rattle.model.specs.Route.{Greatest, chosenCount}
 use Rattle.model.specs.Near.{Smallest}
 use Rattle.model.specs.Record.{recordSize, scratchSize, jobOf, load, Legal, bytes, unwiredRecord, over}
@@ -23,6 +23,7 @@ pub data Call : Type 0 where
   new : (rows columns O D E : ℕ) → Call
   mark : (row column mark : ℕ) → Call
   close : (row column state : ℕ) → Call
+  lay : (row column side count : ℕ) → Call
   step : (scratch : List ℕ) → Call
   shortfall : (scratch output : List ℕ) → Call
   part : (row column index : ℕ) → Call
@@ -106,6 +107,14 @@ abbrev pub closedBy : ℕ → ℕ → ℕ → List ℕ → After
 closedBy r c v rec =
     let J : Job = jobOf rec in
     asked (test (isTile J r c) 4 ∷ test (leb v 1) 5 ∷ []) rec [] (edited (eqb (J .state r c) v) (closed J r c v) rec)
+
+-- K3: "Setting a count takes row, column and side code; an edit that changes it takes out all wires." "4 no such tile; 5 unknown side code; then 11 a count
+-- above O."
+abbrev pub laidIn : ℕ → ℕ → ℕ → ℕ → List ℕ → After
+laidIn r c d n rec =
+    let J : Job = jobOf rec in
+    asked (test (isTile J r c) 4 ∷ test (leb d 3) 5 ∷ test (leb n (J .O)) 11 ∷ []) rec []
+    (edited (eqb (laidOn J (sideOf r c d)) n) (laidBy J (sideOf r c d) n) rec)
 
 -- "4 no such pin, or it is not chosen."
 abbrev pub listed : ℕ → ℕ → ℕ → List ℕ → After
@@ -194,6 +203,7 @@ abbrev pub Did : Call → List ℕ → After → Type 0
 Did (new rows columns O D E) rec a = a ≡ newly rows columns O D E rec
 Did (mark r c m) rec a = On rec [] [] a (a ≡ markedBy r c m rec)
 Did (close r c v) rec a = On rec [] [] a (a ≡ closedBy r c v rec)
+Did (lay r c d n) rec a = On rec [] [] a (a ≡ laidIn r c d n rec)
 Did (step scratch) rec a = On rec scratch [] a (Steps scratch rec a)
 Did (shortfall scratch output) rec a = On rec scratch output a (Lacks scratch output rec a)
 Did (part r c i) rec a = On rec [] [] a (a ≡ listed r c i rec)

@@ -1,6 +1,6 @@
 -- Document 01, "The array and its channels" and "Runs": ranges, a job, and which pins and tiles it has. Assumes nothing.
 use mathlib.Core.Bool.{Bool, true, false, _&&_, _||_}
-use Prim.Native.Nat.{ℕ, suc, _-_, _*_, _/_}
+use Prim.Native.Nat.{ℕ, zero, suc, _-_, _*_, _/_}
 use lib.Dec.{T, eqb, leb, ltb}
 use Rattle.sums.specs.Counting.{when}
 
@@ -64,6 +64,9 @@ withMarks J marks = record { rows = J .rows; columns = J .columns; O = J .O; D =
 abbrev pub withStates : Job → (ℕ → ℕ → ℕ) → Job
 withStates J states = record { rows = J .rows; columns = J .columns; O = J .O; D = J .D; E = J .E; mark = J .mark; state = states; added = J .added }
 
+abbrev pub withAdded : Job → Added → Job
+withAdded J A = record { rows = J .rows; columns = J .columns; O = J .O; D = J .D; E = J .E; mark = J .mark; state = J .state; added = A }
+
 -- a table with one entry changed
 abbrev pub put : (ℕ → ℕ → ℕ) → ℕ → ℕ → ℕ → ℕ → ℕ → ℕ
 put f r c v i j = elim (eqb i r && eqb j c) [ true ↦ v | false ↦ f i j ]
@@ -75,14 +78,41 @@ marked J r c m = withMarks J (put (J .mark) r c m)
 abbrev pub closed : Job → ℕ → ℕ → ℕ → Job
 closed J r c v = withStates J (put (J .state) r c v)
 
+-- A side, as the north or the west side of the tile (row, column). "An inner side has one count whichever tile names it": s is the north side of the tile
+-- to the south, e the west side of the tile to the east; at the south and east rim those lie behind the last tiles.
+pub data Side : Type 0 where
+  ofNorth ofWest : (row column : ℕ) → Side
+
+-- "row, column and side code (0 n, 1 e, 2 s, 3 w)"
+abbrev pub sideOf : ℕ → ℕ → ℕ → Side
+sideOf r c zero = ofNorth r c
+sideOf r c (suc zero) = ofWest r (suc c)
+sideOf r c (suc (suc zero)) = ofNorth (suc r) c
+sideOf r c (suc (suc (suc d))) = ofWest r c
+
+-- "A side gets a count of laid wires": the count of a side
+abbrev pub laidOn : Job → Side → ℕ
+laidOn J (ofNorth r c) = J .added .laidNorth r c
+laidOn J (ofWest r c) = J .added .laidWest r c
+
+abbrev pub countOver : Added → Side → ℕ → Added
+countOver A (ofNorth r c) n =
+    record { laidNorth = put (A .laidNorth) r c n; laidWest = A .laidWest; ownD = A .ownD; upward = A .upward; seen = A .seen }
+countOver A (ofWest r c) n =
+    record { laidNorth = A .laidNorth; laidWest = put (A .laidWest) r c n; ownD = A .ownD; upward = A .upward; seen = A .seen }
+
+-- the job with another count on that side
+abbrev pub laidBy : Job → Side → ℕ → Job
+laidBy J s n = withAdded J (countOver (J .added) s n)
+
 -- ---- its limits
 
--- how many wires the north and the west side of the tile (r, c) take: "limit O"
+-- how many wires the north and the west side of the tile (r, c) take: "its limit is O less that count"
 abbrev pub northLimit : Job → ℕ → ℕ → ℕ
-northLimit J r c = J .O
+northLimit J r c = J .O - J .added .laidNorth r c
 
 abbrev pub westLimit : Job → ℕ → ℕ → ℕ
-westLimit J r c = J .O
+westLimit J r c = J .O - J .added .laidWest r c
 
 -- the D of the tile (r, c)
 abbrev pub tileD : Job → ℕ → ℕ → ℕ
@@ -125,9 +155,9 @@ module _ (J : Job) where
   abbrev pub hasWest : ℕ → ℕ → Bool
   hasWest r c = ltb (suc r) (J .rows) && ltb c (J .columns)
 
-  -- What each added value may be: 0, as never set.
+  -- What each added value may be. "A side gets a count of laid wires, 0 to O"; the others are 0, as never set.
   abbrev pub laidMost : ℕ
-  laidMost = 0
+  laidMost = J .O
 
   abbrev pub ownDFits : ℕ → Bool
   ownDFits d = eqb d 0

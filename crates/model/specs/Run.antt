@@ -7,13 +7,13 @@ use mathlib.Core.Option.{none, some}
 use Prim.Native.Nat.{ℕ, suc, _+_, _-_, _^_, _≤_, _<_}
 use lib.Dec.{T}
 use lib.ListN.{length, getD}
-use Rattle.model.specs.Job.{Job, fresh, marked, closed, isChosen}
+use Rattle.model.specs.Job.{Job, fresh, marked, closed, sideOf, laidBy, isChosen}
 use Rattle.model.specs.Route.{Route, Together, Family, Greatest, chosenCount}
 use Rattle.model.specs.Near.{Smallest}
 use Rattle.model.specs.Record.{recordSize, scratchSize, jobOf, load, over}
 use Rattle.model.specs.Wires.{partAt, Holds}
 use Rattle.model.specs.Text.{reads, Reading}
-use Rattle.model.specs.Calls.{Call, new, mark, close, step, shortfall, part, readText, writeText, listing, Answer, added, allWired, short, lacks, lists, refusal, Accepted, After, Did, wiresIn, nearBytes}
+use Rattle.model.specs.Calls.{Call, new, mark, close, step, shortfall, part, readText, writeText, listing, Answer, added, allWired, short, lacks, lists, refusal, Accepted, After, Did, wiresIn, nearBytes, lay}
 
 -- ---- what can be lent
 
@@ -30,6 +30,7 @@ abbrev pub Lent : Call → Type 0
 Lent (new rows columns O D E) = Word rows × Word columns × Word O × Word D × Word E
 Lent (mark r c m) = Word r × Word c × Word m
 Lent (close r c v) = Word r × Word c × Word v
+Lent (lay r c d n) = Word r × Word c × Word d × Word n
 Lent (step scratch) = Buffer scratch
 Lent (shortfall scratch output) = Buffer scratch × Buffer output
 Lent (part r c i) = Word r × Word c × Word i
@@ -50,6 +51,7 @@ module _ (S : Service) where
   Sets (new rows columns O D E) J K = K ≡ fresh rows columns O D E
   Sets (mark r c m) J K = K ≡ marked J r c m
   Sets (close r c v) J K = K ≡ closed J r c v
+  Sets (lay r c d n) J K = K ≡ laidBy J (sideOf r c d) n
   Sets (step scratch) J K = K ≡ J
   Sets (shortfall scratch output) J K = K ≡ J
   Sets (part r c i) J K = K ≡ J
