@@ -1,4 +1,6 @@
 -- the map
 pub mod Map
+-- where the count of a side stands
+pub mod Laid
 -- what the writers store, and its laws
 pub mod Written

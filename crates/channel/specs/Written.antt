@@ -2,23 +2,26 @@
 -- a cell of a job's record gives the record of the job with that entry changed, and a record of no loads differs from a legal one in the planes of loads only.
 -- Assumes nothing.
 use mathlib.Core.Path.{_≡_, refl, sym, ap, _∙_}
-use mathlib.Core.Bool.{Bool, true, false, not, _&&_}
+use mathlib.Core.Logic.{_⊎_, inl, inr}
+use mathlib.Core.Bool.{Bool, true, false, not}
 use mathlib.Core.List.{List, [], _∷_, _++_}
 use mathlib.Core.Option.{Option, none, some}
 use Prim.Native.Nat.{ℕ, zero, suc, _+_, _-_, _*_, _/_, _%_, _≤_, _<_}
 use native.Mathlib.Omega.{arith}
-use lib.Dec.{T, eqb, ltb, eqb→eq, eqb-refl, ltb→lt, nltb→le, lit≤}
+use lib.Dec.{T, eqb, ltb, ltb→lt, nltb→le, lit≤}
 use lib.ListN.{length, getD, getElem?, take, drop, set, replicate, length-append, length-drop, length-set, length-replicate, getD-replicate, List·getD-append}
 use borrow.Rule.Slice.PartMut.{midOf, putMid, mid-len, post-is}
 use lib.Seq.{ext-getD, drop-at, getD-append-add, getD-drop, getD-take, getD-set-same, getD-set-other, length-take-le}
-use Rattle.sums.specs.Tests.{Same, same, other, same?, and-left, and-right, and-both}
-use Rattle.model.specs.Job.{nothingAdded, Job, fresh, put, marked, closed}
+use Rattle.sums.specs.Tests.{Same, same, other, same?, below-or}
+use Rattle.model.specs.Job.{Added, nothingAdded, Job, fresh, put, withAdded, marked, closed, Side, ofNorth, ofWest, laidBy}
 use Rattle.model.specs.Links.{LinkKind, Step}
-use Rattle.model.specs.Record.{recordSize, markPlane, statePlane, offset, jobOf, load, Legal, kinds, kindByte, planeByte, headByte, recordOf, noLoads}
+use Rattle.model.specs.Record.{recordSize, markPlane, statePlane, offset, jobOf, load, Legal, kinds, addedByte, kindByte, planeByte, headByte, recordOf, noLoads}
 use Rattle.model.specs.Record.{unwiredRecord, over}
 use Rattle.model.proofs.RecordOf.{bytes-none, length-record, head-back, cell-back, plane-added}
 use Rattle.model.proofs.Over.{get-over}
 use Rattle.model.proofs.LegalRecord.{kind-at, legal-record}
+use Rattle.model.proofs.Sides.{put-at, put-else}
+use Rattle.channel.specs.Laid.{sideRow, sideColumn, sideOffset}
 
 -- ---- what the writers store
 
@@ -99,20 +102,6 @@ module _ (J : Job) (f : Step → ℕ) (rec : List ℕ) (long : recordSize ≤ le
 
 -- ---- a store at a cell
 
-pub put-at : (f : ℕ → ℕ → ℕ) (r c v : ℕ) → put f r c v r c ≡ v
-put-at f r c v = by (eqb r r && eqb c c) (and-both (eqb r r) (eqb c c) (eqb-refl r) (eqb-refl c))
-  where
-    by : (b : Bool) → T b → elim b as (λ y. ℕ) [ true ↦ v | false ↦ f r c ] ≡ v
-    by true t = refl
-    by false t = absurd t
-
-pub put-else : (f : ℕ → ℕ → ℕ) (r c v i j : ℕ) → (i ≡ r → j ≡ c → ⊥) → put f r c v i j ≡ f i j
-put-else f r c v i j n = by (eqb i r && eqb j c) (λ t. n (eqb→eq i r (and-left (eqb i r) (eqb j c) t)) (eqb→eq j c (and-right (eqb i r) (eqb j c) t)))
-  where
-    by : (b : Bool) → (T b → ⊥) → elim b as (λ y. ℕ) [ true ↦ v | false ↦ f i j ] ≡ f i j
-    by true k = absurd (k tt)
-    by false k = refl
-
 -- the record of a job that differs in one cell
 store-over : (K L : Job) (f : Step → ℕ) (rec : List ℕ) (p r c v : ℕ) → recordSize ≤ length rec → p < 20 → r < 40 → c < 40
     → ((i : ℕ) → headByte K i ≡ headByte L i) → v ≡ planeByte L f p r c
@@ -160,6 +149,52 @@ closed-over K rec r c v long lr lc =
     by zero i j n = refl
     by (suc zero) i j n = sym (put-else (K .state) r c v i j (n refl))
     by (suc (suc q)) i j n = refl
+
+-- ---- a count of laid wires
+
+-- the planes behind those of marks and states, with something else added
+added-planes : (K : Job) (A : Added) (p r c : ℕ) → (15 ≤ p → addedByte (K .added) p r c ≡ addedByte A p r c)
+    → planeByte K noLoads (suc (suc p)) r c ≡ planeByte (withAdded K A) noLoads (suc (suc p)) r c
+added-planes K A p r c f = by (below-or p 15)
+  where
+    by : (p < 15) ⊎ (15 ≤ p) → planeByte K noLoads (suc (suc p)) r c ≡ planeByte (withAdded K A) noLoads (suc (suc p)) r c
+    by (inl l) =
+        let (k, e, q) = kind-at kinds 0 p tt l in
+        ap (λ (o : Option LinkKind). kindByte (K .added) noLoads p o r c) e ∙ sym (ap (λ (o : Option LinkKind). kindByte A noLoads p o r c) e)
+    by (inr l) = plane-added K noLoads p r c l ∙ (f l ∙ sym (plane-added (withAdded K A) noLoads p r c l))
+
+pub laid-over : (K : Job) (rec : List ℕ) (s : Side) (n : ℕ) → recordSize ≤ length rec → sideRow s < 40 → sideColumn s < 40
+    → set (over (unwiredRecord K) rec) (sideOffset s) n ≡ over (unwiredRecord (laidBy K s n)) rec
+laid-over K rec (ofNorth r c) n long lr lc =
+    store-over K (laidBy K (ofNorth r c) n) noLoads rec 17 r c n long (omega arith) lr lc (λ i. refl) (sym (put-at (K .added .laidNorth) r c n)) by
+  where
+    added : (m p i j : ℕ) → p ≡ 15 + m → (p ≡ 15 → i ≡ r → j ≡ c → ⊥)
+        → getD (K .added .laidNorth i j ∷ K .added .laidWest i j ∷ K .added .ownD i j ∷ []) m 0
+        ≡ getD (put (K .added .laidNorth) r c n i j ∷ K .added .laidWest i j ∷ K .added .ownD i j ∷ []) m 0
+    added zero p i j e h = sym (put-else (K .added .laidNorth) r c n i j (h (omega arith)))
+    added (suc zero) p i j e h = refl
+    added (suc (suc zero)) p i j e h = refl
+    added (suc (suc (suc m))) p i j e h = refl
+
+    by : (q i j : ℕ) → (q ≡ 17 → i ≡ r → j ≡ c → ⊥) → planeByte K noLoads q i j ≡ planeByte (laidBy K (ofNorth r c) n) noLoads q i j
+    by zero i j h = refl
+    by (suc zero) i j h = refl
+    by (suc (suc p)) i j h = added-planes K (laidBy K (ofNorth r c) n .added) p i j (λ l. added (p - 15) p i j (omega arith) (λ e. h (omega arith)))
+laid-over K rec (ofWest r c) n long lr lc =
+    store-over K (laidBy K (ofWest r c) n) noLoads rec 18 r c n long (omega arith) lr lc (λ i. refl) (sym (put-at (K .added .laidWest) r c n)) by
+  where
+    added : (m p i j : ℕ) → p ≡ 15 + m → (p ≡ 16 → i ≡ r → j ≡ c → ⊥)
+        → getD (K .added .laidNorth i j ∷ K .added .laidWest i j ∷ K .added .ownD i j ∷ []) m 0
+        ≡ getD (K .added .laidNorth i j ∷ put (K .added .laidWest) r c n i j ∷ K .added .ownD i j ∷ []) m 0
+    added zero p i j e h = refl
+    added (suc zero) p i j e h = sym (put-else (K .added .laidWest) r c n i j (h (omega arith)))
+    added (suc (suc zero)) p i j e h = refl
+    added (suc (suc (suc m))) p i j e h = refl
+
+    by : (q i j : ℕ) → (q ≡ 18 → i ≡ r → j ≡ c → ⊥) → planeByte K noLoads q i j ≡ planeByte (laidBy K (ofWest r c) n) noLoads q i j
+    by zero i j h = refl
+    by (suc zero) i j h = refl
+    by (suc (suc p)) i j h = added-planes K (laidBy K (ofWest r c) n .added) p i j (λ l. added (p - 15) p i j (omega arith) (λ e. h (omega arith)))
 
 -- ---- a new job
 

@@ -4,8 +4,9 @@ ghost use mathlib.Core.Bool.{not, _&&_, _||_};
 ghost use Prim.Native.Nat.{_≤_, _<_};
 ghost use lib.ListN.{length};
 ghost use Rattle.sums.specs.Counting.{when};
-ghost use Rattle.model.specs.Job.{isPin, isTile, isOpen, isChosen, isMissing};
+ghost use Rattle.model.specs.Job.{sideOf, laidOn, isPin, isTile, isOpen, isChosen, isMissing};
 ghost use Rattle.model.specs.Record.{jobOf, cell};
+ghost use Rattle.channel.specs.Laid.{sideOffset};
 ghost use Rattle.channel.specs.Map.{inGrid, rowOf, columnOf};
 
 // A byte as a number.
@@ -99,6 +100,31 @@ pub fn state_of(rec: &[u8], r: usize, c: usize) -> usize
     ensures { λ s. ⌜ s ≡ jobOf (now (rec .entry)) .state r c ⌝ }
 {
     value_of(rec, 1, r, c)
+}
+
+// Where the count of a side of the tile (r, c) stands: n, e, s, w for 0 to 3.
+pub fn side_at(r: usize, c: usize, side: usize) -> usize
+    requires { ⌜ (r < 39) × (c < 39) ⌝ }
+    ensures { λ i. ⌜ (i ≡ sideOffset (sideOf r c side)) × (i < 32768) ⌝ }
+{
+    if side == 0 {
+        return 27968 + 40 * r + c;
+    }
+    if side == 1 {
+        return 29569 + 40 * r + c;
+    }
+    if side == 2 {
+        return 28008 + 40 * r + c;
+    }
+    29568 + 40 * r + c
+}
+
+// The count of wires already laid on a side of the tile (r, c): n, e, s, w for 0 to 3.
+pub fn laid_on(rec: &[u8], r: usize, c: usize, side: usize) -> usize
+    requires { ⌜ (32768 ≤ length (now rec)) × (r < 39) × (c < 39) ⌝ }
+    ensures { λ n. ⌜ (n ≡ laidOn (jobOf (now (rec .entry))) (sideOf r c side)) × (n < 256) ⌝ }
+{
+    wide(rec[side_at(r, c, side)])
 }
 
 // Whether (r, c) is a tile, r and c small enough for a sum.

@@ -6,7 +6,7 @@ pub mod loads; // how many wires go along a dart
 pub mod limits; // how many wires a dart takes
 pub mod places; // the places that darts lead to
 pub mod moves; // the moves of the search, and what a move stores
-pub mod write; // a new job, one mark or state, no wires
+pub mod write; // a new job, one mark, state or count, no wires
 
 pub use bits::lowest;
 pub use header::chosen_at;
@@ -17,6 +17,7 @@ pub use header::is_chosen;
 pub use header::is_missing;
 pub use header::is_open;
 pub use header::is_tile;
+pub use header::laid_on;
 pub use header::mark_at;
 pub use header::mark_of;
 pub use header::missing_at;
@@ -42,6 +43,7 @@ pub use moves::wire_starts;
 pub use table::head_of;
 pub use table::reverse;
 pub use write::clear;
+pub use write::set_laid;
 pub use write::set_mark;
 pub use write::set_state;
 pub use write::unwire;

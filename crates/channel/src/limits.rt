@@ -19,6 +19,7 @@ use crate::header::open_at;
 use crate::header::open_in;
 use crate::header::orthogonal;
 use crate::header::rows;
+use crate::header::wide;
 use crate::table::kind_of;
 use crate::table::owner_of;
 
@@ -111,12 +112,14 @@ pub fn leg_mark(job: &[u8], d: usize) -> usize
     mark_at(job, d / 64 + owner_of(d % 64))
 }
 
-// How many wires a side of the cell x takes at most: its north side for k = 0, its west side for k = 1.
+// How many wires a side of the cell x takes at most, O less those already laid: its north side for k = 0, its west side for k = 1.
 pub fn side_most(job: &[u8], k: usize, x: usize) -> usize
     requires { ⌜ (32768 ≤ length (now job)) × (k < 2) × (41 ≤ x) × (x < 1641) ⌝ }
     ensures { λ r. ⌜ (r ≡ size (limitOf (jobOf (now (job .entry))) (getD kinds k northSide) (rowOf x) (columnOf x))) × (r < 256) ⌝ }
 {
-    orthogonal(job)
+    let most = orthogonal(job);
+    let laid = wide(job[27927 + 1600 * k + x]);
+    if most < laid { 0 } else { most - laid }
 }
 
 // The limit of a side's dart.

@@ -1,10 +1,12 @@
-// What an operation stores in a record: a new job, a mark, a tile's state, and no wires. Every other byte stays.
+// What an operation stores in a record: a new job, a mark, a tile's state, a side's count, and no wires. Every other byte stays.
 ghost use mathlib.Core.Path.{_≡_};
 ghost use Prim.Native.Nat.{_≤_, _<_};
 ghost use lib.ListN.{length, set};
-ghost use Rattle.model.specs.Job.{fresh};
+ghost use Rattle.model.specs.Job.{fresh, sideOf};
 ghost use Rattle.model.specs.Record.{recordSize, markPlane, statePlane, offset, unwiredRecord, over};
+ghost use Rattle.channel.specs.Laid.{sideOffset};
 ghost use Rattle.channel.specs.Written.{zeros, unwired};
+use crate::header::side_at;
 
 // Every byte of the part becomes 0.
 pub fn clear(part: &mut [u8])
@@ -45,6 +47,15 @@ pub fn set_state(rec: &mut [u8], r: usize, c: usize, v: usize)
     ensures { λ _. ⌜ now (rec .exit) ≡ set (now (rec .entry)) (offset statePlane r c) v ⌝ }
 {
     rec[2368 + 40 * r + c] = v as u8;
+}
+
+// The count of a side of the tile (r, c).
+pub fn set_laid(rec: &mut [u8], r: usize, c: usize, side: usize, n: usize)
+    requires { ⌜ recordSize ≤ length (now rec) ⌝ }
+    requires { ⌜ (r < 39) × (c < 39) × (n < 256) ⌝ }
+    ensures { λ _. ⌜ now (rec .exit) ≡ set (now (rec .entry)) (sideOffset (sideOf r c side)) n ⌝ }
+{
+    rec[side_at(r, c, side)] = n as u8;
 }
 
 // The 15 planes of loads become 0: no wires.

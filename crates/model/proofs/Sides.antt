@@ -13,15 +13,15 @@ use Rattle.model.specs.Text.{laidSides, writesSide, valueAt}
 
 -- ---- a table with one entry changed
 
-pub put-here : (f : ℕ → ℕ → ℕ) (r c v : ℕ) → put f r c v r c ≡ v
-put-here f r c v = by (eqb r r && eqb c c) (and-both (eqb r r) (eqb c c) (eqb-refl r) (eqb-refl c))
+pub put-at : (f : ℕ → ℕ → ℕ) (r c v : ℕ) → put f r c v r c ≡ v
+put-at f r c v = by (eqb r r && eqb c c) (and-both (eqb r r) (eqb c c) (eqb-refl r) (eqb-refl c))
   where
     by : (b : Bool) → T b → elim b as (λ y. ℕ) [ true ↦ v | false ↦ f r c ] ≡ v
     by true t = refl
     by false t = absurd t
 
-put-other : (f : ℕ → ℕ → ℕ) (r c v i j : ℕ) → (i ≡ r → j ≡ c → ⊥) → put f r c v i j ≡ f i j
-put-other f r c v i j n =
+pub put-else : (f : ℕ → ℕ → ℕ) (r c v i j : ℕ) → (i ≡ r → j ≡ c → ⊥) → put f r c v i j ≡ f i j
+put-else f r c v i j n =
     by (eqb i r && eqb j c) (λ t. n (eqb→eq i r (and-left (eqb i r) (eqb j c) t)) (eqb→eq j c (and-right (eqb i r) (eqb j c) t)))
   where
     by : (b : Bool) → (T b → ⊥) → elim b as (λ y. ℕ) [ true ↦ v | false ↦ f i j ] ≡ f i j
@@ -49,14 +49,14 @@ put-fits f b n r c v h t u i j = by (eqb i r && eqb j c) here
 -- ---- counts
 
 pub count-here : (K : Job) (s : Side) (n : ℕ) → laidOn (laidBy K s n) s ≡ n
-count-here K (ofNorth r c) n = put-here (K .added .laidNorth) r c n
-count-here K (ofWest r c) n = put-here (K .added .laidWest) r c n
+count-here K (ofNorth r c) n = put-at (K .added .laidNorth) r c n
+count-here K (ofWest r c) n = put-at (K .added .laidWest) r c n
 
 pub count-other : (K : Job) (s t : Side) (n : ℕ) → t ≢ s → laidOn (laidBy K s n) t ≡ laidOn K t
-count-other K (ofNorth r c) (ofNorth i j) n e = put-other (K .added .laidNorth) r c n i j (λ x y. e (λ k. ofNorth (x k) (y k)))
+count-other K (ofNorth r c) (ofNorth i j) n e = put-else (K .added .laidNorth) r c n i j (λ x y. e (λ k. ofNorth (x k) (y k)))
 count-other K (ofNorth r c) (ofWest i j) n e = refl
 count-other K (ofWest r c) (ofNorth i j) n e = refl
-count-other K (ofWest r c) (ofWest i j) n e = put-other (K .added .laidWest) r c n i j (λ x y. e (λ k. ofWest (x k) (y k)))
+count-other K (ofWest r c) (ofWest i j) n e = put-else (K .added .laidWest) r c n i j (λ x y. e (λ k. ofWest (x k) (y k)))
 
 pub counts-same : (K J : Job) → K .added ≡ J .added → (s : Side) → laidOn K s ≡ laidOn J s
 counts-same K J e (ofNorth r c) = ap (λ (A : Added). A .laidNorth r c) e

@@ -14,7 +14,7 @@ use Rattle.model.specs.Job.{Job, inRange, fresh, marked, closed, put, Si
 use Rattle.model.specs.Text.{Group, chosenPins, missingPins, closedTiles, laidSides, groups, groupLine, says, lineBytes, within, rank, groupOf, keyOf}
 use Rattle.model.specs.Text.{Reader, writesSide, names, named, valueAt, valueLine}
 use Rattle.model.proofs.Added.{added-known}
-use Rattle.model.proofs.Sides.{put-here, count-here, count-other, counts-same, one-writer, norths-known, wests-known}
+use Rattle.model.proofs.Sides.{put-at, count-here, count-other, counts-same, one-writer, norths-known, wests-known}
 use Rattle.model.proofs.TextProper.{by-word, names-says, names-laid}
 
 -- ---- turns
@@ -197,7 +197,7 @@ put-value : (f : ℕ → ℕ → ℕ) (b : Bool) (r c d v n : ℕ) → T (eqb d 
 put-value f b r c d v n t u =
     let (x, y) = by-word d v n t in
     let w : Bool = eqb (put f r c v r c) n in
-    let here : T w = subst (λ (m : ℕ). T (eqb m n)) (sym (put-here f r c v)) (and-right (eqb d 0) (eqb v n) t) in
+    let here : T w = subst (λ (m : ℕ). T (eqb m n)) (sym (put-at f r c v)) (and-right (eqb d 0) (eqb v n) t) in
     when-so (eqb d 0 && (b && w)) n (and-both (eqb d 0) (b && w) (and-left (eqb d 0) (eqb v n) t) (and-both b w u here)) ∙ sym y
 
 pub named-here : (K : Job) (g : Group) (r c d v : ℕ) → T (names K g r c d v) → valueAt (named K g r c d v) g r c d ≡ v

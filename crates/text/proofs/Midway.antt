@@ -18,7 +18,7 @@ use Rattle.model.specs.Text.{Reading, says, keyOf}
 use Rattle.model.proofs.TextUnique.{line-some}
 use Rattle.model.proofs.TextProper.{asked, by-word, names-says}
 use Rattle.model.proofs.TextNames.{rank-group, names-inside, Alike, named-alike}
-use Rattle.channel.specs.Written.{put-at, put-else}
+use Rattle.model.proofs.Sides.{put-at, put-else}
 use Rattle.line.specs.declared.lines.Opening.the-variants.{Array}
 use Rattle.text.specs.declared.reader.Cursor.{Cursor}
 use Rattle.text.specs.declared.reader.Step.{Step}

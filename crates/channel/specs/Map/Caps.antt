@@ -177,12 +177,6 @@ module _ (J : Job) where
         q
         ∙ (ap₂ takes p (owner-is d o e) ∙ sym (cap-side d c ∙ ap (λ (b : Bool). when b (takes (kindOf (d % 64)) (ownerCell d))) t))
 
-  pub side-most : (k r c : ℕ) → k < 2 → size (limitOf J (getD kinds k northSide) r c) ≡ J .O
-  unfolding limitOf
-  side-most zero r c l = refl
-  side-most (suc zero) r c l = refl
-  side-most (suc (suc k)) r c l = absurd (omega arith)
-
   pub cap-corner : (d : ℕ) → codeOf (d % 64) ≡ 2 → cap J d ≡ when (inGrid (d / 64) && isOpen J (rowOf (d / 64)) (columnOf (d / 64))) (J .O / 2)
   unfolding carries
   cap-corner d e = code-cap d 2 e refl ∙ ap (λ (b : Bool). when b (J .O / 2)) (within-take d 2 e tt (own-cell d 2 e tt))
