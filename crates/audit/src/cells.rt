@@ -7,6 +7,7 @@ ghost use Rattle.channel.specs.Map.{rowOf, columnOf};
 ghost use Rattle.cell.specs.Cell.Grid.{Pins, Tiles};
 ghost use Rattle.audit.specs.Feasible.{Decides};
 ghost use Rattle.audit.specs.Laws.{numbersFit, cellFits};
+use cell::counts_fit;
 use cell::links_fit;
 use cell::pins_of;
 use cell::places_even;
@@ -19,8 +20,9 @@ fn cell(rec: &[u8], pin: &[bool; 1641], tile: &[bool; 1641], x: usize) -> bool
     requires { ⌜ T (numbersFit (now rec)) ⌝ }
     ensures { λ t. ⌜ t ≡ cellFits (now (rec .entry)) (rowOf x) (columnOf x) ⌝ }
 {
+    let values = values_fit(rec, pin, tile, x) & counts_fit(rec, tile, x);
     let loads = links_fit(rec, pin, tile, x) & places_even(rec, pin, tile, x);
-    values_fit(rec, pin, tile, x) & loads
+    values & loads
 }
 
 // Whether all cells are. The loop has no way out, so that it can be made one of vectors.

@@ -48,7 +48,7 @@ pub fn tiles_of(rec: &[u8]) -> [bool; 1641]
 
 // What stands at the place of the cell x in a plane, one row and one column beyond the grid too.
 pub fn near(rec: &[u8], p: usize, x: usize) -> u8
-    requires { ⌜ (32768 ≤ length (now rec)) × (p < 17) × (x < 1682) ⌝ }
+    requires { ⌜ (32768 ≤ length (now rec)) × (p < 19) × (x < 1682) ⌝ }
     ensures { λ b. ⌜ b ≡ getD (now (rec .entry)) (727 + 1600 * p + x) 0 ⌝ }
 {
     rec[727 + 1600 * p + x]
@@ -56,7 +56,7 @@ pub fn near(rec: &[u8], p: usize, x: usize) -> u8
 
 // The byte of a plane at the cell x.
 pub fn byte(rec: &[u8], p: usize, x: usize) -> u8
-    requires { ⌜ (32768 ≤ length (now rec)) × (p < 17) × (41 ≤ x) × (x < 1641) ⌝ }
+    requires { ⌜ (32768 ≤ length (now rec)) × (p < 19) × (41 ≤ x) × (x < 1641) ⌝ }
     ensures { λ b. ⌜ b ≡ cell (now (rec .entry)) p (rowOf x) (columnOf x) ⌝ }
 {
     near(rec, p, x)

@@ -1,4 +1,4 @@
-// The tests of a record's cells, by the numbers of the cells: a cell's values, the bytes of its links, and the loads at its places. No test has a way out
+// The tests of a record's cells, by the numbers of the cells: a cell's values and counts, the bytes of its links, and the loads at its places. No test has a way out
 // and none divides, so that a loop over the cells can be made one of vectors. The test of the bytes that nothing uses stands beside them.
 mod grid; // the pins and the tiles by number
 mod links; // the bytes of a cell's links
@@ -15,8 +15,9 @@ ghost use lib.ListN.{length};
 ghost use Rattle.model.specs.Job.{capsFit};
 ghost use Rattle.model.specs.Record.{jobOf};
 ghost use Rattle.channel.specs.Map.{rowOf, columnOf};
-ghost use Rattle.cell.specs.Cell.{valuesFit, linksFit, placesEven};
+ghost use Rattle.cell.specs.Cell.{valuesFit, countsFit, linksFit, placesEven};
 ghost use Rattle.cell.specs.Cell.Grid.{Pins, Tiles};
+use channel::orthogonal;
 use grid::byte;
 use links::corners;
 use links::direct;
@@ -36,6 +37,17 @@ pub fn values_fit(rec: &[u8], pin: &[bool; 1641], tile: &[bool; 1641], x: usize)
     let mark = byte(rec, 0, x) <= held(pin[x], 2);
     let state = byte(rec, 1, x) <= held(tile[x], 1);
     mark & state
+}
+
+// Whether the counts of wires already laid on its sides are in range, and 0 where there is no side: a tile lies on one side of each.
+pub fn counts_fit(rec: &[u8], tile: &[bool; 1641], x: usize) -> bool
+    requires { ⌜ (32768 ≤ length (now rec)) × (41 ≤ x) × (x < 1641) × Tiles (now rec) (now tile) ⌝ }
+    ensures { λ t. ⌜ t ≡ countsFit (now (rec .entry)) (rowOf x) (columnOf x) ⌝ }
+{
+    let most = orthogonal(rec) as u8;
+    let north = byte(rec, 17, x) <= held(tile[x] | tile[x - 40], most);
+    let west = byte(rec, 18, x) <= held(tile[x] | tile[x - 1], most);
+    north & west
 }
 
 // Whether the bytes of its links are in order: in range, and with no more wires each way than there is room.

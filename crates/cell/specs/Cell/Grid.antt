@@ -7,10 +7,10 @@ use mathlib.Core.List.{List}
 use Prim.Native.Nat.{ℕ, zero, suc, _+_, _-_, _*_, _/_, _%_, _≤_, _<_}
 use native.Mathlib.Omega.{arith}
 use borrow.Author.Tests.{lt-ltb, le-ltb, eq-eqb, ne-eqb, ltb-true, ltb-false}
-use lib.Dec.{T, eqb, ltb, ltb→lt}
+use lib.Dec.{T, eqb, ltb, ltb→lt, lt→ltb}
 use lib.ListN.{getD}
 use Rattle.sums.specs.Tests.{and-left, and-right, so}
-use Rattle.model.specs.Job.{Job, arrayFits, isPin, isTile, isOpen, isChosen, onRim}
+use Rattle.model.specs.Job.{Job, arrayFits, isPin, isTile, isOpen, isChosen, onRim, hasNorth, hasWest}
 use Rattle.model.specs.Links.{Compass, north, east, south, west, isPlace, northSide, westSide, leg, direct, go, come, aheadOf, may}
 use Rattle.model.specs.Record.{cell, jobOf}
 use Rattle.channel.specs.Map.{inGrid, rowOf, columnOf}
@@ -122,6 +122,22 @@ both : (a b : Bool) → not ((a && b) && true) ≡ (false || (not a || (false ||
 both true true = refl
 both true false = refl
 both false b = refl
+
+or-none : (b : Bool) → (b || false) ≡ b
+or-none true = refl
+or-none false = refl
+
+either-row : (a b s : Bool) → (T a → T b) → ((a && s) || (b && s)) ≡ (b && s)
+either-row true true true f = refl
+either-row true true false f = refl
+either-row true false s f = absurd (f tt)
+either-row false b s f = refl
+
+either-column : (s a b : Bool) → (T a → T b) → ((s && a) || (s && b)) ≡ (s && b)
+either-column true true true f = refl
+either-column true true false f = absurd (f tt)
+either-column true false b f = refl
+either-column false a b f = refl
 
 -- ---- cells by number
 
@@ -295,6 +311,36 @@ module _ (J : Job) where
             let (f, k, m) = west-at q e in
             rw (own, clear-at (x - 1) r q f k m) (before-open J r c r q (omega arith) (omega arith) ∙ west-in J r c q e)
 
+    own-tile : tileIn J x ≡ isTile J r c
+    own-tile = let (e, k) = at-row r refl in let (f, m) = at-column c refl in tile-at x r c (omega arith) k m
+
+    -- a side is there where a tile lies on one side of it
+    pub north-there : (tileIn J x || tileIn J (x - 40)) ≡ hasNorth J r c
+    north-there = by r refl
+      where
+        by : (p : ℕ) → r ≡ p → (tileIn J x || tileIn J (x - 40)) ≡ hasNorth J r c
+        by zero e =
+            let (a, _, _, _) = array-range (J .rows) (J .columns) fits in
+            rw (own-tile, north-none e, lt-ltb (suc r) (J .rows) (omega arith), lt-ltb r (J .rows) (omega arith)) (or-none (ltb (suc c) (J .columns)))
+        by (suc p) e =
+            let (f, k, m) = north-at p e in
+            rw (own-tile, tile-at (x - 40) p c f k m, e)
+            (either-row (ltb (suc (suc p)) (J .rows)) (ltb (suc p) (J .rows)) (ltb (suc c) (J .columns))
+            (λ t. lt→ltb (suc p) (J .rows) (omega (arith, ltb→lt (suc (suc p)) (J .rows) t))))
+
+    pub west-there : (tileIn J x || tileIn J (x - 1)) ≡ hasWest J r c
+    west-there = by c refl
+      where
+        by : (q : ℕ) → c ≡ q → (tileIn J x || tileIn J (x - 1)) ≡ hasWest J r c
+        by zero e =
+            let (_, _, b, _) = array-range (J .rows) (J .columns) fits in
+            rw (own-tile, west-none e, lt-ltb (suc c) (J .columns) (omega arith), lt-ltb c (J .columns) (omega arith)) (or-none (ltb (suc r) (J .rows) && true))
+        by (suc q) e =
+            let (f, k, m) = west-at q e in
+            rw (own-tile, tile-at (x - 1) r q f k m, e)
+            (either-column (ltb (suc r) (J .rows)) (ltb (suc (suc q)) (J .columns)) (ltb (suc q) (J .columns))
+            (λ t. lt→ltb (suc q) (J .columns) (omega (arith, ltb→lt (suc (suc q)) (J .columns) t))))
+
     -- where the legs lead
     abbrev opens : Compass → Bool
     opens d = isPlace J (aheadOf J (leg d) r c)
@@ -359,3 +405,13 @@ pub direct-read : (rec : List ℕ) (pin tile : List Bool) → Pins rec pin → T
 unfolding isChosen jobOf tileIn
 direct-read rec pin tile pins tiles x l h =
     rw (map-read (isPin (jobOf rec)) pin pins x l h, tiles .map .at x h, tiles .map .at (x - 41) (omega arith)) (leaves-read (jobOf rec) (tiles .array) x l h)
+
+-- whether a side is there, as a program reads it from the map
+module _ (rec : List ℕ) (tile : List Bool) (tiles : Tiles rec tile) (x : ℕ) (l : 41 ≤ x) (h : x < 1641) where
+  pub north-read : (getD tile x false || getD tile (x - 40) false) ≡ hasNorth (jobOf rec) (rowOf x) (columnOf x)
+  unfolding tileIn
+  north-read = rw (tiles .map .at x h, tiles .map .at (x - 40) (omega arith)) (north-there (jobOf rec) (tiles .array) x l h)
+
+  pub west-read : (getD tile x false || getD tile (x - 1) false) ≡ hasWest (jobOf rec) (rowOf x) (columnOf x)
+  unfolding tileIn
+  west-read = rw (tiles .map .at x h, tiles .map .at (x - 1) (omega arith)) (west-there (jobOf rec) (tiles .array) x l h)
