@@ -1,2 +1,4 @@
 -- what Mark and Close answer and store
 pub mod Edits
+-- what setting a count does
+pub mod Laying

@@ -1,9 +1,12 @@
-// Mark and Close.
+// Mark, Close and the counts of wires already laid.
 use answers::Answer;
 use audit::sound;
 use channel::is_tile;
+use channel::laid_on;
 use channel::mark_of;
+use channel::orthogonal;
 use channel::pin_at;
+use channel::set_laid;
 use channel::set_mark;
 use channel::set_state;
 use channel::state_of;
@@ -13,7 +16,7 @@ ghost use mathlib.Core.List.{[]};
 ghost use Prim.Native.Nat.{_≤_, _<_};
 ghost use lib.ListN.{length, set as Set};
 ghost use Rattle.model.specs.Record.{recordSize, offset, jobOf, Legal};
-ghost use Rattle.model.specs.Calls.{mark as Mark, close as Close, after, Did};
+ghost use Rattle.model.specs.Calls.{mark as Mark, close as Close, lay as Lay, after, laidIn, Did};
 ghost use Rattle.answers.specs.Answers.{asAnswer};
 ghost use Rattle.editing.specs.Edits.{isThere, most, valueIn, planeOf, editedBy};
 
@@ -80,4 +83,36 @@ pub fn close(rec: &mut [u8], row: usize, column: usize, state: usize) -> Answer
     let there = is_tile(rec, row, column);
     let old = state_of(rec, row, column);
     edit(rec, true, row, column, state, there, 1, old)
+}
+
+// The count of wires already laid on a side of a tile, in a legal record.
+fn lay_on(rec: &mut [u8], row: usize, column: usize, side: usize, count: usize) -> Answer
+    requires { ⌜ Legal (now rec) ⌝ }
+    ensures { λ a. ⌜ after (asAnswer a) (now (rec .exit)) [] [] ≡ laidIn row column side count (now (rec .entry)) ⌝ }
+{
+    if !is_tile(rec, row, column) {
+        return Answer::Refused(4);
+    }
+    if side > 3 {
+        return Answer::Refused(5);
+    }
+    if count > orthogonal(rec) {
+        return Answer::Refused(11);
+    }
+    if laid_on(rec, row, column, side) == count {
+        return Answer::Done;
+    }
+    unwire(rec);
+    set_laid(rec, row, column, side, count);
+    Answer::Done
+}
+
+// The count of wires already laid on a side of a tile: n, e, s, w for 0 to 3.
+pub fn lay(rec: &mut [u8], row: usize, column: usize, side: usize, count: usize) -> Answer
+    ensures { λ a. ⌜ Did (Lay row column side count) (now (rec .entry)) (after (asAnswer a) (now (rec .exit)) [] []) ⌝ }
+{
+    if !sound(rec) {
+        return Answer::Refused(1);
+    }
+    lay_on(rec, row, column, side, count)
 }

@@ -38,6 +38,7 @@ pub mod ShortByTest
 pub mod ShortShut
 pub mod Short34
 pub mod ShortRim
+pub mod ShortLaid
 pub mod Shorts
 pub mod Wireds
 pub mod BothWays

@@ -1,20 +1,20 @@
--- Document 01, "Settled by hand" and "Record and operations": with which number New, Mark and Close are refused, on rows with one fault and with two; that a value
--- already there changes nothing; that Shortfall tests the scratch before the output; and how far the scratch is cleared. Assumes nothing.
+-- Document 01, "Settled by hand" and "Record and operations": with which number New, Mark, Close and Lay are refused, on rows with one fault and with more; that
+-- a side named from either tile is the same call; that a value already there changes nothing; that Shortfall tests the scratch before the output; and how far the scratch is cleared. Assumes nothing.
 use mathlib.Core.Path.{_≡_, refl, sym, ap, _∙_}
 use mathlib.Core.Bool.{Bool, true, false, _&&_}
 use mathlib.Core.List.{List, [], _∷_, List·Memᴰ}
 use mathlib.Core.Option.{Option, none, some}
-use Prim.Native.Nat.{ℕ, _+_, _-_, _≤_, _<_}
+use Prim.Native.Nat.{ℕ, suc, _+_, _-_, _≤_, _<_}
 use native.Mathlib.Omega.{arith}
 use borrow.Author.Tests.{le-leb}
-use lib.Dec.{T, eqb, leb, eqb→eq, eqb-refl}
+use lib.Dec.{T, eqb, leb, ltb, eqb→eq, eqb-refl, lt→ltb, ltb→lt}
 use lib.ListN.{length, getD, replicate, drop, length-replicate, getD-replicate, List·getD-append}
 use lib.Seq.{getD-append-add, getD-drop}
-use Rattle.sums.specs.Tests.{and-left, and-right, every, every-at}
-use Rattle.model.specs.Job.{Job, arrayFits, capsAdmitted, fresh, marked, closed, isPin, isTile}
+use Rattle.sums.specs.Tests.{and-left, and-right, and-both, every, every-at}
+use Rattle.model.specs.Job.{Job, arrayFits, capsAdmitted, fresh, marked, closed, Side, sideOf, laidOn, laidBy, isPin, isTile}
 use Rattle.model.specs.Record.{recordSize, scratchSize, jobOf, unwiredRecord, over}
-use Rattle.model.specs.Calls.{Answer, refused, done, refusal, After, after, cleared, Test, test, asked, newly, edited, markedBy, closedBy, Lacks}
-use Rattle.model.specs.Examples.{Opening, openings, Edit, markings, closings}
+use Rattle.model.specs.Calls.{Answer, refused, done, refusal, After, after, cleared, Test, test, asked, newly, edited, markedBy, closedBy, laidIn, Lacks}
+use Rattle.model.specs.Examples.{Opening, openings, Edit, markings, closings, Laying, layings}
 use Rattle.model.proofs.Asked.{hold-both, asked-holds, asked-all}
 
 -- the number of the first of two tests that fails
@@ -79,6 +79,58 @@ closings-hold x m rec e =
     (edited-accepted (eqb (jobOf rec .state (x .row) (x .column)) (x .value)) (closed (jobOf rec) (x .row) (x .column) (x .value)) rec)
     ∙ (ap (λ (J : Job). firstOf (isTile J (x .row) (x .column)) 4 (leb (x .value) 1) 5) e
     ∙ same-number _ _ (every-at closings (λ y. sameNumber (firstOf (isTile small (y .row) (y .column)) 4 (leb (y .value) 1) 5) (y .number)) tt m))
+
+-- ---- Lay, on a record of 3 by 3 pins
+
+-- two calls whose first tests both hold and that are alike otherwise
+one-call : (a b : Bool) → T a → T b → (rec : List ℕ) (ts : List Test) (x : After) → asked (test a 4 ∷ ts) rec [] x ≡ asked (test b 4 ∷ ts) rec [] x
+one-call true true s t rec ts x = refl
+one-call true false s t rec ts x = absurd t
+one-call false b s t rec ts x = absurd s
+
+abbrev wider : Job
+wider = fresh 3 3 2 3 0
+
+-- the number of the first of three tests that fails
+abbrev firstOfThree : Bool → ℕ → Bool → ℕ → Bool → ℕ → Option ℕ
+firstOfThree a i b j c k = elim a [ true ↦ firstOf b j c k | false ↦ some i ]
+
+three-tests : (a : Bool) (i : ℕ) (b : Bool) (j : ℕ) (c : Bool) (k : ℕ) (rec : List ℕ) (x : After) → refusal (x .answer) ≡ none
+    → refusal (asked (test a i ∷ test b j ∷ test c k ∷ []) rec [] x .answer) ≡ firstOfThree a i b j c k
+three-tests true i b j c k rec x e = two-tests b j c k rec x e
+three-tests false i b j c k rec x e = refl
+
+pub layings-hold : (x : Laying) → List·Memᴰ x layings → (rec : List ℕ) → jobOf rec ≡ wider
+    → refusal (laidIn (x .row) (x .column) (x .side) (x .count) rec .answer) ≡ x .number
+unfolding every
+layings-hold x m rec e =
+    let s : Side = sideOf (x .row) (x .column) (x .side) in
+    three-tests (isTile (jobOf rec) (x .row) (x .column)) 4 (leb (x .side) 3) 5 (leb (x .count) (jobOf rec .O)) 11 rec _
+    (edited-accepted (eqb (laidOn (jobOf rec) s) (x .count)) (laidBy (jobOf rec) s (x .count)) rec)
+    ∙ (ap (λ (J : Job). firstOfThree (isTile J (x .row) (x .column)) 4 (leb (x .side) 3) 5 (leb (x .count) (J .O)) 11) e
+    ∙ same-number _ _
+    (every-at layings (λ y. sameNumber (firstOfThree (isTile wider (y .row) (y .column)) 4 (leb (y .side) 3) 5 (leb (y .count) 2) 11) (y .number)) tt m))
+
+-- "An inner side has one count whichever tile names it": from either tile it is the same call.
+pub laid-south : (rec : List ℕ) (r c n : ℕ) → T (isTile (jobOf rec) (suc r) c) → laidIn r c 2 n rec ≡ laidIn (suc r) c 0 n rec
+laid-south rec r c n t =
+    let J : Job = jobOf rec in
+    let a : Bool = ltb (suc (suc r)) (J .rows) in
+    let b : Bool = ltb (suc c) (J .columns) in
+    let above : T (isTile J r c) = and-both (ltb (suc r) (J .rows)) b
+    (lt→ltb (suc r) (J .rows) (omega (arith, ltb→lt (suc (suc r)) (J .rows) (and-left a b t)))) (and-right a b t) in
+    one-call (isTile J r c) (isTile J (suc r) c) above t rec (test true 5 ∷ test (leb n (J .O)) 11 ∷ [])
+    (edited (eqb (laidOn J (sideOf r c 2)) n) (laidBy J (sideOf r c 2) n) rec)
+
+pub laid-east : (rec : List ℕ) (r c n : ℕ) → T (isTile (jobOf rec) r (suc c)) → laidIn r c 1 n rec ≡ laidIn r (suc c) 3 n rec
+laid-east rec r c n t =
+    let J : Job = jobOf rec in
+    let a : Bool = ltb (suc r) (J .rows) in
+    let b : Bool = ltb (suc (suc c)) (J .columns) in
+    let before : T (isTile J r c) = and-both a (ltb (suc c) (J .columns)) (and-left a b t)
+    (lt→ltb (suc c) (J .columns) (omega (arith, ltb→lt (suc (suc c)) (J .columns) (and-right a b t)))) in
+    one-call (isTile J r c) (isTile J r (suc c)) before t rec (test true 5 ∷ test (leb n (J .O)) 11 ∷ [])
+    (edited (eqb (laidOn J (sideOf r c 1)) n) (laidBy J (sideOf r c 1) n) rec)
 
 -- "A value already there changes nothing."
 already : (ts : List Test) (rec : List ℕ) (v m : ℕ) (K : Job) → v ≡ m → asked ts rec [] (edited (eqb v m) K rec) ≡ asked ts rec [] (after done rec [] [])

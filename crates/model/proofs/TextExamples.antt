@@ -10,7 +10,7 @@ use native.Mathlib.Omega.{arith}
 use lib.Dec.{T, leb, leb→le}
 use lib.ListN.{length, getD, drop}
 use Rattle.sums.specs.Counting.{only, each}
-use Rattle.model.specs.Job.{Job, fresh, marked, closed, isChosen, isMissing, isClosed}
+use Rattle.model.specs.Job.{Job, fresh, marked, closed, sideOf, laidBy, isChosen, isMissing, isClosed}
 use Rattle.model.specs.Text.{chosenPins, missingPins, closedTiles, laidSides, Line, arrayLine, groupLine, endLine, lineBytes, Stage, begin, afterArray, finished}
 use Rattle.model.specs.Text.{within, rank, Reader, admit, Verdict, reads, wrongAt, Reads, ended, line, wrong, Reading, textOf}
 use Rattle.model.specs.Examples.{job64}
@@ -46,6 +46,10 @@ chosen64 = chosenForm zeroZero
 -- (closed 0 0)
 abbrev pub closed64 : List ℕ
 closed64 = 40 ∷ 99 ∷ 108 ∷ 111 ∷ 115 ∷ 101 ∷ 100 ∷ 32 ∷ zeroZero
+
+-- (laid 0 0 n, with the digit of the count
+abbrev pub laidForm : ℕ → List ℕ
+laidForm b = 40 ∷ 108 ∷ 97 ∷ 105 ∷ 100 ∷ 32 ∷ 48 ∷ 32 ∷ 48 ∷ 32 ∷ 110 ∷ 32 ∷ b ∷ 41 ∷ 10 ∷ []
 
 -- (end), without the byte 10
 abbrev pub endForm : List ℕ
@@ -140,6 +144,18 @@ missing64 =
     (line (groupLine missingPins 0 1 0 2) (after (within missingPins) 5 J) (closed64 ++ end64) refl refl
     (line (groupLine closedTiles 0 0 0 1) (after (within closedTiles) 1 K) end64 refl refl (line endLine (after finished 0 K) [] refl refl (ended refl refl))))
 
+-- with (laid 0 0 n 1) after the closed tile; and that text is written
+pub laid64 : Reading (array64 ++ (chosen64 ++ (closed64 ++ (laidForm 49 ++ end64)))) (reads (laidBy job64 (sideOf 0 0 0) 1))
+unfolding admit lineBytes
+laid64 =
+    let K : Job = laidBy job64 (sideOf 0 0 0) 1 in
+    closed-read (laidForm 49 ++ end64)
+    (line (groupLine laidSides 0 0 0 1) (after (within laidSides) 1 K) end64 refl refl (line endLine (after finished 0 K) [] refl refl (ended refl refl)))
+
+pub writes-laid64 : textOf (laidBy job64 (sideOf 0 0 0) 1) ≡ array64 ++ (chosen64 ++ (closed64 ++ (laidForm 49 ++ end64)))
+unfolding textOf lineBytes each isChosen isMissing isClosed
+writes-laid64 = refl
+
 -- ---- a line that may not stand there
 
 -- "With lines two and three exchanged, the refusal is 6 at 45."
@@ -159,6 +175,29 @@ twice64 = chosen-read (chosen64 ++ (closed64 ++ end64)) (line-refused (groupLine
 pub both64 : Reading (array64 ++ (chosen64 ++ (missingForm zeroZero ++ (closed64 ++ end64)))) (wrongAt 45)
 unfolding admit lineBytes
 both64 = chosen-read (missingForm zeroZero ++ (closed64 ++ end64)) (line-refused (groupLine missingPins 0 0 0 2) (closed64 ++ end64) tt refl)
+
+-- a laid wire before the closed tile
+pub early64 : Reading (array64 ++ (chosen64 ++ (laidForm 49 ++ (closed64 ++ end64)))) (wrongAt 60)
+unfolding admit lineBytes
+early64 =
+    let K : Job = laidBy (marked plain 0 0 1) (sideOf 0 0 0) 1 in
+    chosen-read (laidForm 49 ++ (closed64 ++ end64))
+    (line (groupLine laidSides 0 0 0 1) (after (within laidSides) 1 K) (closed64 ++ end64) refl refl
+    (line-refused (groupLine closedTiles 0 0 0 1) end64 tt refl))
+
+-- a count above O
+pub above64 : Reading (array64 ++ (chosen64 ++ (closed64 ++ (laidForm 50 ++ end64)))) (wrongAt 58)
+unfolding admit lineBytes
+above64 = closed-read (laidForm 50 ++ end64) (line-refused (groupLine laidSides 0 0 0 2) end64 tt refl)
+
+-- 3 by 3, O = 2: "An inner side is written as s or e of its northern or western tile", so (laid 1 0 n 1) and (laid 0 1 w 1) may not stand
+pub inner-sides : (o : ℕ) (rest : List ℕ) (R : Reader) → R ≡ after afterArray 0 (fresh 3 3 2 3 0)
+    → Reads R o (lineBytes (groupLine laidSides 1 0 0 1) ++ rest) (wrongAt o) × Reads R o (lineBytes (groupLine laidSides 0 1 3 1) ++ rest) (wrongAt o)
+unfolding admit
+inner-sides o rest R e = (
+  line-refused (groupLine laidSides 1 0 0 1) rest tt (ap (λ (S : Reader). admit S (groupLine laidSides 1 0 0 1)) e),
+  line-refused (groupLine laidSides 0 1 3 1) rest tt (ap (λ (S : Reader). admit S (groupLine laidSides 0 1 3 1)) e),
+)
 
 -- ---- bytes that begin no line
 

@@ -5,7 +5,7 @@ use mathlib.Core.List.{List, [], _∷_}
 use mathlib.Core.Option.{Option, none, some}
 use Prim.Native.Nat.{ℕ}
 use lib.Dec.{eqb}
-use Rattle.model.specs.Job.{Job, fresh, marked, closed}
+use Rattle.model.specs.Job.{Job, fresh, marked, closed, sideOf, laidBy}
 use Rattle.model.specs.Near.{spot}
 use Rattle.model.specs.Pairing.{Pair}
 
@@ -81,6 +81,22 @@ markings = edit 1 1 2 none ∷ edit 0 0 0 none ∷ edit 2 0 1 (some 4) ∷ edit 
 
 abbrev pub closings : List Edit
 closings = edit 0 0 1 none ∷ edit 0 0 0 none ∷ edit 1 0 1 (some 4) ∷ edit 0 1 1 (some 4) ∷ edit 0 0 2 (some 5) ∷ edit 1 0 2 (some 4) ∷ []
+
+-- Setting a count on an idle, open job of 3 by 3 pins with O = 2: 4 before 5 before 11
+pub record Laying : Type 0 where
+  pub row : ℕ
+  pub column : ℕ
+  pub side : ℕ
+  pub count : ℕ
+  pub number : Option ℕ
+
+abbrev pub laying : ℕ → ℕ → ℕ → ℕ → Option ℕ → Laying
+laying r c d v n = record { row = r; column = c; side = d; count = v; number = n }
+
+abbrev pub layings : List Laying
+layings =
+    laying 1 1 0 2 none ∷ laying 0 1 3 0 none ∷ laying 2 0 0 1 (some 4) ∷ laying 0 2 0 1 (some 4) ∷ laying 0 0 4 1 (some 5) ∷ laying 1 1 3 3 (some 11)
+    ∷ laying 2 0 4 3 (some 4) ∷ laying 0 0 4 3 (some 5) ∷ []
 
 -- ---- pairing: which positions arrive, and the pairs in the order in which they are joined
 
@@ -171,8 +187,24 @@ shortEntry =
       near = spot 1 1 1 ∷ spot 1 1 2 ∷ spot 2 0 1 ∷ spot 3 0 1 ∷ spot 4 0 1 ∷ spot 5 0 1 ∷ spot 6 0 1 ∷ spot 7 0 1 ∷ spot 0 0 1 ∷ [];
     }
 
+-- Caps 2 2 0. Both pins have a route, each round its side of the tile and over the rim side n; where one wire is already laid there, one has. The centre
+-- passes nothing, so all of the tile is near but co.
+abbrev pub jobTwo : Job
+jobTwo = oneOpen 2 2 0
+
+abbrev pub jobLaid : Job
+jobLaid = laidBy jobTwo (sideOf 0 1 0) 1
+
+abbrev pub shortLaid : Short
+shortLaid =
+    record {
+      job = jobLaid;
+      greatest = 1;
+      near = spot 1 1 1 ∷ spot 1 1 2 ∷ spot 2 0 1 ∷ spot 3 0 1 ∷ spot 4 0 1 ∷ spot 5 0 1 ∷ spot 6 0 1 ∷ [];
+    }
+
 abbrev pub shorts : List Short
-shorts = shortShut ∷ short34 ∷ shortRim ∷ shortMissing ∷ shortEntry ∷ []
+shorts = shortShut ∷ short34 ∷ shortRim ∷ shortMissing ∷ shortEntry ∷ shortLaid ∷ []
 
 -- ---- jobs whose chosen pins can all have a route
 
@@ -185,7 +217,7 @@ abbrev pub job33 : Job
 job33 = closed (closed (closed (marked (marked (marked (fresh 3 3 1 1 0) 0 0 1) 1 0 1) 1 1 1) 0 1 1) 1 0 1) 1 1 1
 
 abbrev pub wireds : List Job
-wireds = job64 ∷ job33 ∷ []
+wireds = job64 ∷ job33 ∷ jobTwo ∷ []
 
 -- ---- direct exits: how many links lead from the pin straight to the outside
 

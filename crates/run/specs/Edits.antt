@@ -1,13 +1,14 @@
 -- Document 01, "Runs": edits within the array are accepted by every service, one after the other, and give the job that they name, with nothing wired.
 -- Assumes nothing.
 use mathlib.Core.Path.{_≡_, refl, sym, ap, subst, _∙_}
-use mathlib.Core.Bool.{Bool, true, false}
+use mathlib.Core.Bool.{Bool, true, false, _&&_}
 use mathlib.Core.List.{List, [], _∷_, _++_}
 use Prim.Native.Nat.{ℕ}
 use lib.Dec.{T, eqb, leb}
-use Rattle.model.specs.Job.{Job, marked, closed, isPin, isTile}
+use Rattle.sums.specs.Tests.{and-both}
+use Rattle.model.specs.Job.{Job, marked, closed, sideOf, laidOn, laidBy, isPin, isTile}
 use Rattle.model.specs.Record.{jobOf}
-use Rattle.model.specs.Calls.{Call, mark, close, refusal, Accepted, After, Did, Test, test, asked, edited, wiresIn}
+use Rattle.model.specs.Calls.{Call, mark, close, lay, refusal, Accepted, After, Did, Test, test, asked, edited, wiresIn}
 use Rattle.model.specs.Run.{Lent, Service, Sets, Follows}
 use Rattle.model.proofs.Asked.{allHold, hold-both, asked-all}
 use Rattle.run.specs.Invariant.{call-leaves}
@@ -21,6 +22,8 @@ pub data Edits : Job → List Call → Job → Type 0 where
       → Edits J (mark r c m ∷ calls) K
   closes : {J K : Job} {calls : List Call} (r c v : ℕ) → Lent (close r c v) → T (isTile J r c) → T (leb v 1) → Edits (closed J r c v) calls K
       → Edits J (close r c v ∷ calls) K
+  lays : {J K : Job} {calls : List Call} (r c d n : ℕ) → Lent (lay r c d n) → T (isTile J r c) → T (leb d 3) → T (leb n (J .O))
+      → Edits (laidBy J (sideOf r c d) n) calls K → Edits J (lay r c d n ∷ calls) K
 
 edited-done : (ts : List Test) (already : Bool) (K : Job) (rec : List ℕ) → T (allHold ts) → wiresIn rec ≡ 0
     → Accepted (asked ts rec [] (edited already K rec) .answer) × (wiresIn (asked ts rec [] (edited already K rec) .rec) ≡ 0)
@@ -62,10 +65,21 @@ module _ (S : Service) where
       edit-goes (close r c v) rec J (closed J r c v) k d refl (test (isTile I r c) 4 ∷ test (leb v 1) 5 ∷ []) (eqb (I .state r c) v) (closed I r c v)
       (d .legal (k .kept .legal)) (hold-both (isTile I r c) (leb v 1) (subst (λ (X : Job). T (isTile X r c)) (sym (k .kept .job)) t) u)
 
+  lay-goes : (rec : List ℕ) (J : Job) (r c d n : ℕ) → Blank rec J → Lent (lay r c d n) → T (isTile J r c) → T (leb d 3) → T (leb n (J .O))
+      → Goes (lay r c d n) rec (laidBy J (sideOf r c d) n)
+  lay-goes rec J r c d n k w t u v =
+      let I : Job = jobOf rec in
+      let x : Did (lay r c d n) rec (S .does (lay r c d n) rec) = S .did (lay r c d n) rec w (k .kept .buffer) in
+      edit-goes (lay r c d n) rec J (laidBy J (sideOf r c d) n) k x refl (test (isTile I r c) 4 ∷ test (leb d 3) 5 ∷ test (leb n (I .O)) 11 ∷ [])
+      (eqb (laidOn I (sideOf r c d)) n) (laidBy I (sideOf r c d) n) (x .legal (k .kept .legal))
+      (and-both (isTile I r c) (leb d 3 && (leb n (I .O) && true)) (subst (λ (X : Job). T (isTile X r c)) (sym (k .kept .job)) t)
+      (hold-both (leb d 3) (leb n (I .O)) u (subst (λ (X : Job). T (leb n (X .O))) (sym (k .kept .job)) v)))
+
   pub edits-blank : {J K : Job} {calls : List Call} → Edits J calls K → (rec : List ℕ) → Blank rec J → Blank (recAfter S calls rec) K
   edits-blank end rec k = k
   edits-blank (marks {J = J} r c m w t u es) rec k = edits-blank es (S .does (mark r c m) rec .rec) (mark-goes rec J r c m k w t u .1)
   edits-blank (closes {J = J} r c v w t u es) rec k = edits-blank es (S .does (close r c v) rec .rec) (close-goes rec J r c v k w t u .1)
+  edits-blank (lays {J = J} r c d n w t u v es) rec k = edits-blank es (S .does (lay r c d n) rec .rec) (lay-goes rec J r c d n k w t u v .1)
 
   -- followed by more calls
   pub edits-follow : {J K : Job} {calls : List Call} → Edits J calls K → (rec : List ℕ) → Blank rec J → (others : List Call) (rec′ : List ℕ) (L : Job)
@@ -79,3 +93,8 @@ module _ (S : Service) where
       let (x, k′) = close-goes rec J r c v k w t u in
       let a : After = S .does (close r c v) rec in
       (w, (closed J r c v, becomes-set S (close r c v) J (closed J r c v) (a .answer) x refl, edits-follow es (a .rec) k′ others rec′ L f))
+  edits-follow (lays {J = J} r c d n w t u v es) rec k others rec′ L f =
+      let (x, k′) = lay-goes rec J r c d n k w t u v in
+      let a : After = S .does (lay r c d n) rec in
+      let K : Job = laidBy J (sideOf r c d) n in
+      (w, (K, becomes-set S (lay r c d n) J K (a .answer) x refl, edits-follow es (a .rec) k′ others rec′ L f))

@@ -12,8 +12,8 @@ use lib.ListN.{length, getD, replicate, length-replicate}
 use Rattle.sums.specs.Tests.{and-left, and-right, every}
 use Rattle.model.specs.Job.{Job, fresh, marked, isPin, isChosen}
 use Rattle.model.specs.Record.{recordSize}
-use Rattle.model.specs.Examples.{job64, job33, jobShut, shortShut}
-use Rattle.model.specs.Calls.{Call, new, mark, close, step, readText, Answer, allWired, Accepted}
+use Rattle.model.specs.Examples.{job64, job33, jobShut, shortShut, jobLaid, shortLaid}
+use Rattle.model.specs.Calls.{Call, new, mark, close, lay, step, readText, Answer, allWired, Accepted}
 use Rattle.model.specs.Run.{Buffer, Service, Starts, Follows, NeverOne, Stepping, Demand}
 use Rattle.model.proofs.TextExamples.{text64, reads64}
 use Rattle.run.specs.Buffers.{zeros-buffer, zeroScratch, scratch-buffer, scratch-long}
@@ -21,7 +21,7 @@ use Rattle.run.specs.Runs.{becomes-set, start-kept, AllLent, recAfter, f
 use Rattle.run.specs.Says.{enough-accepted}
 use Rattle.run.specs.Demand3.{demand3}
 use Rattle.run.specs.Blank.{Blank, new-begins, text-begins}
-use Rattle.run.specs.Edits.{Edits, end, marks, closes, edits-blank, edits-follow}
+use Rattle.run.specs.Edits.{Edits, end, marks, closes, lays, edits-blank, edits-follow}
 use Rattle.run.specs.Settled.{Answers, shorts-answers, WholeAnswers, wireds-answers, none-answers}
 
 -- ---- a record of zeros
@@ -157,3 +157,28 @@ module _ (S : Service) where
       let rec : List ℕ = recAfter S editsShut begunShut in
       shorts-answers shortShut (List·Memᴰ·head refl) S begunShut (fresh 3 3 1 2 0) s editsShut rec
       (edits-follow S toShut begunShut b [] rec jobShut (refl, refl)) (edits-blank S toShut begunShut b .unwired)
+
+  -- ---- 3 by 4, one tile open, both inner pins chosen, and a wire already laid on the rim side
+
+  abbrev pub begunLaid : List ℕ
+  begunLaid = S .does (new 3 4 2 2 0) zeroRecord .rec
+
+  abbrev pub editsLaid : List Call
+  editsLaid = mark 1 1 1 ∷ mark 1 2 1 ∷ close 0 0 1 ∷ close 0 2 1 ∷ close 1 0 1 ∷ close 1 1 1 ∷ close 1 2 1 ∷ lay 0 1 0 1 ∷ []
+
+  toLaid : Edits (fresh 3 4 2 2 0) editsLaid jobLaid
+  toLaid =
+      marks 1 1 1 (omega arith) tt tt
+      (marks 1 2 1 (omega arith) tt tt
+      (closes 0 0 1 (omega arith) tt tt
+      (closes 0 2 1 (omega arith) tt tt
+      (closes 1 0 1 (omega arith) tt tt
+      (closes 1 1 1 (omega arith) tt tt (closes 1 2 1 (omega arith) tt tt (lays 0 1 0 1 (omega arith) tt tt tt end)))))))
+
+  pub answersLaid : Answers S (recAfter S editsLaid begunLaid) shortLaid
+  answersLaid =
+      let (s, b) = new-begins S zeroRecord zero-buffer zero-long 3 4 2 2 0 (omega arith) tt tt in
+      let rec : List ℕ = recAfter S editsLaid begunLaid in
+      shorts-answers shortLaid
+      (List·Memᴰ·tail (List·Memᴰ·tail (List·Memᴰ·tail (List·Memᴰ·tail (List·Memᴰ·tail (List·Memᴰ·head refl)))))) S begunLaid (fresh 3 4 2 2 0) s editsLaid
+      rec (edits-follow S toLaid begunLaid b [] rec jobLaid (refl, refl)) (edits-blank S toLaid begunLaid b .unwired)

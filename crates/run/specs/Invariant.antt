@@ -11,18 +11,19 @@ use borrow.Author.Tests.{le-leb}
 use lib.Dec.{T, eqb, leb, eqb→eq, leb→le, nleb→lt}
 use lib.ListN.{length}
 use Rattle.sums.specs.Tests.{and-left, and-right}
-use Rattle.model.specs.Job.{Job, arrayFits, capsAdmitted, fresh, marked, closed, put, isPin, isTile, isChosen, Proper}
+use Rattle.model.specs.Job.{Job, arrayFits, capsAdmitted, fresh, put, withAdded, marked, closed, Side, ofNorth, ofWest, sideOf, laidOn, laidBy, isPin, isTile, isChosen, Proper}
 use Rattle.model.specs.Record.{recordSize, scratchSize, jobOf, load, Legal, noLoads, unwiredRecord, over}
 use Rattle.model.specs.Wires.{partAt}
 use Rattle.model.specs.Text.{Verdict, reads, wrongAt, Reading, textOf}
 use Rattle.model.specs.Listing.{wiresListing}
-use Rattle.model.specs.Calls.{Call, new, mark, close, step, shortfall, part, readText, writeText, listing}
+use Rattle.model.specs.Calls.{Call, new, mark, close, lay, step, shortfall, part, readText, writeText, listing}
 use Rattle.model.specs.Calls.{Answer, refused, done, lists, wrote, refusal, Accepted, After, after}
-use Rattle.model.specs.Calls.{Test, test, asked, edited, newly, markedBy, closedBy, listed, readIn, putOut, Stepped, adds, stays, lacking, Steps, Lacks, Did}
+use Rattle.model.specs.Calls.{Test, test, asked, edited, newly, markedBy, closedBy, laidIn, listed, readIn, putOut, Stepped, adds, stays, lacking, Steps, Lacks, Did}
 use Rattle.model.specs.Run.{Buffer, Service, Sets}
 use Rattle.model.proofs.RecordOf.{length-record}
 use Rattle.model.proofs.Asked.{allHold, numbered, both-hold, asked-holds, asked-either}
 use Rattle.model.proofs.Over.{anew-legal, anew-job, legal-proper}
+use Rattle.model.proofs.Sides.{laid-proper}
 use Rattle.model.proofs.TextProper.{fresh-proper, marked-proper, closed-proper, reading-proper}
 use Rattle.run.specs.Buffers.{over-buffer}
 
@@ -108,6 +109,26 @@ closed-same J r c v e =
       added = J .added;
     }
 
+laid-same : (J : Job) (s : Side) (n : ℕ) → laidOn J s ≡ n → laidBy J s n ≡ J
+laid-same J (ofNorth r c) n e =
+    λ i. withAdded J
+    (record {
+      laidNorth = λ x y. put-same (J .added .laidNorth) r c n e x y i;
+      laidWest = J .added .laidWest;
+      ownD = J .added .ownD;
+      upward = J .added .upward;
+      seen = J .added .seen;
+    })
+laid-same J (ofWest r c) n e =
+    λ i. withAdded J
+    (record {
+      laidNorth = J .added .laidNorth;
+      laidWest = λ x y. put-same (J .added .laidWest) r c n e x y i;
+      ownD = J .added .ownD;
+      upward = J .added .upward;
+      seen = J .added .seen;
+    })
+
 module _ (S : Service) (rec : List ℕ) (J : Job) (k : Kept rec J) where
   -- K is the edited job
   edit-leaves : (c : Call) (ts : List Test) (already : Bool) (K : Job) → T (numbered notOne ts) → (T (allHold ts) → Proper K) → (T already → K ≡ J)
@@ -134,6 +155,17 @@ module _ (S : Service) (rec : List ℕ) (J : Job) (k : Kept rec J) where
       (λ t. let (u, w) = both-hold (isTile I r c) (leb v 1) t in closed-proper I r c v (legal-proper rec (k .legal)) u w)
       (λ t. closed-same I r c v (eqb→eq (I .state r c) v t) ∙ k .job)
       (ap (λ (X : Job). closed X r c v) (k .job))
+
+  lay-leaves : (r c d n : ℕ) → Leaves S (lay r c d n) rec J (laidIn r c d n rec)
+  lay-leaves r c d n =
+      let I : Job = jobOf rec in
+      let a : Bool = isTile I r c in
+      let b : Bool = leb d 3 in
+      let l : Bool = leb n (I .O) in
+      edit-leaves (lay r c d n) (test a 4 ∷ test b 5 ∷ test l 11 ∷ []) (eqb (laidOn I (sideOf r c d)) n) (laidBy I (sideOf r c d) n) tt
+      (λ t. laid-proper I r c d n (legal-proper rec (k .legal)) (and-left a (b && (l && true)) t) (both-hold b l (and-right a (b && (l && true)) t) .1))
+      (λ t. laid-same I (sideOf r c d) n (eqb→eq (laidOn I (sideOf r c d)) n t) ∙ k .job)
+      (ap (λ (X : Job). laidBy X (sideOf r c d) n) (k .job))
 
   part-leaves : (r c i : ℕ) → Leaves S (part r c i) rec J (listed r c i rec)
   part-leaves r c i =
@@ -189,6 +221,7 @@ module _ (S : Service) (rec : List ℕ) (J : Job) (k : Kept rec J) where
       subst (Leaves S (new rows columns O D E) rec J) (sym d) (new-leaves S rec J (k .buffer) (k .legal .long) rows columns O D E)
   call-leaves (mark r c m) a d = subst (Leaves S (mark r c m) rec J) (sym (d .legal (k .legal))) (mark-leaves r c m)
   call-leaves (close r c v) a d = subst (Leaves S (close r c v) rec J) (sym (d .legal (k .legal))) (close-leaves r c v)
+  call-leaves (lay r c n m) a d = subst (Leaves S (lay r c n m) rec J) (sym (d .legal (k .legal))) (lay-leaves r c n m)
   call-leaves (step scratch) a d = step-leaves scratch a (d .legal (k .legal))
   call-leaves (shortfall scratch output) a d = shortfall-leaves scratch output a (d .legal (k .legal))
   call-leaves (part r c i) a d = subst (Leaves S (part r c i) rec J) (sym (d .legal (k .legal))) (part-leaves r c i)
