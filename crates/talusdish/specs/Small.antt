@@ -10,14 +10,14 @@ use lib.Dec.{T, eqb, leb, ltb, leb→le, nleb→lt, ltb→lt, lt→ltb}
 use lib.ListN.{length}
 use Rattle.sums.specs.Counting.{when}
 use Rattle.sums.specs.Totals.{total-le, length-total}
-use Rattle.model.specs.Job.{Job, arrayFits, capsAdmitted, fresh, marked, closed, isPin, isTile, isChosen}
+use Rattle.model.specs.Job.{Job, arrayFits, capsAdmitted, fresh, marked, closed, sideOf, laidOn, laidBy, isPin, isTile, isChosen}
 use Rattle.model.specs.Links.{places, isPinKind}
 use Rattle.model.specs.Route.{chosenCount}
 use Rattle.model.specs.Record.{recordSize, scratchSize, jobOf, load, Legal, unwiredRecord, over}
 use Rattle.model.specs.Wires.{Part, partAt}
 use Rattle.model.specs.Text.{Verdict, reads, wrongAt, Reading, textOf}
 use Rattle.model.specs.Listing.{wiresListing}
-use Rattle.model.specs.Calls.{Call, new, mark, close, step, shortfall, part, readText, writeText, listing, Answer, refused, wrongText, done, lacks, lists, wrote}
+use Rattle.model.specs.Calls.{Call, new, mark, close, lay, step, shortfall, part, readText, writeText, listing, Answer, refused, wrongText, done, lacks, lists, wrote}
 use Rattle.model.specs.Calls.{After, after, Test, test, asked, edited, newly, listed, readIn, putOut, Stepped, adds, stays, lacking, On, Steps, Lacks, ReadIn, Did}
 use Rattle.model.proofs.Asked.{allHold, numbered, asked-either}
 use Rattle.model.proofs.Over.{legal-proper}
@@ -144,6 +144,15 @@ did-fits (close r c v) rec a d =
     as-fits (close r c v) e
     (asked-fits (close r c v) (test (isTile J r c) 4 ∷ test (leb v 1) 5 ∷ []) rec [] leaves tt
     (λ t. edited-fits (close r c v) tt (eqb (J .state r c) v) (closed J r c v) rec)))
+did-fits (lay r c n m) rec a d =
+    let J : Job = jobOf rec in
+    let there : Bool = eqb (laidOn J (sideOf r c n)) m in
+    let leaves : After = edited there (laidBy J (sideOf r c n) m) rec in
+    on-fits (lay r c n m) rec [] [] a d
+    (λ g e.
+    as-fits (lay r c n m) e
+    (asked-fits (lay r c n m) (test (isTile J r c) 4 ∷ test (leb n 3) 5 ∷ test (leb m (J .O)) 11 ∷ []) rec [] leaves tt
+    (λ t. edited-fits (lay r c n m) tt there (laidBy J (sideOf r c n) m) rec)))
 did-fits (step scratch) rec a d = on-fits (step scratch) rec scratch [] a d (λ g s. step-fits scratch rec a s)
 did-fits (shortfall scratch output) rec a d = on-fits (shortfall scratch output) rec scratch output a d (λ g s. lacks-fits scratch output rec g a s)
 did-fits (part r c i) rec a d = on-fits (part r c i) rec [] [] a d (λ g e. as-fits (part r c i) e (listed-fits rec g r c i))

@@ -1,7 +1,7 @@
 // The eight operations of document 01, and the listing of a record's wires. Each passes its buffers on and returns the word of an answer with which the operation did what it promises.
 ghost use mathlib.Core.Path.{_≡_};
 ghost use mathlib.Core.List.{[]};
-ghost use Rattle.model.specs.Calls.{new as New, mark as Mark, close as Close, step as Step, shortfall as Shortfall, part as Part, readText, writeText, listing as Listing};
+ghost use Rattle.model.specs.Calls.{new as New, mark as Mark, close as Close, lay as Lay, step as Step, shortfall as Shortfall, part as Part, readText, writeText, listing as Listing};
 ghost use Rattle.model.specs.Calls.{Answer, after, Did};
 ghost use Rattle.talusdish.specs.Words.{word};
 use crate::word::word_of;
@@ -45,6 +45,15 @@ pub extern "C" fn talusdish_close(rec: &mut [u8], row: u64, column: u64, state: 
         × Did (Close row column state) (now (rec .entry)) (after a (now (rec .exit)) [] [])) ⌝ }
 {
     word_of(service::close(rec, row as usize, column as usize, state as usize))
+}
+
+// The count of wires already laid on a side of a tile.
+#[no_mangle]
+pub extern "C" fn talusdish_lay(rec: &mut [u8], row: u64, column: u64, side: u64, count: u64) -> u64
+    ensures { λ n. ⌜ ((a : Answer) × (n ≡ word a)
+        × Did (Lay row column side count) (now (rec .entry)) (after a (now (rec .exit)) [] [])) ⌝ }
+{
+    word_of(service::lay(rec, row as usize, column as usize, side as usize, count as usize))
 }
 
 // One wire more, or the greatest number.
