@@ -11,12 +11,12 @@ use lib.Dec.{T, leb, leb→le, nleb→lt}
 use lib.ListN.{length, getD, take, drop, take-append-drop, length-append, length-drop, List·getD-append}
 use lib.Seq.{drop-cons, drop-drop, drop-append-seam, length-take-le, getD-take, getD-drop, ext-getD}
 use Rattle.sums.specs.Counting.{only}
-use Rattle.model.specs.Text.{decimal}
+use Rattle.model.specs.Text.{decimal, sideLetter}
 use Rattle.model.proofs.TextUnique.{digits, number-unique}
 use Rattle.line.specs.declared.scan.Word.the-variants.{Ends, Differs}
 use Rattle.line.specs.declared.scan.Number.the-variants.{Is, Not}
 use Rattle.line.specs.declared.scan.Two.the-variants.{Not as NotTwo}
-use Rattle.line.specs.Scan.{WordAt, NumberAt, two, TwoAt}
+use Rattle.line.specs.Scan.{WordAt, NumberAt, two, TwoAt, SideAt}
 
 -- ---- words
 
@@ -141,15 +141,33 @@ module _ (text : List ℕ) (at end : ℕ) where
 
 -- ---- two numbers
 
-module _ (text : List ℕ) (at n a : ℕ) (first : drop at text ≡ decimal a ++ (32 ∷ drop n text)) where
-  pub two-are : (b next : ℕ) → drop n text ≡ decimal b ++ (41 ∷ drop next text) → drop at text ≡ two a b (drop next text)
+module _ (text : List ℕ) (at n a end : ℕ) (first : drop at text ≡ decimal a ++ (32 ∷ drop n text)) where
+  pub two-are : (b next : ℕ) → drop n text ≡ decimal b ++ (end ∷ drop next text) → drop at text ≡ two a b end (drop next text)
   two-are b next e = first ∙ ap (λ (s : List ℕ). decimal a ++ (32 ∷ s)) e
 
-  pub two-not : NumberAt text n 41 Not → TwoAt text at NotTwo
-  two-not f x y X lx ly e = f y X ly (after-number a x 32 (drop n text) (decimal y ++ (41 ∷ X)) (omega arith) (sym first ∙ e) .1)
+  pub two-not : NumberAt text n end Not → TwoAt text at end NotTwo
+  two-not f x y X lx ly e = f y X ly (after-number a x 32 (drop n text) (decimal y ++ (end ∷ X)) (omega arith) (sym first ∙ e) .1)
 
-pub after-two : (a b x y : ℕ) (X Y : List ℕ) → two a b X ≡ two x y Y → (a ≡ x) × (b ≡ y) × (X ≡ Y)
-after-two a b x y X Y e =
-    let (p, f) = after-number a x 32 (decimal b ++ (41 ∷ X)) (decimal y ++ (41 ∷ Y)) (omega arith) e in
-    let (q, g) = after-number b y 41 X Y (omega arith) f in
+pub after-two : (a b x y end : ℕ) (X Y : List ℕ) → end < 48 → two a b end X ≡ two x y end Y → (a ≡ x) × (b ≡ y) × (X ≡ Y)
+after-two a b x y end X Y l e =
+    let (p, f) = after-number a x 32 (decimal b ++ (end ∷ X)) (decimal y ++ (end ∷ Y)) (omega arith) e in
+    let (q, g) = after-number b y end X Y l f in
     (p, q, g)
+
+-- ---- the letter of a side
+
+module _ (text : List ℕ) (at : ℕ) where
+  side-byte : (d i : ℕ) (X : List ℕ) → drop at text ≡ sideLetter d ∷ 32 ∷ X → getD text (at + i) 0 ≡ getD (sideLetter d ∷ 32 ∷ X) i 0
+  side-byte d i X q = sym (getD-drop at text i 0) ∙ ap (λ (s : List ℕ). getD s i 0) q
+
+  pub side-short : at ≤ length text → length text - at < 2 → SideAt text at Not
+  side-short l s d X k e = omega (arith, ap length e, length-drop at text)
+
+  pub side-no-space : getD text (at + 1) 0 ≢ 32 → SideAt text at Not
+  side-no-space n d X k e = n (side-byte d 1 X e)
+
+  pub side-none : ((i : ℕ) → i < 4 → getD text at 0 ≢ sideLetter i) → SideAt text at Not
+  side-none f d X k e = f d k (ap (λ (n : ℕ). getD text n 0) (omega arith) ∙ side-byte d 0 X e)
+
+  pub side-is : (d : ℕ) → d < 4 → at + 2 ≤ length text → getD text at 0 ≡ sideLetter d → getD text (at + 1) 0 ≡ 32 → SideAt text at (Is d (at + 2))
+  side-is d k l e f = (k, l, front-two text at l ∙ (λ i. e i ∷ f i ∷ drop (at + 2) text))

@@ -1,8 +1,9 @@
-// The forms of a line: the array, a pin or tile of a group, the end.
+// The forms of a line: the array, a pin, tile or side of a group, the end.
 use crate::scan::Number;
 use crate::scan::Two;
 use crate::scan::Word;
 use crate::scan::number_at;
+use crate::scan::side_at;
 use crate::scan::two_at;
 use crate::scan::word_at;
 use crate::words::ARRAY;
@@ -12,21 +13,24 @@ use crate::words::CHOSEN;
 use crate::words::CLOSED;
 use crate::words::END;
 use crate::words::GROUP_END;
+use crate::words::LAID;
 use crate::words::MISSING;
+ghost use mathlib.Core.Path.{_≡_};
 ghost use Prim.Native.Nat.{_≤_, _<_};
 ghost use lib.Dec.{T};
 ghost use lib.ListN.{length};
-ghost use Rattle.model.specs.Text.{says, groupOf};
+ghost use Rattle.model.specs.Text.{laidSides, says, groupOf};
 ghost use Rattle.line.specs.Scan.{WordAt};
-ghost use Rattle.line.specs.Lines.{opening, RestAt, LineAt, ArrayAt};
+ghost use Rattle.line.specs.Lines.{opening, stop, TailAt, RestAt, LineAt, ArrayAt};
 
-// A line after the array line, with the offset past it. The groups are 2 chosen, 3 missing, 4 closed; the value is the mark or the state that the pin or
-// tile gets.
+// A line after the array line, with the offset past it. The groups are 2 chosen, 3 missing, 4 closed, 5 laid; the value is the mark, the state or the count
+// that the pin, the tile or the tile's side gets.
 pub enum Line {
     Group {
         group: usize,
         row: usize,
         column: usize,
+        side: usize,
         value: usize,
         next: usize,
     },
@@ -47,32 +51,82 @@ fn opening_at(text: &[u8], at: usize, group: usize) -> Word
     if group == 3 {
         return word_at(text, at, &MISSING);
     }
-    word_at(text, at, &CLOSED)
+    if group == 4 {
+        return word_at(text, at, &CLOSED);
+    }
+    word_at(text, at, &LAID)
+}
+
+// The byte after the column of a group's line.
+pub fn stop_of(group: usize) -> u8
+    requires { ⌜ (2 ≤ group) × (group ≤ 5) ⌝ }
+    ensures { λ r. ⌜ r ≡ stop (groupOf group) ⌝ }
+{
+    if group == 5 { b' ' } else { b')' }
 }
 
 // The mark or the state that a group's word says.
 fn value_of(group: usize) -> usize
+    requires { ⌜ (2 ≤ group) × (group < 5) ⌝ }
     ensures { λ r. ⌜ T (says (groupOf group) 0 r) × (r < 100) ⌝ }
 {
     if group == 3 { 2 } else { 1 }
 }
 
-// A line of a group behind its opening: a row and a column, to the end of the line.
+// The side and the value that a line of a group tells, and the offset past the parenthesis behind them.
+pub enum Tail {
+    Tells(usize, usize, usize),
+    Not,
+}
+
+// A side and a count of laid wires, 1 or more.
+fn count_at(text: &[u8], at: usize) -> Tail
+    requires { ⌜ at ≤ length (now text) ⌝ }
+    ensures { λ r. ⌜ TailAt (now (text .entry)) at laidSides r ⌝ }
+{
+    let Number::Is(side, second) = side_at(text, at) else {
+        return Tail::Not;
+    };
+    let Number::Is(count, next) = number_at(text, second, b')') else {
+        return Tail::Not;
+    };
+    if count == 0 {
+        return Tail::Not;
+    }
+    Tail::Tells(side, count, next)
+}
+
+// The side and the value of a line whose column ends before an offset.
+fn tail_at(text: &[u8], at: usize, group: usize) -> Tail
+    requires { ⌜ (at ≤ length (now text)) × (2 ≤ group) × (group ≤ 5) ⌝ }
+    ensures { λ r. ⌜ TailAt (now (text .entry)) at (groupOf group) r ⌝ }
+{
+    if group == 5 {
+        return count_at(text, at);
+    }
+    Tail::Tells(0, value_of(group), at)
+}
+
+// A line of a group behind its opening: a row, a column and a tail, to the end of the line.
 fn rest_at(text: &[u8], at: usize, group: usize) -> Line
-    requires { ⌜ (at ≤ length (now text)) × (2 ≤ group) × (group ≤ 4) ⌝ }
+    requires { ⌜ (at ≤ length (now text)) × (2 ≤ group) × (group ≤ 5) ⌝ }
     ensures { λ r. ⌜ RestAt (now (text .entry)) at (groupOf group) r ⌝ }
 {
-    let Two::Are(row, column, end) = two_at(text, at) else {
+    let stop = stop_of(group);
+    let Two::Are(row, column, behind) = two_at(text, at, stop) else {
+        return Line::Wrong;
+    };
+    let Tail::Tells(side, value, end) = tail_at(text, behind, group) else {
         return Line::Wrong;
     };
     let Word::Ends(next) = word_at(text, end, &GROUP_END) else {
         return Line::Wrong;
     };
-    let value = value_of(group);
     Line::Group {
         group,
         row,
         column,
+        side,
         value,
         next,
     }
@@ -83,7 +137,7 @@ pub fn line_at(text: &[u8], at: usize) -> Line
     requires { ⌜ at ≤ length (now text) ⌝ }
     ensures { λ r. ⌜ LineAt (now (text .entry)) at r ⌝ }
 {
-    for k in 0..3 {
+    for k in 0..4 {
         let group = 2 + k;
         if let Word::Ends(n) = opening_at(text, at, group) {
             return rest_at(text, n, group);
@@ -115,7 +169,7 @@ pub fn array_at(text: &[u8]) -> Opening
     let Word::Ends(pins) = word_at(text, 0, &ARRAY) else {
         return Opening::Wrong;
     };
-    let Two::Are(rows, columns, after) = two_at(text, pins) else {
+    let Two::Are(rows, columns, after) = two_at(text, pins, b')') else {
         return Opening::Wrong;
     };
     let Word::Ends(caps) = word_at(text, after, &CAPS) else {
@@ -124,7 +178,7 @@ pub fn array_at(text: &[u8]) -> Opening
     let Number::Is(o, second) = number_at(text, caps, b' ') else {
         return Opening::Wrong;
     };
-    let Two::Are(d, e, end) = two_at(text, second) else {
+    let Two::Are(d, e, end) = two_at(text, second, b')') else {
         return Opening::Wrong;
     };
     let Word::Ends(next) = word_at(text, end, &ARRAY_END) else {

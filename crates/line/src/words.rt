@@ -12,6 +12,11 @@ pub const MISSING: [u8; 9] = *b"(missing ";
 
 pub const CLOSED: [u8; 8] = *b"(closed ";
 
+pub const LAID: [u8; 6] = *b"(laid ";
+
 pub const GROUP_END: [u8; 1] = *b"\n";
 
 pub const END: [u8; 6] = *b"(end)\n";
+
+// The letters of the sides, by their codes.
+pub const SIDES: [u8; 4] = *b"nesw";

@@ -32,7 +32,7 @@ two-at-requires c κs =
     let c3 = c .before .before .before in
     let c6 = c3 .before .before .before in
     let t = now (c6 .args .text) in
-    subst (WordAt t 0 pinsPart) (c .before .pins .given .1) (c3 .word-at .ensures) .0
+    (subst (WordAt t 0 pinsPart) (c .before .pins .given .1) (c3 .word-at .ensures) .0, lit< tt)
 
 enum-known-rows : tie.Need-enum-known-rows
 enum-known-rows c = search needs
@@ -49,7 +49,7 @@ returns-2 c =
     let t = now (c9 .args .text) in
     let p = c4 .pins .given in
     let f = subst (WordAt t 0 pinsPart) (p .1) (c6 .word-at .ensures) in
-    array-no-pins t (p .0 .0) (f .1) (subst (TwoAt t (p .0 .0)) (c .enum-told2 .given .1) (c2 .two-at .ensures))
+    array-no-pins t (p .0 .0) (f .1) (subst (TwoAt t (p .0 .0) 41) (c .enum-told2 .given .1) (c2 .two-at .ensures))
 
 slice-aggregate-word-at-2 : tie.Need-slice-aggregate-word-at-2
 slice-aggregate-word-at-2 c = search needs
@@ -61,7 +61,7 @@ word-at-requires-2 c κs =
     let c6 = c4 .before .before in
     let c11 = c6 .before .before .before .before .before in
     let t = now (c11 .args .text) in
-    subst (TwoAt t (c6 .pins .given .0 .0)) (c2 .rows .given .1) (c4 .two-at .ensures) .2
+    subst (TwoAt t (c6 .pins .given .0 .0) 41) (c2 .rows .given .1) (c4 .two-at .ensures) .2
 
 enum-known-caps : tie.Need-enum-known-caps
 enum-known-caps c = search needs
@@ -81,7 +81,7 @@ returns-3 c =
     let p = c9 .pins .given in
     let q = c5 .rows .given in
     let f = subst (WordAt t 0 pinsPart) (p .1) (c11 .word-at .ensures) in
-    let g = subst (TwoAt t (p .0 .0)) (q .1) (c7 .two-at .ensures) in
+    let g = subst (TwoAt t (p .0 .0) 41) (q .1) (c7 .two-at .ensures) in
     array-no-caps t (p .0 .0) (f .1) (q .0 .0) (q .0 .1 .0) (q .0 .1 .1 .0) (g .3)
     (subst (WordAt t (q .0 .1 .1 .0) capsPart) (c .enum-told3 .given .1) (c2 .word-at2 .ensures))
 
@@ -114,7 +114,7 @@ returns-4 c =
     let q = c9 .rows .given in
     let r = c4 .caps .given in
     let f = subst (WordAt t 0 pinsPart) (p .1) (c15 .word-at .ensures) in
-    let g = subst (TwoAt t (p .0 .0)) (q .1) (c11 .two-at .ensures) in
+    let g = subst (TwoAt t (p .0 .0) 41) (q .1) (c11 .two-at .ensures) in
     let h = subst (WordAt t (q .0 .1 .1 .0) capsPart) (r .1) (c6 .word-at2 .ensures) in
     array-no-o t (p .0 .0) (f .1) (q .0 .0) (q .0 .1 .0) (q .0 .1 .1 .0) (g .3) (r .0 .0) (h .1)
     (subst (NumberAt t (r .0 .0) 32) (c .enum-told4 .given .1) (c2 .number-at .ensures))
@@ -125,7 +125,7 @@ two-at-requires-2 c κs =
     let c5 = c3 .before .before in
     let c19 = c5 .before .before .before .before .before .before .before .before .before .before .before .before .before .before in
     let t = now (c19 .args .text) in
-    subst (NumberAt t (c5 .caps .given .0 .0) 32) (c .before .o .given .1) (c3 .number-at .ensures) .1
+    (subst (NumberAt t (c5 .caps .given .0 .0) 32) (c .before .o .given .1) (c3 .number-at .ensures) .1, lit< tt)
 
 enum-known-d : tie.Need-enum-known-d
 enum-known-d c = search needs
@@ -151,11 +151,11 @@ returns-5 c =
     let r = c8 .caps .given in
     let s = c4 .o .given in
     let f = subst (WordAt t 0 pinsPart) (p .1) (c19 .word-at .ensures) in
-    let g = subst (TwoAt t (p .0 .0)) (q .1) (c15 .two-at .ensures) in
+    let g = subst (TwoAt t (p .0 .0) 41) (q .1) (c15 .two-at .ensures) in
     let h = subst (WordAt t (q .0 .1 .1 .0) capsPart) (r .1) (c10 .word-at2 .ensures) in
     let k = subst (NumberAt t (r .0 .0) 32) (s .1) (c6 .number-at .ensures) in
     array-no-d t (p .0 .0) (f .1) (q .0 .0) (q .0 .1 .0) (q .0 .1 .1 .0) (g .3) (r .0 .0) (h .1) (s .0 .0) (s .0 .1 .0) (k .2)
-    (subst (TwoAt t (s .0 .1 .0)) (c .enum-told5 .given .1) (c2 .two-at2 .ensures))
+    (subst (TwoAt t (s .0 .1 .0) 41) (c .enum-told5 .given .1) (c2 .two-at2 .ensures))
 
 slice-aggregate-word-at-3 : tie.Need-slice-aggregate-word-at-3
 slice-aggregate-word-at-3 c = search needs
@@ -168,7 +168,7 @@ word-at-requires-3 c κs =
     let c24 = c6 .before .before .before .before .before .before .before .before .before .before .before .before .before .before .before .before .before
     .before in
     let t = now (c24 .args .text) in
-    subst (TwoAt t (c6 .o .given .0 .1 .0)) (c2 .d .given .1) (c4 .two-at2 .ensures) .2
+    subst (TwoAt t (c6 .o .given .0 .1 .0) 41) (c2 .d .given .1) (c4 .two-at2 .ensures) .2
 
 enum-known-next : tie.Need-enum-known-next
 enum-known-next c = search needs
@@ -197,10 +197,10 @@ returns-6 c =
     let s = c9 .o .given in
     let u = c5 .d .given in
     let f = subst (WordAt t 0 pinsPart) (p .1) (c24 .word-at .ensures) in
-    let g = subst (TwoAt t (p .0 .0)) (q .1) (c20 .two-at .ensures) in
+    let g = subst (TwoAt t (p .0 .0) 41) (q .1) (c20 .two-at .ensures) in
     let h = subst (WordAt t (q .0 .1 .1 .0) capsPart) (r .1) (c15 .word-at2 .ensures) in
     let k = subst (NumberAt t (r .0 .0) 32) (s .1) (c11 .number-at .ensures) in
-    let m = subst (TwoAt t (s .0 .1 .0)) (u .1) (c7 .two-at2 .ensures) in
+    let m = subst (TwoAt t (s .0 .1 .0) 41) (u .1) (c7 .two-at2 .ensures) in
     array-no-end t (p .0 .0) (f .1) (q .0 .0) (q .0 .1 .0) (q .0 .1 .1 .0) (g .3) (r .0 .0) (h .1) (s .0 .0) (s .0 .1 .0) (k .2) (u .0 .0) (u .0 .1 .0)
     (u .0 .1 .1 .0) (m .3) (subst (WordAt t (u .0 .1 .1 .0) endPart) (c .enum-told6 .given .1) (c2 .word-at3 .ensures))
 
@@ -226,10 +226,10 @@ returns-7 c =
     let u = c6 .d .given in
     let v = c .before .next .given in
     let f = subst (WordAt t 0 pinsPart) (p .1) (c25 .word-at .ensures) in
-    let g = subst (TwoAt t (p .0 .0)) (q .1) (c21 .two-at .ensures) in
+    let g = subst (TwoAt t (p .0 .0) 41) (q .1) (c21 .two-at .ensures) in
     let h = subst (WordAt t (q .0 .1 .1 .0) capsPart) (r .1) (c16 .word-at2 .ensures) in
     let k = subst (NumberAt t (r .0 .0) 32) (s .1) (c12 .number-at .ensures) in
-    let m = subst (TwoAt t (s .0 .1 .0)) (u .1) (c8 .two-at2 .ensures) in
+    let m = subst (TwoAt t (s .0 .1 .0) 41) (u .1) (c8 .two-at2 .ensures) in
     let n = subst (WordAt t (u .0 .1 .1 .0) endPart) (v .1) (c3 .word-at3 .ensures) in (
       record { rows = g .0; columns = g .1; O = k .0; D = m .0; E = m .1 },
       n .0,

@@ -1,11 +1,10 @@
 -- `opening_at` compares the word that the group's number stands for. Assumes nothing.
-use mathlib.Core.Path.{sym, subst}
 use denote.Ref.{now}
 use borrow.Author.Needs.{needs}
 use Rattle.model.specs.Text.{Group}
 use Rattle.line.specs.Scan.{WordAt}
 use Rattle.line.specs.Lines.{opening}
-use Rattle.line.proofs.Lined.{group-two, group-three, group-else}
+use Rattle.line.proofs.Lined.{group-two, group-three, group-four, group-else}
 use Rattle.line.proofs.lines.opening_at.Statement.{statement}
 use Rattle.line.proofs.lines.opening_at.Tie as tie
 
@@ -18,8 +17,9 @@ word-at-requires c κs = search needs
 returns : tie.Need-returns
 returns c =
     let c2 = c .before .before in
-    let a = c2 .before .before .args in
-    subst (λ (g : Group). WordAt (now (a .text)) (a .at) (opening g) (c .word-at .result)) (sym (group-two (a .group) (c2 .if1 .taken))) (c .word-at .ensures)
+    let c4 = c2 .before .before in
+    let a = c4 .args in
+    group-two (λ (g : Group). WordAt (now (a .text)) (a .at) (opening g) (c .word-at .result)) (a .group) (c2 .if1 .taken) (c .word-at .ensures)
 
 slice-aggregate-word-at-2 : tie.Need-slice-aggregate-word-at-2
 slice-aggregate-word-at-2 c = search needs
@@ -30,8 +30,9 @@ word-at-requires-2 c κs = search needs
 returns-2 : tie.Need-returns-2
 returns-2 c =
     let c2 = c .before .before in
-    let a = c2 .before .before .before .args in
-    subst (λ (g : Group). WordAt (now (a .text)) (a .at) (opening g) (c .word-at2 .result)) (sym (group-three (a .group) (c2 .if2 .taken))) (c .word-at2 .ensures)
+    let c5 = c2 .before .before .before in
+    let a = c5 .args in
+    group-three (λ (g : Group). WordAt (now (a .text)) (a .at) (opening g) (c .word-at2 .result)) (a .group) (c2 .if2 .taken) (c .word-at2 .ensures)
 
 slice-aggregate-word-at-3 : tie.Need-slice-aggregate-word-at-3
 slice-aggregate-word-at-3 c = search needs
@@ -42,9 +43,25 @@ word-at-requires-3 c κs = search needs
 returns-3 : tie.Need-returns-3
 returns-3 c =
     let c2 = c .before .before in
-    let a = c2 .before .before .before .args in
-    subst (λ (g : Group). WordAt (now (a .text)) (a .at) (opening g) (c .word-at3 .result))
-    (sym (group-else (a .group) (c2 .before .if1 .left) (c2 .if2 .left))) (c .word-at3 .ensures)
+    let c6 = c2 .before .before .before .before in
+    let a = c6 .args in
+    group-four (λ (g : Group). WordAt (now (a .text)) (a .at) (opening g) (c .word-at3 .result)) (a .group) (c2 .if3 .taken) (c .word-at3 .ensures)
+
+slice-aggregate-word-at-4 : tie.Need-slice-aggregate-word-at-4
+slice-aggregate-word-at-4 c = search needs
+
+word-at-requires-4 : tie.Need-word-at-requires-4
+word-at-requires-4 c κs = search needs
+
+returns-4 : tie.Need-returns-4
+returns-4 c =
+    let c2 = c .before .before in
+    let c3 = c2 .before in
+    let c4 = c3 .before in
+    let c6 = c4 .before .before in
+    let a = c6 .args in
+    group-else (λ (g : Group). WordAt (now (a .text)) (a .at) (opening g) (c .word-at4 .result)) (a .group) (c4 .if1 .left) (c3 .if2 .left) (c2 .if3 .left)
+    (c .word-at4 .ensures)
 
 pub opening-at-spec : {M : Type 1} → statement M
 opening-at-spec =
@@ -58,4 +75,7 @@ opening-at-spec =
     returns-2
     slice-aggregate-word-at-3
     word-at-requires-3
-    returns-3)
+    returns-3
+    slice-aggregate-word-at-4
+    word-at-requires-4
+    returns-4)

@@ -8,7 +8,9 @@ returns : tie.Need-returns
 returns c = (says-two (c .before .args .group) (c .if1 .taken), omega arith)
 
 returns-2 : tie.Need-returns-2
-returns-2 c = (says-one (c .before .args .group) (c .if1 .left), omega arith)
+returns-2 c =
+    let s = c .before in
+    (says-one (s .args .group) (s .pre .0) (s .pre .1) (c .if1 .left), omega arith)
 
 pub value-of-spec : {M : Type 1} → statement M
 value-of-spec = tie.close (tie.spec returns returns-2)
