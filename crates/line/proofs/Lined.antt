@@ -4,13 +4,13 @@ use mathlib.Core.Path.{_≡_, refl, sym, ap, subst, _∙_}
 use mathlib.Core.Logic.{_≢_}
 use mathlib.Core.Bool.{Bool, true, false}
 use mathlib.Core.List.{List, [], _∷_, _++_, append-assoc}
-use Prim.Native.Nat.{ℕ, _+_, _-_, _≤_, _<_}
+use Prim.Native.Nat.{ℕ, zero, suc, _+_, _-_, _≤_, _<_}
 use lib.Dec.{T, eqb, ltb, lt→ltb}
 use native.Mathlib.Omega.{arith}
 use lib.ListN.{length, getD, drop}
 use Rattle.sums.specs.Tests.{Same, same, other, same?, and-both}
 use Rattle.model.specs.Text.{decimal, Group as TextGroup, chosenPins, missingPins, closedTiles, laidSides, sideLetter, says, arrayLine, groupLine, endLine}
-use Rattle.model.specs.Text.{groupWord, lineBytes, rank, within, groupOf}
+use Rattle.model.specs.Text.{groupWord, lineBytes, rank, within, groupOf, writesSide}
 use Rattle.model.proofs.TextUnique.{words-unique}
 use Rattle.model.proofs.TextNames.{rank-group, of-rank, says-some}
 use Rattle.line.specs.declared.scan.Word.the-variants.{Differs}
@@ -101,11 +101,28 @@ rank-of : (n : ℕ) → 2 ≤ n → n ≤ 5 → rank (within (groupOf n)) ≡ n
 rank-of n l m = by-number (λ g. rank (within g) ≡ n) n sym sym sym (λ x y z. omega arith)
 
 -- the byte after the column
-pub stop-plain : (n : ℕ) → 2 ≤ n → n ≤ 5 → n ≢ 5 → stop (groupOf n) ≡ 41
-stop-plain n l m e = by-number (λ g. stop g ≡ 41) n (λ x. refl) (λ x. refl) (λ x. refl) (λ x y z. absurd (e (omega arith)))
+pub stop-plain : (n : ℕ) → 2 ≤ n → n < 5 → 41 ≡ stop (groupOf n)
+stop-plain n l m = by-number (λ g. 41 ≡ stop g) n (λ x. refl) (λ x. refl) (λ x. refl) (λ x y z. absurd (omega arith))
 
-pub stop-laid : (n : ℕ) → n ≡ 5 → stop (groupOf n) ≡ 32
-stop-laid n e = group-else (λ g. stop g ≡ 32) n (omega arith) (omega arith) (omega arith) refl
+pub stop-laid : (n : ℕ) → n ≢ 2 → n ≢ 3 → n ≢ 4 → 32 ≡ stop (groupOf n)
+stop-laid n a b d = group-else (λ g. 32 ≡ stop g) n a b d refl
+
+-- the sides that a tile writes
+pub writes-north : (r c d : ℕ) → d ≡ 0 → eqb r 0 ≡ writesSide r c d
+writes-north r c zero e = refl
+writes-north r c (suc d) e = absurd (omega arith)
+
+pub writes-inner : (r c d : ℕ) → d ≢ 0 → d < 3 → true ≡ writesSide r c d
+writes-inner r c zero e l = absurd (e refl)
+writes-inner r c (suc zero) e l = refl
+writes-inner r c (suc (suc zero)) e l = refl
+writes-inner r c (suc (suc (suc d))) e l = absurd (omega arith)
+
+pub writes-west : (r c d : ℕ) → 3 ≤ d → eqb c 0 ≡ writesSide r c d
+writes-west r c zero l = absurd (omega arith)
+writes-west r c (suc zero) l = absurd (omega arith)
+writes-west r c (suc (suc zero)) l = absurd (omega arith)
+writes-west r c (suc (suc (suc d))) l = refl
 
 -- the values that the words say
 pub says-two : (n : ℕ) → n ≡ 3 → T (says (groupOf n) 0 2)

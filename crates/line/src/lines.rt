@@ -19,7 +19,7 @@ ghost use mathlib.Core.Path.{_≡_};
 ghost use Prim.Native.Nat.{_≤_, _<_};
 ghost use lib.Dec.{T};
 ghost use lib.ListN.{length};
-ghost use Rattle.model.specs.Text.{laidSides, says, groupOf};
+ghost use Rattle.model.specs.Text.{laidSides, says, writesSide, groupOf};
 ghost use Rattle.line.specs.Scan.{WordAt};
 ghost use Rattle.line.specs.Lines.{opening, stop, TailAt, RestAt, LineAt, ArrayAt};
 
@@ -59,10 +59,25 @@ fn opening_at(text: &[u8], at: usize, group: usize) -> Word
 
 // The byte after the column of a group's line.
 pub fn stop_of(group: usize) -> u8
-    requires { ⌜ (2 ≤ group) × (group ≤ 5) ⌝ }
     ensures { λ r. ⌜ r ≡ stop (groupOf group) ⌝ }
 {
-    if group == 5 { b' ' } else { b')' }
+    if group < 2 {
+        return b' ';
+    }
+    if group < 5 { b')' } else { b' ' }
+}
+
+// Whether a tile writes a side: n in the first row alone, w in the first column alone.
+pub fn writes_side(row: usize, column: usize, side: usize) -> bool
+    ensures { λ r. ⌜ r ≡ writesSide row column side ⌝ }
+{
+    if side == 0 {
+        return row == 0;
+    }
+    if side < 3 {
+        return true;
+    }
+    column == 0
 }
 
 // The mark or the state that a group's word says.
