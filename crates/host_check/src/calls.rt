@@ -6,6 +6,7 @@ use crate::words::says;
 use check::same;
 use compare::lent::list_on;
 use compare::listed::held;
+use oracle_text::job::blank;
 use oracle_text::random::below;
 use oracle_text::random::random_job;
 use oracle_text::random::xorshift;
@@ -62,7 +63,7 @@ fn call_new(tally: &mut Tally, rec: &mut [u8], twin: &mut [u8], seed: u32) -> An
 // A text at random, now and then cut.
 fn call_read(tally: &mut Tally, rec: &mut [u8], twin: &mut [u8], seed: u32) -> Answer {
     let mut sheet = [0u8; 262144];
-    let mut job = [0u8; 3205];
+    let mut job = blank();
     let x = random_job(seed, 10, &mut job);
     let length = write_text(&job, &mut sheet);
     let n = if below(x, 4) == 0 {

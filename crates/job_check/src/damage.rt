@@ -5,6 +5,7 @@ use compare::listed::held;
 use compare::listed::routed;
 use compare::said::REFUSED;
 use compare::said::is;
+use oracle_text::job::blank;
 use oracle_text::random::below;
 use oracle_text::random::random_job;
 use oracle_text::random::xorshift;
@@ -309,7 +310,7 @@ fn ask_ways(tally: &mut Tally, kept: &mut Tally, rec: &Record, seed: u32) -> u32
 }
 
 fn draw(tally: &mut Tally, kept: &mut Tally, seed: u32) -> u32 {
-    let mut job = [0u8; 3205];
+    let mut job = blank();
     let mut sheet = [0u8; 262144];
     let mut near = [0u8; 32768];
     let mut rec = [BEYOND; 32800];

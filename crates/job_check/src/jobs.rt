@@ -21,6 +21,7 @@ use judge::walk::LEGAL;
 use oracle::near::shortfall;
 use oracle_text::job::CHOSEN;
 use oracle_text::job::Job;
+use oracle_text::job::blank;
 use oracle_text::job::count_marked;
 use oracle_text::job::set_mark;
 use oracle_text::random::random_job;
@@ -275,7 +276,7 @@ fn size(k: usize) -> usize {
 
 // The k-th job; gives the generator's number afterwards.
 fn draw(tally: &mut Tally, exits: &mut Tally, page: &mut Page, seed: u32, k: usize) -> u32 {
-    let mut job = [0u8; 3205];
+    let mut job = blank();
     let wrong = tally[1];
     let next = random_job(seed, size(k), &mut job);
     judge(tally, exits, &job, page, k % 32 == 0);

@@ -6,6 +6,8 @@ use compare::listed::list_text;
 use compare::listed::shown;
 use judge::listing::check_listing;
 use judge::walk::LEGAL;
+use listing::Page;
+use oracle_text::job::blank;
 use oracle_text::page::Page as Sheet;
 use oracle_text::page::byte;
 use oracle_text::page::decimal;
@@ -32,7 +34,7 @@ fn load(name: &[u8], ending: &[u8], sheet: &mut Sheet) -> usize {
 
 // The listing of a wired job begins as expected and is legal.
 fn is_wired(text: &[u8], expected: &[u8], list: &[u8]) -> bool {
-    let mut job = [0u8; 3205];
+    let mut job = blank();
     read_text(text, &mut job);
     let w = check_listing(&job, list);
     same(first(list, expected.len()), expected) && w.fault == LEGAL

@@ -6,6 +6,7 @@ use judge::walk::NO_LINK;
 use judge::walk::NOT_ENDED;
 use judge::walk::WRONG_COUNT;
 use judge::walk::WRONG_FORM;
+use oracle_text::job::blank;
 use oracle_text::text::ACCEPTED;
 use oracle_text::text::read_text;
 
@@ -27,7 +28,7 @@ const INNER: [u8; 51] = *b"(array (pins 4 4) (caps 1 2 0))\n(chosen 2 2)\n(end)\
 
 // The listing of the job has this fault; where it has none, its wires have this length.
 fn is_judged(text: &[u8], list: &[u8], fault: usize, length: u64) -> bool {
-    let mut job = [0u8; 3205];
+    let mut job = blank();
     let s = read_text(text, &mut job);
     let w = check_listing(&job, list);
     s.stage == ACCEPTED && w.fault == fault && (fault != LEGAL || w.length == length)

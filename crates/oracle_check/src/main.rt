@@ -15,6 +15,7 @@ use oracle::near::shortfall;
 use oracle::near::sum_of;
 use oracle_text::job::CHOSEN;
 use oracle_text::job::Job;
+use oracle_text::job::blank;
 use oracle_text::job::count_marked;
 use oracle_text::page::Page;
 use oracle_text::page::byte;
@@ -113,7 +114,7 @@ fn wired(name: &[u8], job: &Job) -> usize {
 // Runs one vector. An accepted text is also what the writer makes of its job.
 fn vector(name: &[u8]) -> usize {
     let mut text = [0u8; 262144];
-    let mut job = [0u8; 3205];
+    let mut job = blank();
     let n = load_vector(name, b".job", &mut text);
     let s = read_text(bytes(&text, n), &mut job);
     if s.stage != ACCEPTED {
@@ -210,7 +211,7 @@ fn notice_all(counts: &mut [u64; 4], job: &Job, list: &Page, n: usize) {
 fn spoil(name: &[u8]) {
     let mut counts = [0u64; 4];
     let mut page = [0u8; 262144];
-    let mut job = [0u8; 3205];
+    let mut job = blank();
     let n = load_vector(name, b".job", &mut page);
     read_text(bytes(&page, n), &mut job);
     let l = load_vector(name, b".list", &mut page);
@@ -226,7 +227,7 @@ fn is_same(a: &Job, b: &Job) -> bool {
 // The job comes back from its text.
 fn comes_back(job: &Job) -> bool {
     let mut page = [0u8; 262144];
-    let mut again = [0u8; 3205];
+    let mut again = blank();
     let n = write_text(job, &mut page);
     let s = read_text(bytes(&page, n), &mut again);
     s.stage == ACCEPTED && is_same(job, &again)
@@ -251,7 +252,7 @@ fn judge(job: &Job) -> usize {
 }
 
 fn draw(counts: &mut [u64; 4], seed: u32) -> u32 {
-    let mut job = [0u8; 3205];
+    let mut job = blank();
     let next = random_job(seed, 12, &mut job);
     tally(counts, judge(&job));
     next

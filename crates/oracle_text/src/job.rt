@@ -1,7 +1,8 @@
-// A job as plain data: rows, columns, O, D, E, a mark for each pin and a state for each tile, the last two at 40 r + c.
+// A job as plain data: rows, columns, O, D, E, a mark for each pin and a state for each tile at 40 r + c, and counts of laid wires. A side lies between two
+// pins, and its count stands at the western or northern one of them: first the wires laid between each pin and the next to the east, then the next to the south.
 ghost use Prim.Native.Nat.{_<_};
 
-pub type Job = [u8; 3205];
+pub type Job = [u8; 6405];
 
 pub const ROWS: usize = 0;
 
@@ -17,6 +18,8 @@ const MARKS: usize = 5;
 
 const STATES: usize = 1605;
 
+const EASTWARD: usize = 3205;
+
 pub const CHOSEN: usize = 1;
 
 pub const MISSING: usize = 2;
@@ -31,11 +34,11 @@ fn wide(x: u8) -> usize
 pub fn number(job: &Job, k: usize) -> usize
     ensures { λ r. ⌜ r < 256 ⌝ }
 {
-    if k < 3205 { wide(job[k]) } else { 0 }
+    if k < 6405 { wide(job[k]) } else { 0 }
 }
 
 pub fn set_number(job: &mut Job, k: usize, v: usize) {
-    if k < 3205 {
+    if k < 6405 {
         if v < 256 {
             job[k] = v as u8;
         }
@@ -104,9 +107,58 @@ pub fn is_open(job: &Job, r: usize, c: usize) -> bool {
     false
 }
 
-// The job with these five numbers, every pin idle and every tile open.
+// How far behind EASTWARD the count of a side of the tile `p` stands, the side by its letter: 3200 for no side.
+fn gap(p: usize, letter: u8) -> usize
+    ensures { λ k. ⌜ k < 3201 ⌝ }
+{
+    if p < 1559 {
+        if letter == b'n' {
+            return p;
+        }
+        if letter == b's' {
+            return p + 40;
+        }
+        if letter == b'w' {
+            return 1600 + p;
+        }
+        if letter == b'e' {
+            return 1601 + p;
+        }
+    }
+    3200
+}
+
+// The byte of the count of a side; 6405 for no side.
+fn count_of(r: usize, c: usize, letter: u8) -> usize
+    ensures { λ k. ⌜ k < 6406 ⌝ }
+{
+    if r < 39 {
+        if c < 39 {
+            return EASTWARD + gap(40 * r + c, letter);
+        }
+    }
+    6405
+}
+
+// The wires already laid on a side of the tile.
+pub fn laid(job: &Job, r: usize, c: usize, letter: u8) -> usize
+    ensures { λ n. ⌜ n < 256 ⌝ }
+{
+    number(job, count_of(r, c, letter))
+}
+
+pub fn set_laid(job: &mut Job, r: usize, c: usize, letter: u8, n: usize) {
+    set_number(job, count_of(r, c, letter), n);
+}
+
+// A job of zeros, to be filled.
+pub fn blank() -> Job {
+    [0u8; 6405]
+}
+
+// The job with these five numbers, every pin idle, every tile open and nothing laid.
 pub fn fresh(rows: usize, columns: usize, side: usize, diagonal: usize, extra: usize) -> Job {
-    let mut job = [0u8; 3205];
+    let mut job = blank();
     set_number(&mut job, ROWS, rows);
     set_number(&mut job, COLUMNS, columns);
     set_number(&mut job, SIDE, side);

@@ -2,9 +2,12 @@
 use crate::job::CHOSEN;
 use crate::job::Job;
 use crate::job::MISSING;
+use crate::job::SIDE;
 use crate::job::fresh;
 use crate::job::is_pin;
 use crate::job::is_tile;
+use crate::job::number;
+use crate::job::set_laid;
 use crate::job::set_mark;
 use crate::job::set_state;
 ghost use Prim.Native.Nat.{_<_, _+_};
@@ -106,4 +109,27 @@ pub fn random_job(seed: u32, most: usize, job: &mut Job) -> u32 {
         closed: below(h, 700),
     };
     draw_cells(job, h, rates)
+}
+
+// Lays wires on the side with this letter of the tile `p`, as often of 1,000 as the rate says; gives the generator's number afterwards.
+fn draw_side(job: &mut Job, seed: u32, p: usize, letter: u8, rate: usize) -> u32 {
+    let a = xorshift(seed);
+    let b = xorshift(a);
+    if is_tile(job, p / 40, p % 40) && happens(a, rate) {
+        let n = below(b, number(job, SIDE) + 1);
+        set_laid(job, p / 40, p % 40, letter, n);
+    }
+    b
+}
+
+// Lays wires at random on the sides of a job; gives the generator's number afterwards.
+pub fn random_laid(seed: u32, rate: usize, job: &mut Job) -> u32 {
+    let mut x = seed;
+    for p in 0..1600 {
+        let a = draw_side(job, x, p, b'n', rate);
+        let b = draw_side(job, a, p, b'e', rate);
+        let c = draw_side(job, b, p, b's', rate);
+        x = draw_side(job, c, p, b'w', rate);
+    }
+    x
 }

@@ -10,8 +10,10 @@ use crate::job::SIDE;
 use crate::job::fresh;
 use crate::job::is_pin;
 use crate::job::is_tile;
+use crate::job::laid;
 use crate::job::mark;
 use crate::job::number;
+use crate::job::set_laid;
 use crate::job::set_mark;
 use crate::job::set_state;
 use crate::job::state;
@@ -25,18 +27,18 @@ use crate::scan::scan;
 use crate::scan::value;
 ghost use Prim.Native.Nat.{_<_};
 
-// How far a reading is. `at` is the offset of the next line; stages 0 to 4 have read no line, the array, a chosen pin,
-// a missing pin and a closed tile, 5 the end; 6 is accepted and 7 refused. `next` is the first pin or tile, 40 r + c,
-// that may stand in the group.
+// How far a reading is. `at` is the offset of the next line; stages 0 to 5 have read no line, the array, a chosen pin,
+// a missing pin, a closed tile and laid wires, 6 the end; 7 is accepted and 8 refused. `next` is the first pin or tile,
+// 40 r + c, that may stand in the group, and of laid wires the first side: four times its tile and 0 to 3 for n, e, s, w.
 pub struct Reading {
     pub at: usize,
     pub stage: usize,
     pub next: usize,
 }
 
-pub const ACCEPTED: usize = 6;
+pub const ACCEPTED: usize = 7;
 
-pub const REFUSED: usize = 7;
+pub const REFUSED: usize = 8;
 
 fn refused(s: Reading) -> Reading {
     Reading {
@@ -110,6 +112,51 @@ fn group_line(job: &mut Job, s: Reading, f: Found, stage: usize) -> Reading {
     }
 }
 
+// The letter as 0 to 3 for n, e, s, w; 4 for any other.
+fn turn(letter: usize) -> usize
+    ensures { λ k. ⌜ k < 5 ⌝ }
+{
+    if letter == 110 {
+        0
+    } else if letter == 101 {
+        1
+    } else if letter == 115 {
+        2
+    } else if letter == 119 {
+        3
+    } else {
+        4
+    }
+}
+
+// The letters in their order.
+const LETTERS: [u8; 4] = [110, 101, 115, 119];
+
+// The tile writes the side: s and e always, n and w where no other tile lies behind it.
+pub fn is_written(job: &Job, r: usize, c: usize, k: usize) -> bool {
+    let first = (k == 0 && r == 0) || (k == 3 && c == 0);
+    is_tile(job, r, c) && (k == 1 || k == 2 || first)
+}
+
+// A line of laid wires, found as `f`, sets the count it names.
+fn laid_line(job: &mut Job, s: Reading, f: Found) -> Reading {
+    let r = value(f, 0);
+    let c = value(f, 1);
+    let k = turn(value(f, 2));
+    let n = value(f, 3);
+    let key = 4 * (40 * r + c) + k;
+    let later = s.stage < 5 || key >= s.next;
+    if k < 4 && later && is_written(job, r, c, k) && in_range(n, 1, number(job, SIDE)) {
+        set_laid(job, r, c, LETTERS[k % 4], n);
+        return Reading {
+            at: f.at,
+            stage: 5,
+            next: key + 1,
+        };
+    }
+    refused(s)
+}
+
 // Any line but the array line.
 fn later_line(text: &[u8], job: &mut Job, s: Reading) -> Reading {
     let chosen = scan(text, s.at, b"(chosen # #)\n");
@@ -124,11 +171,15 @@ fn later_line(text: &[u8], job: &mut Job, s: Reading) -> Reading {
     if closed.fits {
         return group_line(job, s, closed, 4);
     }
+    let laid = scan(text, s.at, b"(laid # # @ #)\n");
+    if laid.fits {
+        return laid_line(job, s, laid);
+    }
     let end = scan(text, s.at, b"(end)\n");
     if end.fits {
         return Reading {
             at: end.at,
-            stage: 5,
+            stage: 6,
             next: 0,
         };
     }
@@ -140,10 +191,10 @@ fn line(text: &[u8], job: &mut Job, s: Reading) -> Reading {
     if s.stage == 0 {
         return array_line(text, job, s);
     }
-    if s.stage < 5 {
+    if s.stage < 6 {
         return later_line(text, job, s);
     }
-    if s.stage == 5 && s.at == text.len() {
+    if s.stage == 6 && s.at == text.len() {
         return Reading {
             at: s.at,
             stage: ACCEPTED,
@@ -208,6 +259,32 @@ fn state_line(job: &Job, out: &mut Page, at: usize, p: usize) -> usize {
     word(out, b, b")\n")
 }
 
+fn counts_text(job: &Job, out: &mut Page, at: usize) -> usize {
+    let mut n = at;
+    for i in 0..6400 {
+        n = count_line(job, out, n, i / 4, i % 4);
+    }
+    n
+}
+
+// The line of a side of the tile `p`, if the tile writes it and wires are laid there.
+fn count_line(job: &Job, out: &mut Page, at: usize, p: usize, k: usize) -> usize {
+    let r = p / 40;
+    let c = p % 40;
+    let letter = LETTERS[k % 4];
+    let n = laid(job, r, c, letter);
+    if n == 0 || !is_written(job, r, c, k) {
+        return at;
+    }
+    let a = word(out, at, b"(laid ");
+    let b = pair(out, a, r, c);
+    let d = byte(out, b, b' ');
+    let e = byte(out, d, letter);
+    let f = byte(out, e, b' ');
+    let g = decimal(out, f, n);
+    word(out, g, b")\n")
+}
+
 // Writes the job's text, and gives its length.
 pub fn write_text(job: &Job, out: &mut Page) -> usize {
     let a = word(out, 0, b"(array (pins ");
@@ -220,5 +297,6 @@ pub fn write_text(job: &Job, out: &mut Page) -> usize {
     let h = marks_text(job, out, g, CHOSEN);
     let i = marks_text(job, out, h, MISSING);
     let j = states_text(job, out, i);
-    word(out, j, b"(end)\n")
+    let k = counts_text(job, out, j);
+    word(out, k, b"(end)\n")
 }

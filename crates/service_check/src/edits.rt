@@ -23,6 +23,7 @@ use compare::said::Said;
 use compare::said::agree;
 use compare::said::coded;
 use oracle_text::job::Job;
+use oracle_text::job::blank;
 use oracle_text::job::fresh;
 use oracle_text::job::set_mark;
 use oracle_text::job::set_state;
@@ -86,7 +87,7 @@ pub fn call_new(tally: &mut Tally, rec: &mut Record, job: &mut Job, seed: u32) -
 
 pub fn call_read(tally: &mut Tally, rec: &mut Record, job: &mut Job, seed: u32) -> u32 {
     let mut sheet = [0u8; 262144];
-    let mut other = [0u8; 3205];
+    let mut other = blank();
     let x = random_job(seed, 7, &mut other);
     let y = xorshift(x);
     let length = write_text(&other, &mut sheet);

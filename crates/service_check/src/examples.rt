@@ -19,6 +19,8 @@ use compare::said::put_listed;
 use compare::said::say;
 use judge::listing::check_listing;
 use judge::walk::LEGAL;
+use listing::Page;
+use oracle_text::job::blank;
 use oracle_text::text::read_text;
 use verdict::bytes::Tally;
 use verdict::bytes::first;
@@ -115,7 +117,7 @@ fn lists(tally: &mut Tally, text: &[u8], expected: &[u8], page: &mut Page) {
 
 // The router's listing of the text begins so, and is legal.
 fn lists_legally(tally: &mut Tally, text: &[u8], count: &[u8], page: &mut Page) {
-    let mut job = [0u8; 3205];
+    let mut job = blank();
     read_text(text, &mut job);
     let n = list_text(text, page);
     let w = check_listing(&job, shown(page, n));

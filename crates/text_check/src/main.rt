@@ -4,6 +4,7 @@
 use check::same;
 use libc::STDOUT_FILENO;
 use oracle::lines::refused_listing;
+use oracle_text::job::blank;
 use oracle_text::page::Page;
 use oracle_text::page::byte;
 use oracle_text::page::decimal;
@@ -194,7 +195,7 @@ fn examples(counts: &mut [u64; 5]) {
 
 // The oracle says of the text what the reader says.
 fn agrees(text: &[u8; 64]) -> bool {
-    let mut job = [0u8; 3205];
+    let mut job = blank();
     let reading = oracle_text::text::read_text(text, &mut job);
     if reading.stage == ACCEPTED {
         comes_back(text)
@@ -220,7 +221,7 @@ fn changes(counts: &mut [u64; 5]) {
 
 // A random job's text; gives the generator's number afterwards.
 fn draw(counts: &mut [u64; 5], seed: u32) -> u32 {
-    let mut job = [0u8; 3205];
+    let mut job = blank();
     let mut page = [0u8; 262144];
     let next = random_job(seed, 40, &mut job);
     let n = oracle_text::text::write_text(&job, &mut page);
