@@ -1,6 +1,7 @@
 -- The parts of a job's text by their lengths: a number has one digit or two, a line is as long as its parts, and a list made entry by entry has room for
 -- each entry behind those before it. Assumes nothing.
 use mathlib.Core.Path.{_≡_, refl, sym, ap, _∙_}
+use mathlib.Core.Logic.{_≢_}
 use mathlib.Core.Bool.{Bool, true, false}
 use mathlib.Core.List.{List, [], _∷_, _++_, append-assoc, append-nil}
 use Prim.Native.Nat.{ℕ, zero, suc, _+_, _≤_, _<_}
@@ -12,12 +13,12 @@ use lib.ListN.{length, length-append}
 use Rattle.sums.specs.Counting.{each}
 use Rattle.sums.specs.Tests.{Same, same, other, same?}
 use Rattle.model.specs.Job.{Job}
-use Rattle.model.specs.Text.{Group, chosenPins, missingPins, closedTiles, decimal, arrayLine, groupLine, endLine, lineBytes, valueAt, valueLine, groupOf}
-use Rattle.model.specs.Text.{groupText, textOf}
+use Rattle.model.specs.Text.{Group, chosenPins, missingPins, closedTiles, laidSides, decimal, sideLetter, arrayLine, groupLine, endLine, lineBytes, valueAt, valueLine}
+use Rattle.model.specs.Text.{groupText, textOf, groupOf}
 use Rattle.model.proofs.TextNames.{value-line}
 use Rattle.line.specs.Scan.{two}
-use Rattle.line.specs.Lines.{opening}
-use Rattle.writing.specs.Writer.{ended, arrayText, plainLine, cellText, rowText, groupsText}
+use Rattle.line.specs.Lines.{opening, stop, afterStop}
+use Rattle.writing.specs.Writer.{ended, arrayText, lineParts, sideText, cellText, rowText, groupsText}
 use Rattle.line.proofs.Scanned.{decimal-one, decimal-two}
 use Rattle.line.proofs.Lined.{group-bytes, behind-two, pinsPart, capsPart, endPart}
 
@@ -51,27 +52,59 @@ digits-two n l = omega (arith, ap length (decimal-two n [] l), length-append (de
 pub ended-length : (n e : ℕ) → length (ended n e) ≡ length (decimal n) + 1
 ended-length n e = length-append (decimal n) (e ∷ [])
 
-pub two-parts : (a b : ℕ) → ended a 32 ++ ended b 41 ≡ two a b []
-two-parts a b = append-assoc (decimal a) (32 ∷ []) (ended b 41)
+pub two-parts : (a b e : ℕ) → ended a 32 ++ ended b e ≡ two a b e []
+two-parts a b e = append-assoc (decimal a) (32 ∷ []) (ended b e)
 
-pub two-length : (a b : ℕ) → length (two a b []) ≡ length (decimal a) + length (decimal b) + 2
-two-length a b = omega (arith, length-append (decimal a) (32 ∷ ended b 41), ended-length b 41)
+pub two-length : (a b e : ℕ) → length (two a b e []) ≡ length (decimal a) + length (decimal b) + 2
+two-length a b e = omega (arith, length-append (decimal a) (32 ∷ ended b e), ended-length b e)
 
 -- ---- lines
 
-line-plain : (g : Group) (r c d v : ℕ) → lineBytes (groupLine g r c d v) ≡ plainLine g r c
-line-plain g r c d v =
-    let e : two r c (10 ∷ []) ≡ two r c [] ++ (10 ∷ []) = simp append-assoc in
-    sym (append-nil (lineBytes (groupLine g r c d v)))
-    ∙ (group-bytes g r c d v [] ∙ ap (λ (X : List ℕ). opening g ++ X) (behind-two g r c d v [] ∙ e))
+-- the tail behind the byte after the column
+tail-parts : (g : Group) (d v : ℕ) (X : List ℕ) → afterStop g d v X ≡ afterStop g d v [] ++ X
+tail-parts chosenPins d v X = refl
+tail-parts missingPins d v X = refl
+tail-parts closedTiles d v X = refl
+tail-parts laidSides d v X = simp append-assoc
 
-pub line-counted : (g : Group) (r c : ℕ) → length (plainLine g r c) ≡ length (opening g) + length (decimal r) + length (decimal c) + 3
-line-counted g r c =
-    omega (arith, length-append (opening g) (two r c [] ++ (10 ∷ [])), length-append (two r c []) (10 ∷ []), two-length r c)
+-- where a space stands after the column, it is a side and a number
+pub tail-some : (g : Group) (d v : ℕ) → stop g ≡ 32 → (sideLetter d ∷ 32 ∷ []) ++ ended v 41 ≡ afterStop g d v []
+tail-some chosenPins d v e = absurd (omega arith)
+tail-some missingPins d v e = absurd (omega arith)
+tail-some closedTiles d v e = absurd (omega arith)
+tail-some laidSides d v e = refl
+
+pub tail-none : (g : Group) (d v : ℕ) → stop g ≢ 32 → [] ≡ afterStop g d v []
+tail-none chosenPins d v n = refl
+tail-none missingPins d v n = refl
+tail-none closedTiles d v n = refl
+tail-none laidSides d v n = absurd (n refl)
+
+pub tail-counted : (g : Group) (d v : ℕ) → stop g ≡ 32 → 2 + length (decimal v) + 1 ≡ length (afterStop g d v [])
+tail-counted g d v e = omega (arith, ap length (tail-some g d v e), ended-length v 41)
+
+line-parts : (g : Group) (r c d v : ℕ) → lineBytes (groupLine g r c d v) ≡ lineParts g r c d v
+line-parts g r c d v =
+    let X : List ℕ = afterStop g d v (10 ∷ []) in
+    let e : two r c (stop g) X ≡ two r c (stop g) [] ++ X = simp append-assoc in
+    sym (append-nil (lineBytes (groupLine g r c d v)))
+    ∙ (group-bytes g r c d v []
+    ∙ ap (λ (Y : List ℕ). opening g ++ Y) (behind-two g r c d v [] ∙ (e ∙ ap (λ (Y : List ℕ). two r c (stop g) [] ++ Y) (tail-parts g d v (10 ∷ [])))))
+
+pub line-counted : (g : Group) (r c d v : ℕ)
+    → length (lineParts g r c d v) ≡ length (opening g) + (length (decimal r) + length (decimal c) + 2) + length (afterStop g d v []) + 1
+line-counted g r c d v =
+    omega (
+      arith,
+      length-append (opening g) (two r c (stop g) [] ++ (afterStop g d v [] ++ (10 ∷ []))),
+      length-append (two r c (stop g) []) (afterStop g d v [] ++ (10 ∷ [])),
+      length-append (afterStop g d v []) (10 ∷ []),
+      two-length r c (stop g),
+    )
 
 -- the array line: what follows O, the word of the caps, the pins, the first word
 abbrev pub afterO : ℕ → ℕ → List ℕ
-afterO d e = two d e [] ++ endPart
+afterO d e = two d e 41 [] ++ endPart
 
 abbrev pub afterCaps : ℕ → ℕ → ℕ → List ℕ
 afterCaps o d e = ended o 32 ++ afterO d e
@@ -80,7 +113,7 @@ abbrev pub afterPins : ℕ → ℕ → ℕ → List ℕ
 afterPins o d e = capsPart ++ afterCaps o d e
 
 abbrev pub afterFirst : ℕ → ℕ → ℕ → ℕ → ℕ → List ℕ
-afterFirst a b o d e = two a b [] ++ afterPins o d e
+afterFirst a b o d e = two a b 41 [] ++ afterPins o d e
 
 pub array-parts : (a b o d e : ℕ) → pinsPart ++ afterFirst a b o d e ≡ lineBytes (arrayLine a b o d e)
 unfolding lineBytes
@@ -91,60 +124,49 @@ pub array-counted : (K : Job)
     ≡ length (decimal (K .rows)) + length (decimal (K .columns)) + length (decimal (K .O)) + length (decimal (K .D)) + length (decimal (K .E)) + 27
 unfolding arrayText
 array-counted K =
-    let pins = two (K .rows) (K .columns) [] in
-    let caps = two (K .D) (K .E) [] in
+    let pins = two (K .rows) (K .columns) 41 [] in
+    let caps = two (K .D) (K .E) 41 [] in
     omega (
       arith,
       ap length (array-parts (K .rows) (K .columns) (K .O) (K .D) (K .E)),
       length-append pins (afterPins (K .O) (K .D) (K .E)),
       length-append (ended (K .O) 32) (afterO (K .D) (K .E)),
       length-append caps endPart,
-      two-length (K .rows) (K .columns),
+      two-length (K .rows) (K .columns) 41,
       ended-length (K .O) 32,
-      two-length (K .D) (K .E),
+      two-length (K .D) (K .E) 41,
     )
 
--- ---- cells
+-- ---- sides of cells
 
--- four entries of which the first alone has something
-first-only : (f : ℕ → List ℕ) → f 1 ≡ [] → f 2 ≡ [] → f 3 ≡ [] → each 4 f ≡ f 0
-unfolding each
-first-only f a b c = (λ i. ((f 0 ++ a i) ++ b i) ++ c i) ∙ simp append-nil
+pub side-some : (K : Job) (g : Group) (r c d n : ℕ) → n ≡ valueAt K g r c d → 0 < n → sideText K g r c d ≡ lineParts g r c d n
+unfolding sideText
+side-some K g r c d n e l = ap (valueLine g r c d) (sym e) ∙ (value-line g r c d n l ∙ line-parts g r c d n)
 
--- no group has sides
-cell-first : (K : Job) (g : Group) (r c : ℕ) → cellText K g r c ≡ valueLine g r c 0 (valueAt K g r c 0)
-unfolding cellText
-cell-first K chosenPins r c = first-only (λ d. valueLine chosenPins r c d (valueAt K chosenPins r c d)) refl refl refl
-cell-first K missingPins r c = first-only (λ d. valueLine missingPins r c d (valueAt K missingPins r c d)) refl refl refl
-cell-first K closedTiles r c = first-only (λ d. valueLine closedTiles r c d (valueAt K closedTiles r c d)) refl refl refl
-
-pub cell-some : (K : Job) (g : Group) (r c n : ℕ) → n ≡ valueAt K g r c 0 → 0 < n → cellText K g r c ≡ plainLine g r c
-cell-some K g r c n e l =
-    cell-first K g r c ∙ (ap (valueLine g r c 0) (sym e) ∙ (value-line g r c 0 n l ∙ line-plain g r c 0 n))
-
-pub cell-none : (K : Job) (g : Group) (r c n : ℕ) → n ≡ valueAt K g r c 0 → n ≤ 0 → cellText K g r c ≡ []
-cell-none K g r c n e l =
-    let z : valueAt K g r c 0 ≡ 0 = omega arith in
-    cell-first K g r c ∙ ap (valueLine g r c 0) z
+pub side-none : (K : Job) (g : Group) (r c d n : ℕ) → n ≡ valueAt K g r c d → n ≤ 0 → sideText K g r c d ≡ []
+unfolding sideText
+side-none K g r c d n e l =
+    let z : valueAt K g r c d ≡ 0 = omega arith in
+    ap (valueLine g r c d) z
 
 pub group-rows : (K : Job) (g : Group) → each (K .rows) (rowText K g) ≡ groupText K g
-unfolding rowText cellText
+unfolding rowText cellText sideText
 group-rows K g = refl
 
 -- ---- the text
 
-pub text-parts : (K : Job) → arrayText K ++ (groupsText K 3 ++ lineBytes endLine) ≡ textOf K
+pub text-parts : (K : Job) → arrayText K ++ (groupsText K 4 ++ lineBytes endLine) ≡ textOf K
 unfolding textOf arrayText groupsText each groupOf
 text-parts K = simp append-assoc
 
-pub text-counted : (K : Job) → length (textOf K) ≡ length (arrayText K) + length (groupsText K 3) + 6
+pub text-counted : (K : Job) → length (textOf K) ≡ length (arrayText K) + length (groupsText K 4) + 6
 unfolding lineBytes
 text-counted K =
     omega (
       arith,
       ap length (text-parts K),
-      length-append (arrayText K) (groupsText K 3 ++ lineBytes endLine),
-      length-append (groupsText K 3) (lineBytes endLine),
+      length-append (arrayText K) (groupsText K 4 ++ lineBytes endLine),
+      length-append (groupsText K 4) (lineBytes endLine),
     )
 
 pub end-word : lineBytes endLine ≡ 40 ∷ 101 ∷ 110 ∷ 100 ∷ 41 ∷ 10 ∷ []

@@ -13,6 +13,7 @@ use borrow.Author.Tests.{le-leb, lt-leb}
 use Rattle.sums.specs.Counting.{each}
 use Rattle.model.specs.Record.{jobOf, Legal, over}
 use Rattle.model.specs.Text.{textOf}
+use Rattle.model.proofs.Over.{legal-proper}
 use Rattle.model.specs.Calls.{refused, wrote, After, after, written}
 use Rattle.writing.specs.declared.writer.Written.the-variants.{Wrote, Short}
 use Rattle.writing.specs.Writer.{Sized, Room, Puts, wroteText}
@@ -97,7 +98,7 @@ puts-over {out} {part} p l =
 -- ---- the answers
 
 pub legal-sized : {rec : List ℕ} → Legal rec → Sized rec
-legal-sized g = record { long = g .long; array = g .values .array; caps = g .values .caps }
+legal-sized {rec} g = record { long = g .long; proper = legal-proper rec g }
 
 module _ (rec out : List ℕ) where
   -- the text of the record's job

@@ -3,16 +3,15 @@
 use mathlib.Core.Path.{_≡_}
 use mathlib.Core.List.{List, [], _∷_, _++_}
 use Prim.Native.Nat.{ℕ, _+_, _≤_}
-use lib.Dec.{T}
 use lib.ListN.{length}
 use lib.Seq.{sets}
 use Rattle.sums.specs.Counting.{each}
-use Rattle.model.specs.Job.{Job, arrayFits, capsFit}
+use Rattle.model.specs.Job.{Job, Proper}
 use Rattle.model.specs.Record.{recordSize, jobOf}
 use Rattle.model.specs.Text.{Group, decimal, arrayLine, lineBytes, valueAt, valueLine, groupText, groupOf}
 use Rattle.model.specs.Calls.{Answer, refused, wrote, After, after}
 use Rattle.line.specs.Scan.{two}
-use Rattle.line.specs.Lines.{opening}
+use Rattle.line.specs.Lines.{opening, stop, afterStop}
 use Rattle.writing.specs.declared.writer.Written.{Written}
 use Rattle.writing.specs.declared.writer.Written.the-variants.{Wrote, Short}
 
@@ -25,13 +24,17 @@ ended n end = decimal n ++ (end ∷ [])
 unfoldable pub arrayText : Job → List ℕ
 arrayText J = lineBytes (arrayLine (J .rows) (J .columns) (J .O) (J .D) (J .E))
 
--- a line without a tail: what it begins with, two numbers, and the end of the line
-abbrev pub plainLine : Group → ℕ → ℕ → List ℕ
-plainLine g r c = opening g ++ (two r c [] ++ (10 ∷ []))
+-- a line of a group: what it begins with, two numbers and a byte, the rest of its tail, and the end of the line
+abbrev pub lineParts : Group → ℕ → ℕ → ℕ → ℕ → List ℕ
+lineParts g r c d v = opening g ++ (two r c (stop g) [] ++ (afterStop g d v [] ++ (10 ∷ [])))
 
--- what a group has at a cell, side by side
+-- what a group has on a side of a cell
+unfoldable pub sideText : Job → Group → ℕ → ℕ → ℕ → List ℕ
+sideText J g r c d = valueLine g r c d (valueAt J g r c d)
+
+-- what it has at a cell, side by side
 unfoldable pub cellText : Job → Group → ℕ → ℕ → List ℕ
-cellText J g r c = each 4 (λ d. valueLine g r c d (valueAt J g r c d))
+cellText J g r c = each 4 (λ d. sideText J g r c d)
 
 -- what it has in a row
 unfoldable pub rowText : Job → Group → ℕ → List ℕ
@@ -43,11 +46,10 @@ groupsText J n = each n (λ k. groupText J (groupOf (2 + k)))
 
 -- ---- writing
 
--- a record that is long enough, its five numbers in range
+-- a record that is long enough, its job in range
 pub record Sized (rec : List ℕ) : Type 0 where
   pub long : recordSize ≤ length rec
-  pub array : T (arrayFits (jobOf rec .rows) (jobOf rec .columns))
-  pub caps : T (capsFit (jobOf rec .O) (jobOf rec .D) (jobOf rec .E))
+  pub proper : Proper (jobOf rec)
 
 -- the output has room for `part` from an offset on
 pub record Room (out : List ℕ) (at : ℕ) (part : List ℕ) : Type 0 where

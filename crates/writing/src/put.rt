@@ -1,6 +1,8 @@
-// What is put at an offset of an output: a fixed word, or a number and the byte that ends it. Each gives the offset past it.
+// What is put at an offset of an output: a fixed word, a number and the byte that ends it, or the letter of a side. Each gives the offset past it.
+use line::words::SIDES;
 ghost use Prim.Native.Nat.{_<_};
-ghost use mathlib.Core.List.{[]};
+ghost use mathlib.Core.List.{[], _∷_};
+ghost use Rattle.model.specs.Text.{sideLetter};
 ghost use Rattle.line.specs.Scan.{two};
 ghost use Rattle.writing.specs.Writer.{ended, Room, Puts};
 
@@ -32,12 +34,23 @@ pub fn put_number(out: &mut [u8], at: usize, n: usize, end: u8) -> usize
     at + 3
 }
 
-// Two numbers, with a space between them and a closing parenthesis after them.
-pub fn put_two(out: &mut [u8], at: usize, a: usize, b: usize) -> usize
+// Two numbers, with a space between them and a byte after them.
+pub fn put_two(out: &mut [u8], at: usize, a: usize, b: usize, end: u8) -> usize
     requires { ⌜ (a < 100) × (b < 100) ⌝ }
-    requires { ⌜ Room (now out) at (two a b []) ⌝ }
-    ensures { λ r. ⌜ Puts (now (out .entry)) at (two a b []) (now (out .exit)) r ⌝ }
+    requires { ⌜ Room (now out) at (two a b end []) ⌝ }
+    ensures { λ r. ⌜ Puts (now (out .entry)) at (two a b end []) (now (out .exit)) r ⌝ }
 {
     let second = put_number(out, at, a, b' ');
-    put_number(out, second, b, b')')
+    put_number(out, second, b, end)
+}
+
+// The letter of a side, and a space.
+pub fn put_side(out: &mut [u8], at: usize, side: usize) -> usize
+    requires { ⌜ side < 4 ⌝ }
+    requires { ⌜ Room (now out) at (sideLetter side ∷ 32 ∷ []) ⌝ }
+    ensures { λ r. ⌜ Puts (now (out .entry)) at (sideLetter side ∷ 32 ∷ []) (now (out .exit)) r ⌝ }
+{
+    out[at] = SIDES[side];
+    out[at + 1] = b' ';
+    at + 2
 }

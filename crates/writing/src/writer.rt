@@ -2,8 +2,10 @@
 use crate::count::count_text;
 use crate::count::value_at;
 use crate::put::put_number;
+use crate::put::put_side;
 use crate::put::put_two;
 use crate::put::put_word;
+use line::lines::stop_of;
 use line::words::ARRAY;
 use line::words::ARRAY_END;
 use line::words::CAPS;
@@ -11,15 +13,16 @@ use line::words::CHOSEN;
 use line::words::CLOSED;
 use line::words::END;
 use line::words::GROUP_END;
+use line::words::LAID;
 use line::words::MISSING;
 ghost use mathlib.Core.Path.{_≡_};
-ghost use Prim.Native.Nat.{_≤_, _<_};
-ghost use lib.ListN.{length};
-ghost use Rattle.model.specs.Record.{recordSize, jobOf, Legal};
+ghost use mathlib.Core.List.{[]};
+ghost use Prim.Native.Nat.{_<_};
+ghost use Rattle.model.specs.Record.{jobOf, Legal};
 ghost use Rattle.model.specs.Text.{arrayLine, lineBytes, groupText, textOf, groupOf};
 ghost use Rattle.model.specs.Calls.{written};
-ghost use Rattle.line.specs.Lines.{opening, Below100};
-ghost use Rattle.writing.specs.Writer.{arrayText, plainLine, cellText, rowText, groupsText, Sized, Room, Puts, wroteText};
+ghost use Rattle.line.specs.Lines.{opening, afterStop, Below100};
+ghost use Rattle.writing.specs.Writer.{arrayText, lineParts, sideText, cellText, rowText, groupsText, Sized, Room, Puts, wroteText};
 
 // What writing a text came to: its length, or an output that is shorter.
 pub enum Written {
@@ -38,31 +41,77 @@ fn put_opening(out: &mut [u8], at: usize, group: usize) -> usize
     if group == 3 {
         return put_word(out, at, &MISSING);
     }
-    put_word(out, at, &CLOSED)
+    if group == 4 {
+        return put_word(out, at, &CLOSED);
+    }
+    put_word(out, at, &LAID)
 }
 
-// The line of a group for a pin or tile.
-fn put_line(out: &mut [u8], at: usize, group: usize, row: usize, column: usize) -> usize
-    requires { ⌜ (row < 100) × (column < 100) ⌝ }
-    requires { ⌜ Room (now out) at (plainLine (groupOf group) row column) ⌝ }
-    ensures { λ r. ⌜ Puts (now (out .entry)) at (plainLine (groupOf group) row column) (now (out .exit)) r ⌝ }
+// A line's tail behind the byte after the column: nothing, or a side and a value.
+fn put_tail(out: &mut [u8], at: usize, group: usize, side: usize, value: usize) -> usize
+    requires { ⌜ (side < 4) × (value < 100) ⌝ }
+    requires { ⌜ Room (now out) at (afterStop (groupOf group) side value []) ⌝ }
+    ensures { λ r. ⌜ Puts (now (out .entry)) at (afterStop (groupOf group) side value []) (now (out .exit)) r ⌝ }
+{
+    if stop_of(group) == b' ' {
+        let second = put_side(out, at, side);
+        return put_number(out, second, value, b')');
+    }
+    at
+}
+
+// The line of a group for a value at a pin or tile and on a side.
+fn put_line(
+    out: &mut [u8],
+    at: usize,
+    group: usize,
+    row: usize,
+    column: usize,
+    side: usize,
+    value: usize,
+) -> usize
+    requires { ⌜ (row < 100) × (column < 100) × (side < 4) × (value < 100) ⌝ }
+    requires { ⌜ Room (now out) at (lineParts (groupOf group) row column side value) ⌝ }
+    ensures { λ r. ⌜ Puts (now (out .entry)) at (lineParts (groupOf group) row column side value) (now (out .exit)) r ⌝ }
 {
     let first = put_opening(out, at, group);
-    let end = put_two(out, first, row, column);
+    let behind = put_two(out, first, row, column, stop_of(group));
+    let end = put_tail(out, behind, group, side, value);
     put_word(out, end, &GROUP_END)
 }
 
-// What a group has at a cell: its line, or nothing.
+// What a group has on a side of a cell: its line, or nothing.
+fn put_value(
+    rec: &[u8],
+    out: &mut [u8],
+    at: usize,
+    group: usize,
+    row: usize,
+    column: usize,
+    side: usize,
+) -> usize
+    requires { ⌜ Sized (now rec) × (row < 100) × (column < 100) × (side < 4) ⌝ }
+    requires { ⌜ Room (now out) at (sideText (jobOf (now rec)) (groupOf group) row column side) ⌝ }
+    ensures { λ r. ⌜ Puts (now (out .entry)) at (sideText (jobOf (now (rec .entry))) (groupOf group) row column side) (now (out .exit)) r ⌝ }
+{
+    let value = value_at(rec, group, row, column, side);
+    if value > 0 {
+        return put_line(out, at, group, row, column, side, value);
+    }
+    at
+}
+
+// What a group has at a cell, side by side.
 fn put_cell(rec: &[u8], out: &mut [u8], at: usize, group: usize, row: usize, column: usize) -> usize
-    requires { ⌜ recordSize ≤ length (now rec) ⌝ }
-    requires { ⌜ (row < 100) × (column < 100) ⌝ }
+    requires { ⌜ Sized (now rec) × (row < 100) × (column < 100) ⌝ }
     requires { ⌜ Room (now out) at (cellText (jobOf (now rec)) (groupOf group) row column) ⌝ }
     ensures { λ r. ⌜ Puts (now (out .entry)) at (cellText (jobOf (now (rec .entry))) (groupOf group) row column) (now (out .exit)) r ⌝ }
 {
-    if value_at(rec, group, row, column) > 0 {
-        return put_line(out, at, group, row, column);
+    let mut next = at;
+    for side in 0..4 {
+        next = put_value(rec, out, next, group, row, column, side);
     }
-    at
+    next
 }
 
 // A group's lines of a row.
@@ -97,11 +146,11 @@ fn put_group(rec: &[u8], out: &mut [u8], at: usize, group: usize) -> usize
 // The groups' lines.
 fn put_groups(rec: &[u8], out: &mut [u8], at: usize) -> usize
     requires { ⌜ Sized (now rec) ⌝ }
-    requires { ⌜ Room (now out) at (groupsText (jobOf (now rec)) 3) ⌝ }
-    ensures { λ r. ⌜ Puts (now (out .entry)) at (groupsText (jobOf (now (rec .entry))) 3) (now (out .exit)) r ⌝ }
+    requires { ⌜ Room (now out) at (groupsText (jobOf (now rec)) 4) ⌝ }
+    ensures { λ r. ⌜ Puts (now (out .entry)) at (groupsText (jobOf (now (rec .entry))) 4) (now (out .exit)) r ⌝ }
 {
     let mut next = at;
-    for k in 0..3 {
+    for k in 0..4 {
         next = put_group(rec, out, next, 2 + k);
     }
     next
@@ -121,10 +170,10 @@ fn put_array_line(
     ensures { λ r. ⌜ Puts (now (out .entry)) 0 (lineBytes (arrayLine rows columns o d e)) (now (out .exit)) r ⌝ }
 {
     let pins = put_word(out, 0, &ARRAY);
-    let after = put_two(out, pins, rows, columns);
+    let after = put_two(out, pins, rows, columns, b')');
     let caps = put_word(out, after, &CAPS);
     let second = put_number(out, caps, o, b' ');
-    let end = put_two(out, second, d, e);
+    let end = put_two(out, second, d, e, b')');
     put_word(out, end, &ARRAY_END)
 }
 

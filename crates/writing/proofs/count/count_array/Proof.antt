@@ -15,13 +15,13 @@ size : {m n : ℕ} → m ≡ n → length (decimal m) ≡ length (decimal n)
 size e = ap (λ (k : ℕ). length (decimal k)) e
 
 rows-requires : tie.Need-rows-requires
-rows-requires c κs = search needs
+rows-requires c κs = c .before .pre .long
 
 digits-requires : tie.Need-digits-requires
 digits-requires c κs = search needs
 
 columns-requires : tie.Need-columns-requires
-columns-requires c κs = search needs
+columns-requires c κs = c .before .before .before .pre .long
 
 digits-requires-2 : tie.Need-digits-requires-2
 digits-requires-2 c κs = search needs
@@ -30,13 +30,13 @@ add-pins : tie.Need-add-pins
 add-pins c = search needs
 
 orthogonal-requires : tie.Need-orthogonal-requires
-orthogonal-requires c κs = search needs
+orthogonal-requires c κs = c .before .before .before .before .before .pre .long
 
 digits-requires-3 : tie.Need-digits-requires-3
 digits-requires-3 c κs = search needs
 
 diagonal-requires : tie.Need-diagonal-requires
-diagonal-requires c κs = search needs
+diagonal-requires c κs = c .before .before .before .before .before .before .before .pre .long
 
 digits-requires-4 : tie.Need-digits-requires-4
 digits-requires-4 c κs = search needs
@@ -45,7 +45,7 @@ add-caps : tie.Need-add-caps
 add-caps c = search needs
 
 extra-requires : tie.Need-extra-requires
-extra-requires c κs = search needs
+extra-requires c κs = c .before .before .before .before .before .before .before .before .before .pre .long
 
 digits-requires-5 : tie.Need-digits-requires-5
 digits-requires-5 c κs = search needs

@@ -14,13 +14,13 @@ use Rattle.writing.proofs.count.count_group.Tie as tie
 
 abbrev Inv-loop : tie.InvT-loop
 Inv-loop rec group rows n₀ row₀ n row =
-    (row ≤ rows) × (n ≡ length (each row (rowText (jobOf rec) (groupOf group)))) × (n ≤ 4096 * row)
+    (row ≤ rows) × (n ≡ length (each row (rowText (jobOf rec) (groupOf group)))) × (n ≤ 32768 * row)
 
 abbrev μ-loop : tie.MeasureT-loop
 μ-loop rec group rows n₀ row₀ n row = rows - row
 
 rows-requires : tie.Need-rows-requires Inv-loop μ-loop
-rows-requires c κs = c .before .pre
+rows-requires c κs = c .before .pre .long
 
 loop-holds : tie.Need-loop-holds Inv-loop μ-loop
 unfolding each

@@ -14,13 +14,13 @@ use Rattle.writing.proofs.count.count_row.Tie as tie
 
 abbrev Inv-loop : tie.InvT-loop
 Inv-loop rec group row columns n₀ column₀ n column =
-    (column ≤ columns) × (n ≡ length (each column (cellText (jobOf rec) (groupOf group) row))) × (n ≤ 16 * column)
+    (column ≤ columns) × (n ≡ length (each column (cellText (jobOf rec) (groupOf group) row))) × (n ≤ 128 * column)
 
 abbrev μ-loop : tie.MeasureT-loop
 μ-loop rec group row columns n₀ column₀ n column = columns - column
 
 columns-requires : tie.Need-columns-requires Inv-loop μ-loop
-columns-requires c κs = c .before .pre
+columns-requires c κs = c .before .pre .long
 
 loop-holds : tie.Need-loop-holds Inv-loop μ-loop
 unfolding each

@@ -1,5 +1,5 @@
--- `value_at` asks for the mark or the state that the group's number stands for. Assumes nothing.
-use mathlib.Core.Path.{sym, ap, _∙_}
+-- `value_at` asks for the mark, the state or the count that the group's number stands for. Assumes nothing.
+use mathlib.Core.Path.{_≡_, ap, _∙_}
 use mathlib.Core.Bool.{Bool, _&&_}
 use denote.Ref.{now}
 use borrow.Author.Needs.{needs}
@@ -8,12 +8,14 @@ use Rattle.sums.specs.Counting.{when}
 use Rattle.model.specs.Job.{isClosed}
 use Rattle.model.specs.Record.{jobOf}
 use Rattle.model.specs.Text.{Group, valueAt}
-use Rattle.line.proofs.Lined.{group-two, group-three, group-else}
+use Rattle.line.proofs.Lined.{group-two, group-three, group-four, group-else}
 use Rattle.writing.proofs.count.value_at.Statement.{statement}
 use Rattle.writing.proofs.count.value_at.Tie as tie
 
 is-chosen-requires : tie.Need-is-chosen-requires
-is-chosen-requires c κs = search needs
+is-chosen-requires c κs =
+    let c2 = c .before .before in
+    c2 .pre .0 .long
 
 number-if-requires : tie.Need-number-if-requires
 number-if-requires c κs = search needs
@@ -21,13 +23,15 @@ number-if-requires c κs = search needs
 returns : tie.Need-returns
 returns c =
     let c2 = c .before .before in
-    let a = c2 .before .before .args in
-    c .number-if .ensures
-    ∙ (ap (λ (b : Bool). when b 1) (c .before .is-chosen .ensures)
-    ∙ sym (ap (λ (g : Group). valueAt (jobOf (now (a .rec))) g (a .row) (a .column) 0) (group-two (a .group) (c2 .if1 .taken))))
+    let c4 = c2 .before .before in
+    let a = c4 .args in
+    group-two (λ (g : Group). c .number-if .result ≡ valueAt (jobOf (now (a .rec))) g (a .row) (a .column) (a .side)) (a .group) (c2 .if1 .taken)
+    (c .number-if .ensures ∙ ap (λ (b : Bool). when (eqb (a .side) 0 && b) 1) (c .before .is-chosen .ensures))
 
 is-missing-requires : tie.Need-is-missing-requires
-is-missing-requires c κs = search needs
+is-missing-requires c κs =
+    let c3 = c .before .before .before in
+    c3 .pre .0 .long
 
 number-if-requires-2 : tie.Need-number-if-requires-2
 number-if-requires-2 c κs = search needs
@@ -35,16 +39,20 @@ number-if-requires-2 c κs = search needs
 returns-2 : tie.Need-returns-2
 returns-2 c =
     let c2 = c .before .before in
-    let a = c2 .before .before .before .args in
-    c .number-if2 .ensures
-    ∙ (ap (λ (b : Bool). when b 2) (c .before .is-missing .ensures)
-    ∙ sym (ap (λ (g : Group). valueAt (jobOf (now (a .rec))) g (a .row) (a .column) 0) (group-three (a .group) (c2 .if2 .taken))))
+    let c5 = c2 .before .before .before in
+    let a = c5 .args in
+    group-three (λ (g : Group). c .number-if2 .result ≡ valueAt (jobOf (now (a .rec))) g (a .row) (a .column) (a .side)) (a .group) (c2 .if2 .taken)
+    (c .number-if2 .ensures ∙ ap (λ (b : Bool). when (eqb (a .side) 0 && b) 2) (c .before .is-missing .ensures))
 
 is-tile-requires : tie.Need-is-tile-requires
-is-tile-requires c κs = search needs
+is-tile-requires c κs =
+    let c4 = c .before .before .before .before in
+    c4 .pre .0 .long
 
 state-of-requires : tie.Need-state-of-requires
-state-of-requires c κs = search needs
+state-of-requires c κs =
+    let c5 = c .before .before .before .before .before in
+    c5 .pre .0 .long
 
 number-if-requires-3 : tie.Need-number-if-requires-3
 number-if-requires-3 c κs = search needs
@@ -54,10 +62,22 @@ unfolding isClosed
 returns-3 c =
     let c2 = c .before .before in
     let c3 = c2 .before in
-    let a = c3 .before .before .before .args in
-    c .number-if3 .ensures
-    ∙ ((λ i. when (c2 .is-tile .ensures i && eqb (c .before .state-of .ensures i) 1) 1)
-    ∙ sym (ap (λ (g : Group). valueAt (jobOf (now (a .rec))) g (a .row) (a .column) 0) (group-else (a .group) (c3 .before .if1 .left) (c3 .if2 .left))))
+    let c7 = c3 .before .before .before .before in
+    let a = c7 .args in
+    group-four (λ (g : Group). c .number-if3 .result ≡ valueAt (jobOf (now (a .rec))) g (a .row) (a .column) (a .side)) (a .group) (c3 .if3 .taken)
+    (c .number-if3 .ensures ∙ (λ i. when (eqb (a .side) 0 && (c2 .is-tile .ensures i && eqb (c .before .state-of .ensures i) 1)) 1))
+
+laid-at-requires : tie.Need-laid-at-requires
+laid-at-requires c κs = search needs
+
+returns-4 : tie.Need-returns-4
+returns-4 c =
+    let c2 = c .before .before in
+    let c3 = c2 .before in
+    let c5 = c3 .before .before in
+    let a = c5 .args in
+    group-else (λ (g : Group). c .laid-at .result ≡ valueAt (jobOf (now (a .rec))) g (a .row) (a .column) (a .side)) (a .group) (c3 .if1 .left)
+    (c2 .if2 .left) (c .before .if3 .left) (c .laid-at .ensures)
 
 pub value-at-spec : {M : Type 1} → statement M
 value-at-spec =
@@ -72,4 +92,6 @@ value-at-spec =
     is-tile-requires
     state-of-requires
     number-if-requires-3
-    returns-3)
+    returns-3
+    laid-at-requires
+    returns-4)

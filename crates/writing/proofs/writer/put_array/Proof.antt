@@ -41,7 +41,7 @@ put-array-line-requires c κs =
     let r = q .before in
     let s = r .before .before .before in
     let J = jobOf (now (s .args .rec)) in
-    let f = five-small (J .rows) (J .columns) (J .O) (J .D) (J .E) (s .pre .0 .array) (s .pre .0 .caps) in (
+    let f = five-small (J .rows) (J .columns) (J .O) (J .D) (J .E) (s .pre .0 .proper .array) (s .pre .0 .proper .caps) in (
       record {
         rows = omega (arith, r .rows .ensures .0, f .rows);
         columns = omega (arith, q .columns .ensures .0, f .columns);

@@ -25,7 +25,7 @@ put-two-requires c κs =
     let s = p0 .before .before .before .before in
     let a = s .args in (
       (s .pre .0 .rows, s .pre .0 .columns),
-      room-front (two (a .rows) (a .columns) []) (afterPins (a .o) (a .d) (a .e))
+      room-front (two (a .rows) (a .columns) 41 []) (afterPins (a .o) (a .d) (a .e))
           (room-rest (afterFirst (a .rows) (a .columns) (a .o) (a .d) (a .e)) (p0 .put-word .ensures)
           (room-as (array-parts (a .rows) (a .columns) (a .o) (a .d) (a .e)) (s .pre .1))),
     )
@@ -68,7 +68,7 @@ put-two-requires-2 c κs =
     let s = p0 .before .before .before .before in
     let a = s .args in (
       (s .pre .0 .D, s .pre .0 .E),
-      room-front (two (a .d) (a .e) []) endPart
+      room-front (two (a .d) (a .e) 41 []) endPart
           (room-rest (afterO (a .d) (a .e)) (p3 .put-number .ensures)
           (room-rest (afterCaps (a .o) (a .d) (a .e)) (p2 .put-word2 .ensures)
           (room-rest (afterPins (a .o) (a .d) (a .e)) (p1 .put-two .ensures)

@@ -1,43 +1,78 @@
--- `put_cell` puts the line if the cell has a value in the group, and else nothing. Assumes nothing.
-use mathlib.Core.Path.{sym}
+-- `put_cell` puts the sides of a cell: at the loop's head those passed are put. Assumes nothing.
+use mathlib.Core.Path.{_≡_, ap}
+use Prim.Native.Nat.{ℕ, _-_, _≤_}
+use native.Mathlib.Omega.{arith}
 use denote.Ref.{now}
 use borrow.Author.Needs.{needs}
+use Rattle.sums.specs.Counting.{each}
 use Rattle.model.specs.Record.{jobOf}
 use Rattle.model.specs.Text.{groupOf}
-use Rattle.writing.proofs.Counted.{cell-some, cell-none}
-use Rattle.writing.proofs.Placed.{puts-none, puts-as, room-as}
+use Rattle.writing.specs.Writer.{sideText, cellText, Puts}
+use Rattle.writing.proofs.Placed.{puts-none, puts-as, puts-each, puts-length, room-each}
 use Rattle.writing.proofs.writer.put_cell.Statement.{statement}
 use Rattle.writing.proofs.writer.put_cell.Tie as tie
 
-value-at-requires : tie.Need-value-at-requires
-value-at-requires c κs = search needs
+abbrev Inv-loop : tie.InvT-loop
+Inv-loop rec out₀ at group row column next₀ side₀ out next side =
+    (side ≤ 4) × Puts out₀ at (each side (sideText (jobOf rec) (groupOf group) row column)) out next
 
-put-line-requires : tie.Need-put-line-requires
-put-line-requires c κs =
-    let c2 = c .before .before in
-    let s = c2 .before .before .before in
-    let a = s .args in (
-      s .pre .1 .0,
-      room-as (sym (cell-some (jobOf (now (a .rec))) (groupOf (a .group)) (a .row) (a .column) _ (c2 .value-at .ensures) (c .before .if1 .taken)))
-          (s .pre .1 .1),
-    )
+abbrev μ-loop : tie.MeasureT-loop
+μ-loop rec out₀ at group row column next₀ side₀ out next side = 4 - side
 
-same-length : tie.Need-same-length
-same-length c = search needs
+loop-holds : tie.Need-loop-holds Inv-loop μ-loop
+unfolding each
+loop-holds c = (omega arith, puts-none)
 
-returns : tie.Need-returns
-returns c =
+put-value-requires : tie.Need-put-value-requires Inv-loop μ-loop
+unfolding cellText
+put-value-requires c κs =
     let c2 = c .before .before in
     let c5 = c2 .before .before .before in
-    let a = c5 .before .before .before .args in
-    puts-as (c2 .put-line .ensures)
-    (sym (cell-some (jobOf (now (a .rec))) (groupOf (a .group)) (a .row) (a .column) _ (c5 .value-at .ensures) (c2 .before .before .if1 .taken)))
+    let l = c2 .loop in
+    let s = c5 in
+    let a = s .args in
+    let p = s .pre .0 in (
+      (p .0, p .1, p .2, c .before .loop-test .taken),
+      room-each 4 (l .side) (sideText (jobOf (now (a .rec))) (groupOf (a .group)) (a .row) (a .column)) (c .before .loop-test .taken) (l .inv .1) (s .pre .1),
+    )
 
-returns-2 : tie.Need-returns-2
-returns-2 c =
-    let a = c .before .before .before .before .args in
-    puts-as puts-none (sym (cell-none (jobOf (now (a .rec))) (groupOf (a .group)) (a .row) (a .column) _ (c .before .value-at .ensures) (c .if1 .left)))
+add-side : tie.Need-add-side Inv-loop μ-loop
+add-side c = search needs
+
+loop-less : tie.Need-loop-less Inv-loop μ-loop
+loop-less c = omega arith
+
+loop-again : tie.Need-loop-again Inv-loop μ-loop
+loop-again c =
+    let c2 = c .before .before in
+    let c5 = c2 .before .before .before in
+    let c8 = c5 .before .before .before in
+    let l = c5 .loop in
+    let a = c8 .args in
+    (omega arith, puts-each (l .side) (sideText (jobOf (now (a .rec))) (groupOf (a .group)) (a .row) (a .column)) (l .inv .1) (c2 .put-value .ensures))
+
+same-length : tie.Need-same-length Inv-loop μ-loop
+same-length c = puts-length (c .before .loop .inv .1)
+
+returns : tie.Need-returns Inv-loop μ-loop
+unfolding cellText
+returns c =
+    let c4 = c .before .before .before .before in
+    let l = c .before .loop in
+    let a = c4 .args in
+    let e : l .side ≡ 4 = omega arith in
+    puts-as (l .inv .1) (ap (λ (n : ℕ). each n (sideText (jobOf (now (a .rec))) (groupOf (a .group)) (a .row) (a .column))) e)
 
 pub put-cell-spec : {M : Type 1} → statement M
 put-cell-spec =
-    tie.close (tie.spec value-at-requires put-line-requires same-length returns returns-2)
+    tie.close
+    (tie.spec
+    Inv-loop
+    μ-loop
+    loop-holds
+    put-value-requires
+    add-side
+    loop-less
+    loop-again
+    same-length
+    returns)

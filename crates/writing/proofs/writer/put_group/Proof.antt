@@ -36,7 +36,7 @@ put-row-requires c κs =
     let m : l .row < J .rows = omega (arith, c .before .loop-test .taken, c3 .rows .ensures .0) in (
       s .pre .0,
       (
-        omega (arith, m, array-small (J .rows) (J .columns) (s .pre .0 .array) .0),
+        omega (arith, m, array-small (J .rows) (J .columns) (s .pre .0 .proper .array) .0),
         room-each (J .rows) (l .row) (rowText J (groupOf (s .args .group))) m (l .inv .1)
             (room-as (group-rows J (groupOf (s .args .group))) (s .pre .1)),
       ),

@@ -1,8 +1,9 @@
 -- `put_opening` puts the word that the group's number stands for. Assumes nothing.
-use mathlib.Core.Path.{sym, ap}
+use mathlib.Core.Path.{_≡_, refl}
 use borrow.Author.Needs.{needs}
+use Rattle.model.specs.Text.{Group, chosenPins, missingPins, closedTiles, laidSides}
 use Rattle.line.specs.Lines.{opening}
-use Rattle.line.proofs.Lined.{group-two, group-three, group-else}
+use Rattle.line.proofs.Lined.{group-two, group-three, group-four, group-else}
 use Rattle.writing.proofs.Placed.{puts-as, room-as}
 use Rattle.writing.proofs.writer.put_opening.Statement.{statement}
 use Rattle.writing.proofs.writer.put_opening.Tie as tie
@@ -12,8 +13,10 @@ slice-aggregate-put-word c = search needs
 
 put-word-requires : tie.Need-put-word-requires
 put-word-requires c κs =
-    let s = c .before .before .before .before in
-    room-as (sym (ap opening (group-two (s .args .group) (c .before .before .if1 .taken)))) (s .pre)
+    let c2 = c .before .before in
+    let c4 = c2 .before .before in
+    let s = c4 in
+    room-as (group-two (λ (g : Group). opening chosenPins ≡ opening g) (s .args .group) (c2 .if1 .taken) refl) (s .pre)
 
 same-length : tie.Need-same-length
 same-length c = search needs
@@ -22,7 +25,8 @@ returns : tie.Need-returns
 returns c =
     let c2 = c .before .before in
     let c5 = c2 .before .before .before in
-    puts-as (c2 .put-word .ensures) (sym (ap opening (group-two (c5 .before .before .args .group) (c5 .if1 .taken))))
+    let c7 = c5 .before .before in
+    puts-as (c2 .put-word .ensures) (group-two (λ (g : Group). opening chosenPins ≡ opening g) (c7 .args .group) (c5 .if1 .taken) refl)
 
 slice-aggregate-put-word-2 : tie.Need-slice-aggregate-put-word-2
 slice-aggregate-put-word-2 c = search needs
@@ -30,8 +34,9 @@ slice-aggregate-put-word-2 c = search needs
 put-word-requires-2 : tie.Need-put-word-requires-2
 put-word-requires-2 c κs =
     let c2 = c .before .before in
-    let s = c2 .before .before .before in
-    room-as (sym (ap opening (group-three (s .args .group) (c2 .if2 .taken)))) (s .pre)
+    let c5 = c2 .before .before .before in
+    let s = c5 in
+    room-as (group-three (λ (g : Group). opening missingPins ≡ opening g) (s .args .group) (c2 .if2 .taken) refl) (s .pre)
 
 same-length-2 : tie.Need-same-length-2
 same-length-2 c = search needs
@@ -40,7 +45,8 @@ returns-2 : tie.Need-returns-2
 returns-2 c =
     let c2 = c .before .before in
     let c5 = c2 .before .before .before in
-    puts-as (c2 .put-word2 .ensures) (sym (ap opening (group-three (c5 .before .before .before .args .group) (c5 .if2 .taken))))
+    let c8 = c5 .before .before .before in
+    puts-as (c2 .put-word2 .ensures) (group-three (λ (g : Group). opening missingPins ≡ opening g) (c8 .args .group) (c5 .if2 .taken) refl)
 
 slice-aggregate-put-word-3 : tie.Need-slice-aggregate-put-word-3
 slice-aggregate-put-word-3 c = search needs
@@ -48,8 +54,9 @@ slice-aggregate-put-word-3 c = search needs
 put-word-requires-3 : tie.Need-put-word-requires-3
 put-word-requires-3 c κs =
     let c2 = c .before .before in
-    let s = c2 .before .before .before in
-    room-as (sym (ap opening (group-else (s .args .group) (c2 .before .if1 .left) (c2 .if2 .left)))) (s .pre)
+    let c6 = c2 .before .before .before .before in
+    let s = c6 in
+    room-as (group-four (λ (g : Group). opening closedTiles ≡ opening g) (s .args .group) (c2 .if3 .taken) refl) (s .pre)
 
 same-length-3 : tie.Need-same-length-3
 same-length-3 c = search needs
@@ -58,7 +65,32 @@ returns-3 : tie.Need-returns-3
 returns-3 c =
     let c2 = c .before .before in
     let c5 = c2 .before .before .before in
-    puts-as (c2 .put-word3 .ensures) (sym (ap opening (group-else (c5 .before .before .before .args .group) (c5 .before .if1 .left) (c5 .if2 .left))))
+    let c9 = c5 .before .before .before .before in
+    puts-as (c2 .put-word3 .ensures) (group-four (λ (g : Group). opening closedTiles ≡ opening g) (c9 .args .group) (c5 .if3 .taken) refl)
+
+slice-aggregate-put-word-4 : tie.Need-slice-aggregate-put-word-4
+slice-aggregate-put-word-4 c = search needs
+
+put-word-requires-4 : tie.Need-put-word-requires-4
+put-word-requires-4 c κs =
+    let c2 = c .before .before in
+    let c3 = c2 .before in
+    let c4 = c3 .before in
+    let c6 = c4 .before .before in
+    let s = c6 in
+    room-as (group-else (λ (g : Group). opening laidSides ≡ opening g) (s .args .group) (c4 .if1 .left) (c3 .if2 .left) (c2 .if3 .left) refl) (s .pre)
+
+same-length-4 : tie.Need-same-length-4
+same-length-4 c = search needs
+
+returns-4 : tie.Need-returns-4
+returns-4 c =
+    let c2 = c .before .before in
+    let c5 = c2 .before .before .before in
+    let c6 = c5 .before in
+    let c7 = c6 .before in
+    let c9 = c7 .before .before in
+    puts-as (c2 .put-word4 .ensures) (group-else (λ (g : Group). opening laidSides ≡ opening g) (c9 .args .group) (c7 .if1 .left) (c6 .if2 .left) (c5 .if3 .left) refl)
 
 pub put-opening-spec : {M : Type 1} → statement M
 put-opening-spec =
@@ -75,4 +107,8 @@ put-opening-spec =
     slice-aggregate-put-word-3
     put-word-requires-3
     same-length-3
-    returns-3)
+    returns-3
+    slice-aggregate-put-word-4
+    put-word-requires-4
+    same-length-4
+    returns-4)

@@ -34,11 +34,8 @@ put-cell-requires c κs =
     let s = c3 .before .before .before in
     let J = jobOf (now (s .args .rec)) in
     let m : l .column < J .columns = omega (arith, c .before .loop-test .taken, c3 .columns .ensures .0) in (
-      s .pre .0 .long,
-      (
-        (s .pre .1 .0, omega (arith, m, array-small (J .rows) (J .columns) (s .pre .0 .array) .1)),
-        room-each (J .columns) (l .column) (cellText J (groupOf (s .args .group)) (s .args .row)) m (l .inv .1) (s .pre .1 .1),
-      ),
+      (s .pre .0, s .pre .1 .0, omega (arith, m, array-small (J .rows) (J .columns) (s .pre .0 .proper .array) .1)),
+      room-each (J .columns) (l .column) (cellText J (groupOf (s .args .group)) (s .args .row)) m (l .inv .1) (s .pre .1 .1),
     )
 
 add-column : tie.Need-add-column Inv-loop μ-loop

@@ -7,7 +7,7 @@ use Rattle.writing.proofs.writer.write_text.Statement.{statement}
 use Rattle.writing.proofs.writer.write_text.Tie as tie
 
 count-text-requires : tie.Need-count-text-requires
-count-text-requires c κs = search needs
+count-text-requires c κs = legal-sized (c .before .before .pre)
 
 returns : tie.Need-returns
 returns c =
