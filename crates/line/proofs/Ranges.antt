@@ -13,7 +13,7 @@ range-small least most n t = leb→le n most (and-right (leb least n) (leb n mos
 pub array-small : (a b : ℕ) → T (arrayFits a b) → (a ≤ 40) × (b ≤ 40)
 array-small a b t = (range-small 2 40 a (and-left (inRange 2 40 a) (inRange 2 40 b) t), range-small 2 40 b (and-right (inRange 2 40 a) (inRange 2 40 b) t))
 
-caps-small : (o d e : ℕ) → T (capsAdmitted o d e) → (o ≤ 8) × (d ≤ 2 * o) × (e ≤ 16)
+pub caps-small : (o d e : ℕ) → T (capsAdmitted o d e) → (o ≤ 8) × (d ≤ 2 * o) × (e ≤ 16)
 caps-small o d e t =
     let u : T (inRange o (2 * o) d && inRange 0 16 e) = and-right (inRange 1 8 o) (inRange o (2 * o) d && inRange 0 16 e) t in (
       range-small 1 8 o (and-left (inRange 1 8 o) (inRange o (2 * o) d && inRange 0 16 e) t),

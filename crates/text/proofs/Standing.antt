@@ -7,16 +7,16 @@ use mathlib.Core.List.{List, _++_}
 use mathlib.Core.Option.{Option, none, some}
 use Prim.Native.Nat.{ℕ, _+_, _*_, _≤_, _<_}
 use native.Mathlib.Omega.{arith}
-use lib.Dec.{T, eqb, leb, eqb→eq}
+use lib.Dec.{T, eqb, leb, eqb→eq, leb→le}
 use borrow.Author.Tests.{le-leb, lt-ltb}
 use lib.ListN.{length, getD, drop}
 use Rattle.sums.specs.Tests.{and-left, and-right, and-both}
-use Rattle.model.specs.Job.{fresh, arrayFits, capsAdmitted, isPin, isTile}
-use Rattle.model.specs.Text.{Group, chosenPins, missingPins, closedTiles, Line, arrayLine, groupLine, endLine, lineBytes, begin, afterArray, finished}
+use Rattle.model.specs.Job.{Job, fresh, arrayFits, capsAdmitted, isPin, isTile}
+use Rattle.model.specs.Text.{Group, chosenPins, missingPins, closedTiles, laidSides, Line, arrayLine, groupLine, endLine, lineBytes, begin, afterArray, finished}
 use Rattle.model.specs.Text.{within, rank, Reader}
-use Rattle.model.specs.Text.{start, asking, inTurn, names, admit, wrongAt, wrong, Reading, says, keyOf}
+use Rattle.model.specs.Text.{start, asking, inTurn, names, writesSide, admit, wrongAt, wrong, Reading, says, keyOf}
 use Rattle.model.proofs.TextUnique.{Says, admit-says, line-unique}
-use Rattle.model.proofs.TextProper.{asked}
+use Rattle.model.proofs.TextProper.{asked, by-word, names-says, names-laid}
 use Rattle.model.proofs.TextNames.{names-inside}
 use Rattle.line.specs.declared.lines.Line.the-variants.{Wrong as WrongLine}
 use Rattle.line.specs.declared.lines.Opening.the-variants.{Wrong as WrongOpening}
@@ -83,32 +83,40 @@ pub and-false : (b : Bool) → (b && false) ≡ false
 and-false true = refl
 and-false false = refl
 
+-- the value of a line that may stand is small
+names-small : (J : Job) (g : Group) (r c d v : ℕ) → J .O ≤ 8 → T (names J g r c d v) → v < 100
+names-small J chosenPins r c d v l t = let (x, y) = by-word d v 1 (names-says J chosenPins r c d v t) in omega arith
+names-small J missingPins r c d v l t = let (x, y) = by-word d v 2 (names-says J missingPins r c d v t) in omega arith
+names-small J closedTiles r c d v l t = let (x, y) = by-word d v 1 (names-says J closedTiles r c d v t) in omega arith
+names-small J laidSides r c d v l t = let (x, y, z) = names-laid J r c d v t in omega (arith, leb→le v (J .O) z)
+
 -- where no line of a group and no end line begins, none begins that may stand after the array line
-pub none-stands : (R : Reader) (text : List ℕ) (at : ℕ) → 1 ≤ rank (R .stage) → R .job .rows ≤ 40 → R .job .columns ≤ 40 → LineAt text at WrongLine
+pub none-stands : (R : Reader) (text : List ℕ) (at : ℕ) → 1 ≤ rank (R .stage) → R .job .rows ≤ 40 → R .job .columns ≤ 40 → R .job .O ≤ 8 → LineAt text at WrongLine
     → (l : Line) (R′ : Reader) (rest : List ℕ) → admit R l ≡ some R′ → drop at text ≢ lineBytes l ++ rest
 unfolding admit
-none-stands R text at k x y (f, h) (arrayLine a b o d e) R′ rest q p =
-    let (t, z) = asked (eqb (rank (R .stage)) 0 && (arrayFits a b && capsAdmitted o d e)) _ R′ q in
+none-stands R text at k x y z (f, h) (arrayLine a b o d e) R′ rest q p =
+    let (t, i) = asked (eqb (rank (R .stage)) 0 && (arrayFits a b && capsAdmitted o d e)) _ R′ q in
     omega (arith, eqb→eq (rank (R .stage)) 0 (and-left (eqb (rank (R .stage)) 0) (arrayFits a b && capsAdmitted o d e) t))
-none-stands R text at k x y (f, h) (groupLine g r c d v) R′ rest q p =
-    let (t, z) = asked (inTurn R g r c d && names (R .job) g r c d v) _ R′ q in
-    let (a, b, s) = names-inside (R .job) g r c d v (and-right (inTurn R g r c d) (names (R .job) g r c d v) t) in
-    f g r c d v rest (omega arith) (omega arith) p
-none-stands R text at k x y (f, h) endLine R′ rest q p = h rest p
+none-stands R text at k x y z (f, h) (groupLine g r c d v) R′ rest q p =
+    let (t, i) = asked (inTurn R g r c d && names (R .job) g r c d v) _ R′ q in
+    let u : T (names (R .job) g r c d v) = and-right (inTurn R g r c d) (names (R .job) g r c d v) t in
+    let (a, b, s) = names-inside (R .job) g r c d v u in
+    f g r c d v rest (names-says (R .job) g r c d v u) (omega arith) (omega arith) (names-small (R .job) g r c d v z u) p
+none-stands R text at k x y z (f, h) endLine R′ rest q p = h rest p
 
 -- the code's tests are those of the definitions
-module _ {R : Reader} {s f rows columns : ℕ} {chosen : List ℕ} (w : Follows R s f rows columns chosen) (begun : 1 ≤ s) (a : rows ≤ 40) (b : columns ≤ 40) where
+module _ {R : Reader} {s f rows columns o : ℕ} {chosen : List ℕ} (w : Follows R s f rows columns o chosen) (begun : 1 ≤ s) (a : rows ≤ 40) (b : columns ≤ 40)
+    (m : o ≤ 8) where
   abbrev bit : ℕ → ℕ → Bool
   bit r c = eqb (getD chosen (40 * r + c) 0) 1
 
-  turn-same : (g : Group) (r c : ℕ) → turnFits s f (rank (within g)) (4 * (40 * r + c)) ≡ inTurn R g r c 0
-  turn-same g r c =
-      let key : 4 * (40 * r + c) ≡ keyOf r c 0 = omega arith in
-      (λ i. turnFits (w .stage i) (w .from i) (rank (within g)) (key i))
-      ∙ sym (ap (λ (b : Bool). b && turnFits (rank (R .stage)) (R .from) (rank (within g)) (keyOf r c 0)) (le-leb 1 (rank (R .stage)) (omega (arith, w .stage))))
+  turn-same : (g : Group) (r c d : ℕ) → turnFits s f (rank (within g)) (keyOf r c d) ≡ inTurn R g r c d
+  turn-same g r c d =
+      (λ i. turnFits (w .stage i) (w .from i) (rank (within g)) (keyOf r c d))
+      ∙ sym (ap (λ (b : Bool). b && turnFits (rank (R .stage)) (R .from) (rank (within g)) (keyOf r c d)) (le-leb 1 (rank (R .stage)) (omega (arith, w .stage))))
 
-  names-same : (g : Group) (r c d v : ℕ) → T (says g d v) → namesFit rows columns (bit r c) (rank (within g)) r c ≡ names (R .job) g r c d v
-  names-same g r c d v told = (λ i. namesFit (sym (w .high) i) (sym (w .wide) i) (bit r c) (rank (within g)) r c) ∙ by g told
+  names-same : (g : Group) (r c d v : ℕ) → T (says g d v) → namesFit rows columns o (bit r c) (rank (within g)) r c d v ≡ names (R .job) g r c d v
+  names-same g r c d v told = (λ i. namesFit (sym (w .high) i) (sym (w .wide) i) (sym (w .most) i) (bit r c) (rank (within g)) r c d v) ∙ by g told
     where
       kept : (a x y : Bool) → (T a → x ≡ y) → (a && not x) ≡ (a && not y)
       kept true x y e = ap not (e tt)
@@ -119,48 +127,52 @@ module _ {R : Reader} {s f rows columns : ℕ} {chosen : List ℕ} (w : Follows 
           let (x, y, z) = names-inside (R .job) chosenPins r c 0 1 (and-both (isPin (R .job) r c) true t tt) in
           w .marks r c (omega (arith, w .high)) (omega (arith, w .wide))
 
-      by : (h : Group) → T (says h d v) → namesFit (R .job .rows) (R .job .columns) (bit r c) (rank (within h)) r c ≡ names (R .job) h r c d v
+      by : (h : Group) → T (says h d v) → namesFit (R .job .rows) (R .job .columns) (R .job .O) (bit r c) (rank (within h)) r c d v ≡ names (R .job) h r c d v
       by chosenPins t = and-so (isPin (R .job) r c) true (says chosenPins d v) tt t
       by missingPins t =
           kept (isPin (R .job) r c) (bit r c) (eqb (R .job .mark r c) 1) inside
           ∙ and-more (isPin (R .job) r c && not (eqb (R .job .mark r c) 1)) (says missingPins d v) t
       by closedTiles t = and-more (isTile (R .job) r c) (says closedTiles d v) t
+      by laidSides t = and-more (isTile (R .job) r c && (writesSide r c d && leb v (R .job .O))) (says laidSides d v) t
 
   -- a line of a group at the offset
-  module _ (text : List ℕ) (at n r c v next : ℕ) (g : Group) (is : n ≡ rank (within g)) (told : T (says g 0 v))
-      (here : drop at text ≡ lineBytes (groupLine g r c 0 v) ++ drop next text) where
-    pub step-group : (k : Cursor) → next ≤ length text → k .at ≡ next → k .stage ≡ n → k .from ≡ 4 * (40 * r + c) + 1
-        → turnFits s f n (4 * (40 * r + c)) ≡ true → namesFit rows columns (bit r c) n r c ≡ true → Stepped text R at (To k)
-    unfolding admit
-    step-group k l i j o t u =
-        byGroup {k = k} g r c 0 v (λ z. asking ((sym (turn-same g r c) ∙ (ap (λ (m : ℕ). turnFits s f m (4 * (40 * r + c))) (sym is) ∙ t)) z
-        && (sym (names-same g r c 0 v told) ∙ (ap (λ (m : ℕ). namesFit rows columns (bit r c) m r c) (sym is) ∙ u)) z) (afterGroup R g r c 0 v)) (j ∙ is)
-        (omega arith) (omega arith) (here ∙ ap (λ (m : ℕ). lineBytes (groupLine g r c 0 v) ++ drop m text) (sym i))
+  module _ (text : List ℕ) (at n r c d v next : ℕ) (g : Group) (is : n ≡ rank (within g)) (told : T (says g d v))
+      (here : drop at text ≡ lineBytes (groupLine g r c d v) ++ drop next text) where
+    turn-is : {x : Bool} → turnFits s f n (keyOf r c d) ≡ x → inTurn R g r c d ≡ x
+    turn-is t = sym (turn-same g r c d) ∙ (ap (λ (m : ℕ). turnFits s f m (keyOf r c d)) (sym is) ∙ t)
 
-    pub step-out-of-turn : turnFits s f n (4 * (40 * r + c)) ≡ false → Stepped text R at Wrong
+    names-is : {x : Bool} → namesFit rows columns o (bit r c) n r c d v ≡ x → names (R .job) g r c d v ≡ x
+    names-is u = sym (names-same g r c d v told) ∙ (ap (λ (m : ℕ). namesFit rows columns o (bit r c) m r c d v) (sym is) ∙ u)
+
+    pub step-group : (k : Cursor) → next ≤ length text → k .at ≡ next → k .stage ≡ n → k .from ≡ keyOf r c d + 1
+        → turnFits s f n (keyOf r c d) ≡ true → namesFit rows columns o (bit r c) n r c d v ≡ true → Stepped text R at (To k)
+    unfolding admit
+    step-group k l i j p t u =
+        byGroup {k = k} g r c d v (λ z. asking (turn-is t z && names-is u z) (afterGroup R g r c d v)) (j ∙ is) p (omega arith)
+        (here ∙ ap (λ (m : ℕ). lineBytes (groupLine g r c d v) ++ drop m text) (sym i))
+
+    pub step-out-of-turn : turnFits s f n (keyOf r c d) ≡ false → Stepped text R at Wrong
     unfolding admit
     step-out-of-turn t =
-        stops (line-refused R (drop at text) (groupLine g r c 0 v) (drop next text) told here
-        (λ z. asking ((sym (turn-same g r c) ∙ (ap (λ (m : ℕ). turnFits s f m (4 * (40 * r + c))) (sym is) ∙ t)) z && names (R .job) g r c 0 v)
-        (afterGroup R g r c 0 v)))
+        stops (line-refused R (drop at text) (groupLine g r c d v) (drop next text) told here
+        (λ z. asking (turn-is t z && names (R .job) g r c d v) (afterGroup R g r c d v)))
 
-    pub step-unnamed : namesFit rows columns (bit r c) n r c ≡ false → Stepped text R at Wrong
+    pub step-unnamed : namesFit rows columns o (bit r c) n r c d v ≡ false → Stepped text R at Wrong
     unfolding admit
     step-unnamed u =
-        stops (line-refused R (drop at text) (groupLine g r c 0 v) (drop next text) told here
-        ((λ z. asking (inTurn R g r c 0 && (sym (names-same g r c 0 v told) ∙ (ap (λ (m : ℕ). namesFit rows columns (bit r c) m r c) (sym is) ∙ u)) z)
-        (afterGroup R g r c 0 v))
-        ∙ ap (λ (b : Bool). asking b (afterGroup R g r c 0 v)) (and-false (inTurn R g r c 0))))
+        stops (line-refused R (drop at text) (groupLine g r c d v) (drop next text) told here
+        ((λ z. asking (inTurn R g r c d && names-is u z) (afterGroup R g r c d v))
+        ∙ ap (λ (b : Bool). asking b (afterGroup R g r c d v)) (and-false (inTurn R g r c d))))
 
   -- the end line at the offset
-  pub step-end : (text : List ℕ) (at next : ℕ) (k : Cursor) → s < 5 → next ≤ length text → k .at ≡ next → k .stage ≡ 5 → k .from ≡ 0
+  pub step-end : (text : List ℕ) (at next : ℕ) (k : Cursor) → s < 6 → next ≤ length text → k .at ≡ next → k .stage ≡ 6 → k .from ≡ 0
       → drop at text ≡ lineBytes endLine ++ drop next text → Stepped text R at (To k)
   unfolding admit
-  step-end text at next k l m i j o q =
-      byEnd {k = k} (λ z. asking (le-leb 1 (rank (R .stage)) (omega (arith, w .stage)) z && lt-ltb (rank (R .stage)) 5 (omega (arith, w .stage)) z)
-      (afterEnd R)) j o
+  step-end text at next k l n i j e q =
+      byEnd {k = k} (λ z. asking (le-leb 1 (rank (R .stage)) (omega (arith, w .stage)) z && lt-ltb (rank (R .stage)) 6 (omega (arith, w .stage)) z)
+      (afterEnd R)) j e
       (omega arith) (q ∙ ap (λ (p : ℕ). lineBytes endLine ++ drop p text) (sym i))
 
   -- no line of a group and no end line at the offset
   pub step-wrong : (text : List ℕ) (at : ℕ) → LineAt text at WrongLine → Stepped text R at Wrong
-  step-wrong text at f = stops (none-stands R text at (omega (arith, w .stage)) (omega (arith, w .high)) (omega (arith, w .wide)) f)
+  step-wrong text at f = stops (none-stands R text at (omega (arith, w .stage)) (omega (arith, w .high)) (omega (arith, w .wide)) (omega (arith, w .most)) f)

@@ -1,14 +1,13 @@
 -- The tests of a line of a group, branch by branch, as the code makes them. Assumes nothing.
-use mathlib.Core.Path.{_≡_, refl, sym, ap, _∙_}
+use mathlib.Core.Path.{_≡_, sym, ap, _∙_}
 use mathlib.Core.Logic.{_≢_}
 use mathlib.Core.Bool.{Bool, true, false, not, _&&_}
-use Prim.Native.Nat.{ℕ, suc, _+_, _≤_, _<_}
-use native.Mathlib.Numerals.{add-one}
+use Prim.Native.Nat.{ℕ, suc, _≤_, _<_}
 use native.Mathlib.Omega.{arith}
 use lib.Dec.{eqb, leb, ltb}
 use borrow.Author.Tests.{lt-ltb, le-ltb, le-leb, lt-leb, eq-eqb, ne-eqb}
 use Rattle.sums.specs.Counting.{when}
-use Rattle.sums.specs.Tests.{Same, same, other, same?}
+use Rattle.model.specs.Text.{writesSide}
 use Rattle.text.specs.Reader.{turnFits, namesFit}
 
 module _ (stage from group key : ℕ) where
@@ -22,35 +21,34 @@ module _ (stage from group key : ℕ) where
   turn-later l n =
       sym ((λ i. le-leb stage group l i && leb (when (ne-eqb stage group (λ e. n (sym e)) i) from) key) ∙ le-leb 0 key (omega arith))
 
-module _ (rows columns : ℕ) (b : Bool) (group r c : ℕ) where
-  module _ (tile : group ≡ 4) where
-    names-tile : namesFit rows columns b group r c ≡ (ltb (suc r) rows && ltb (suc c) columns)
-    names-tile = ap (λ (g : ℕ). namesFit rows columns b g r c) tile
+module _ (rows columns o : ℕ) (b : Bool) (group r c d v : ℕ) where
+  abbrev tile : Bool
+  tile = ltb (suc r) rows && ltb (suc c) columns
 
-    pub tile-row : r + 1 < rows → ltb (c + 1) columns ≡ namesFit rows columns b group r c
-    tile-row l = sym (names-tile ∙ (λ i. lt-ltb (suc r) rows (omega arith) i && ltb (sym (add-one c) i) columns))
+  pub names-side : group ≡ 5 → (tile && (writesSide r c d && leb v o)) ≡ namesFit rows columns o b group r c d v
+  names-side e = sym (ap (λ (g : ℕ). namesFit rows columns o b g r c d v) e)
 
-    pub tile-none : rows ≤ r + 1 → false ≡ namesFit rows columns b group r c
-    tile-none l = sym (names-tile ∙ ap (λ (x : Bool). x && ltb (suc c) columns) (le-ltb (suc r) rows (omega arith)))
+  pub names-tile : group ≡ 4 → tile ≡ namesFit rows columns o b group r c d v
+  names-tile e = sym (ap (λ (g : ℕ). namesFit rows columns o b g r c d v) e)
 
-  module _ (pin : group ≢ 4) where
-    names-pin : namesFit rows columns b group r c ≡ ((ltb r rows && ltb c columns) && not (eqb group 3 && b))
-    names-pin = by (eqb group 4) (same? group 4)
-      where
-        by : (x : Bool) → Same group 4 x
-            → elim x as (λ y. Bool) [ true ↦ ltb (suc r) rows && ltb (suc c) columns | false ↦ (ltb r rows && ltb c columns) && not (eqb group 3 && b) ]
-            ≡ ((ltb r rows && ltb c columns) && not (eqb group 3 && b))
-        by true (same e) = absurd (pin e)
-        by false (other n) = refl
+  module _ (noSide : group ≢ 5) (noTile : group ≢ 4) where
+    names-pin : namesFit rows columns o b group r c d v ≡ ((ltb r rows && ltb c columns) && not (eqb group 3 && b))
+    names-pin = λ i. elim (ne-eqb group 5 noSide i) as (λ y. Bool) [
+      | true ↦ tile && (writesSide r c d && leb v o)
+      | false ↦ elim (ne-eqb group 4 noTile i) as (λ y. Bool) [
+        | true ↦ tile
+        | false ↦ (ltb r rows && ltb c columns) && not (eqb group 3 && b)
+      ]
+    ]
 
-    pub pin-row : rows ≤ r → false ≡ namesFit rows columns b group r c
+    pub pin-row : rows ≤ r → false ≡ namesFit rows columns o b group r c d v
     pin-row l = sym (names-pin ∙ ap (λ (x : Bool). (x && ltb c columns) && not (eqb group 3 && b)) (le-ltb r rows l))
 
-    pub pin-column : r < rows → columns ≤ c → false ≡ namesFit rows columns b group r c
+    pub pin-column : r < rows → columns ≤ c → false ≡ namesFit rows columns o b group r c d v
     pin-column k l = sym (names-pin ∙ (λ i. (lt-ltb r rows k i && le-ltb c columns l i) && not (eqb group 3 && b)))
 
-    pub pin-missing : r < rows → c < columns → group ≡ 3 → not b ≡ namesFit rows columns b group r c
+    pub pin-missing : r < rows → c < columns → group ≡ 3 → not b ≡ namesFit rows columns o b group r c d v
     pin-missing k l e = sym (names-pin ∙ (λ i. (lt-ltb r rows k i && lt-ltb c columns l i) && not (eq-eqb group 3 e i && b)))
 
-    pub pin-chosen : r < rows → c < columns → group ≢ 3 → true ≡ namesFit rows columns b group r c
+    pub pin-chosen : r < rows → c < columns → group ≢ 3 → true ≡ namesFit rows columns o b group r c d v
     pin-chosen k l n = sym (names-pin ∙ (λ i. (lt-ltb r rows k i && lt-ltb c columns l i) && not (ne-eqb group 3 n i && b)))

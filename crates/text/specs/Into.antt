@@ -9,11 +9,11 @@ use Rattle.model.specs.Record.{recordSize, unwiredRecord, over}
 use Rattle.text.specs.declared.reader.Judged.{Judged}
 use Rattle.text.specs.declared.reader.Judged.the-variants.{Reads, WrongAt}
 
--- whatever job `rec` are the bytes of, `out` are those of the job with the value that a line of a group gives its pin or tile
-abbrev pub Names : List ℕ → ℕ → ℕ → ℕ → ℕ → List ℕ → Type 0
-Names rec group r c value out =
+-- whatever job `rec` are the bytes of, `out` are those of the job with the value that a line of a group gives its pin, tile or side
+abbrev pub Names : List ℕ → ℕ → ℕ → ℕ → ℕ → ℕ → List ℕ → Type 0
+Names rec group r c d value out =
     (J : Job) (under : List ℕ) (g : Group) → group ≡ rank (within g) → recordSize ≤ length under → rec ≡ over (unwiredRecord J) under
-    → out ≡ over (unwiredRecord (named J g r c 0 value)) under
+    → out ≡ over (unwiredRecord (named J g r c d value)) under
 
 -- the text is a job's
 abbrev pub Readable : List ℕ → Type 0

@@ -10,7 +10,7 @@ use lib.Dec.{T, eqb, leb, ltb}
 use lib.ListN.{length, getD, drop}
 use Rattle.sums.specs.Counting.{when}
 use Rattle.model.specs.Job.{Job, arrayFits, capsAdmitted}
-use Rattle.model.specs.Text.{Group, Line, arrayLine, groupLine, endLine, lineBytes, finished, within, rank, keyOf}
+use Rattle.model.specs.Text.{Group, Line, arrayLine, groupLine, endLine, lineBytes, finished, within, rank, keyOf, writesSide}
 use Rattle.model.specs.Text.{Reader, named, admit, reads, wrongAt, Reading}
 use Rattle.line.specs.declared.lines.Opening.{Opening}
 use Rattle.line.specs.declared.lines.Opening.the-variants.{Array, Wrong as WrongOpening}
@@ -33,20 +33,24 @@ Opens text WrongOpening = Reading text (wrongAt 0)
 abbrev pub turnFits : ℕ → ℕ → ℕ → ℕ → Bool
 turnFits stage from group key = leb stage group && leb (when (eqb stage group) from) key
 
--- the array has the tile, or the pin; a missing pin is not chosen
-abbrev pub namesFit : ℕ → ℕ → Bool → ℕ → ℕ → ℕ → Bool
-namesFit rows columns isChosen group r c =
-    elim (eqb group 4) [
-      | true ↦ ltb (suc r) rows && ltb (suc c) columns
-      | false ↦ (ltb r rows && ltb c columns) && not (eqb group 3 && isChosen)
+-- the array has the tile, or the pin; a missing pin is not chosen; the tile writes the side, and the count is at most O
+abbrev pub namesFit : ℕ → ℕ → ℕ → Bool → ℕ → ℕ → ℕ → ℕ → ℕ → Bool
+namesFit rows columns o isChosen group r c d v =
+    elim (eqb group 5) [
+      | true ↦ (ltb (suc r) rows && ltb (suc c) columns) && (writesSide r c d && leb v o)
+      | false ↦ elim (eqb group 4) [
+        | true ↦ ltb (suc r) rows && ltb (suc c) columns
+        | false ↦ (ltb r rows && ltb c columns) && not (eqb group 3 && isChosen)
+      ]
     ]
 
--- the reader R is where the numbers say, in an array of that size, with these pins chosen
-pub record Follows (R : Reader) (s f rows columns : ℕ) (chosen : List ℕ) : Type 0 where
+-- the reader R is where the numbers say, in an array of that size and O, with these pins chosen
+pub record Follows (R : Reader) (s f rows columns o : ℕ) (chosen : List ℕ) : Type 0 where
   pub stage : s ≡ rank (R .stage)
   pub from : f ≡ R .from
   pub high : R .job .rows ≡ rows
   pub wide : R .job .columns ≡ columns
+  pub most : R .job .O ≡ o
   pub marks : (r c : ℕ) → r < 40 → c < 40 → eqb (getD chosen (40 * r + c) 0) 1 ≡ eqb (R .job .mark r c) 1
 
 -- the reader after a line of a group, and after the end line
@@ -60,13 +64,13 @@ afterEnd R = record { stage = finished; from = 0; job = R .job }
 pub data Stepped (text : List ℕ) (R : Reader) (at : ℕ) : Step → Type 0 where
   byGroup : {k : Cursor} (g : Group) (r c d v : ℕ) → admit R (groupLine g r c d v) ≡ some (afterGroup R g r c d v) → k .stage ≡ rank (within g)
       → k .from ≡ keyOf r c d + 1 → k .at ≤ length text → drop at text ≡ lineBytes (groupLine g r c d v) ++ drop (k .at) text → Stepped text R at (To k)
-  byEnd : {k : Cursor} → admit R endLine ≡ some (afterEnd R) → k .stage ≡ 5 → k .from ≡ 0 → k .at ≤ length text
+  byEnd : {k : Cursor} → admit R endLine ≡ some (afterEnd R) → k .stage ≡ 6 → k .from ≡ 0 → k .at ≤ length text
       → drop at text ≡ lineBytes endLine ++ drop (k .at) text → Stepped text R at (To k)
   stops : ((l : Line) (R′ : Reader) (rest : List ℕ) → admit R l ≡ some R′ → drop at text ≢ lineBytes l ++ rest) → Stepped text R at Wrong
 
 -- the line at the cursor leads every reader there that the cursor, the size and the marks follow
-abbrev pub Leads : List ℕ → Cursor → ℕ → ℕ → List ℕ → Step → Type 0
-Leads text k rows columns chosen r = (R : Reader) → Follows R (k .stage) (k .from) rows columns chosen → Stepped text R (k .at) r
+abbrev pub Leads : List ℕ → Cursor → ℕ → ℕ → ℕ → List ℕ → Step → Type 0
+Leads text k rows columns o chosen r = (R : Reader) → Follows R (k .stage) (k .from) rows columns o chosen → Stepped text R (k .at) r
 
 -- ---- the whole text
 

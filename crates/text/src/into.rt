@@ -5,17 +5,22 @@ use line::held::next_line;
 use line::lines::Line;
 use line::lines::Opening;
 use line::lines::array_at;
+ghost use mathlib.Core.Path.{_≡_};
 ghost use Prim.Native.Nat.{_≤_, _<_};
 ghost use lib.ListN.{length};
 ghost use Rattle.model.specs.Record.{recordSize};
 ghost use Rattle.text.specs.Into.{Names, Readable, Holds, ReadsInto};
 
-// The value of a group's line in the record: a closed tile's state, or a pin's mark.
-fn write_line(rec: &mut [u8], group: usize, row: usize, column: usize, value: usize)
+// The value of a group's line in the record: a side's count, a closed tile's state, or a pin's mark.
+fn write_line(rec: &mut [u8], group: usize, row: usize, column: usize, side: usize, value: usize)
     requires { ⌜ recordSize ≤ length (now rec) ⌝ }
-    requires { ⌜ (row < 40) × (column < 40) × (value < 100) ⌝ }
-    ensures { λ _. ⌜ Names (now (rec .entry)) group row column value (now (rec .exit)) ⌝ }
+    requires { ⌜ (row < 40) × (column < 40) × (group ≡ 5 → (row < 39) × (column < 39)) × (value < 100) ⌝ }
+    ensures { λ _. ⌜ Names (now (rec .entry)) group row column side value (now (rec .exit)) ⌝ }
 {
+    if group == 5 {
+        channel::set_laid(rec, row, column, side, value);
+        return;
+    }
     if group == 4 {
         channel::set_state(rec, row, column, value);
         return;
@@ -47,13 +52,14 @@ fn write_job(text: &[u8], rec: &mut [u8])
             group,
             row,
             column,
+            side,
             value,
             next,
         } = next_line(text, at)
         else {
             return;
         };
-        write_line(rec, group, row, column, value);
+        write_line(rec, group, row, column, side, value);
         at = next;
     }
 }

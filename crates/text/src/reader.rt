@@ -3,12 +3,14 @@ use line::held::next_line;
 use line::lines::Line;
 use line::lines::Opening;
 use line::lines::array_at;
+use line::lines::writes_side;
 use model::Array;
 use model::Capacities;
 ghost use mathlib.Core.Path.{_≡_};
-ghost use Prim.Native.Nat.{_+_, _*_, _≤_, _<_};
+ghost use mathlib.Core.Bool.{_&&_};
+ghost use Prim.Native.Nat.{suc, _+_, _*_, _≤_, _<_};
 ghost use lib.ListN.{length, getD};
-ghost use lib.Dec.{eqb};
+ghost use lib.Dec.{eqb, ltb};
 ghost use Rattle.text.specs.Reader.{turnFits, namesFit, Opens, Leads, Judges};
 
 // What a text is: a job's, or wrong at a line's offset.
@@ -54,23 +56,35 @@ pub fn opened(text: &[u8]) -> Opening
     }
 }
 
-// Whether the array has the pin or tile that a line of a group names, and no other group names the pin.
+// Whether the array has a tile.
+fn has_tile(rows: usize, columns: usize, row: usize, column: usize) -> bool
+    requires { ⌜ (row < 100) × (column < 100) ⌝ }
+    ensures { λ r. ⌜ r ≡ (ltb (suc row) rows && ltb (suc column) columns) ⌝ }
+{
+    (row + 1 < rows) & (column + 1 < columns)
+}
+
+// Whether the array has the pin, tile or side that a line of a group names, and no other group names the pin; a count is at most O.
 fn names(
     rows: usize,
     columns: usize,
+    o: usize,
     chosen: &[u8; 1600],
     group: usize,
     row: usize,
     column: usize,
+    side: usize,
+    value: usize,
 ) -> bool
     requires { ⌜ (rows ≤ 40) × (columns ≤ 40) × (row < 100) × (column < 100) ⌝ }
-    ensures { λ r. ⌜ r ≡ namesFit rows columns (eqb (getD (now (chosen .entry)) (40 * row + column) 0) 1) group row column ⌝ }
+    ensures { λ r. ⌜ r ≡ namesFit rows columns o (eqb (getD (now (chosen .entry)) (40 * row + column) 0) 1) group row column side value ⌝ }
 {
+    if group == 5 {
+        let counted = writes_side(row, column, side) & (value <= o);
+        return has_tile(rows, columns, row, column) & counted;
+    }
     if group == 4 {
-        if row + 1 < rows {
-            return column + 1 < columns;
-        }
-        return false;
+        return has_tile(rows, columns, row, column);
     }
     if row >= rows {
         return false;
@@ -84,7 +98,7 @@ fn names(
     true
 }
 
-// The offset of the next line; the stage: 1 after the array, 2, 3, 4 in a group, 5 after the end; the least key that the group may still have.
+// The offset of the next line; the stage: 1 after the array, 2 to 5 in a group, 6 after the end; the least key that the group may still have.
 pub struct Cursor {
     pub at: usize,
     pub stage: usize,
@@ -112,9 +126,16 @@ impl Cursor {
     }
 
     // The next line, if it may stand there.
-    pub fn next(self, text: &[u8], rows: usize, columns: usize, chosen: &[u8; 1600]) -> Step
-        requires { ⌜ (self .at ≤ length (now text)) × (1 ≤ self .stage) × (self .stage < 5) × (rows ≤ 40) × (columns ≤ 40) ⌝ }
-        ensures { λ r. ⌜ Leads (now (text .entry)) self rows columns (now (chosen .entry)) r ⌝ }
+    pub fn next(
+        self,
+        text: &[u8],
+        rows: usize,
+        columns: usize,
+        o: usize,
+        chosen: &[u8; 1600],
+    ) -> Step
+        requires { ⌜ (self .at ≤ length (now text)) × (1 ≤ self .stage) × (self .stage < 6) × (rows ≤ 40) × (columns ≤ 40) × (o ≤ 8) ⌝ }
+        ensures { λ r. ⌜ Leads (now (text .entry)) self rows columns o (now (chosen .entry)) r ⌝ }
     {
         let at = self.at;
         match next_line(text, at) {
@@ -122,14 +143,15 @@ impl Cursor {
                 group,
                 row,
                 column,
-                value: _,
+                side,
+                value,
                 next,
             } => {
-                let key = 4 * (40 * row + column);
+                let key = 4 * (40 * row + column) + side;
                 if !self.in_turn(group, key) {
                     return Step::Wrong;
                 }
-                if !names(rows, columns, chosen, group, row, column) {
+                if !names(rows, columns, o, chosen, group, row, column, side, value) {
                     return Step::Wrong;
                 }
                 Step::To(Cursor {
@@ -140,7 +162,7 @@ impl Cursor {
             }
             Line::End { next } => Step::To(Cursor {
                 at: next,
-                stage: 5,
+                stage: 6,
                 from: 0,
             }),
             Line::Wrong => Step::Wrong,
@@ -155,7 +177,7 @@ pub fn judge(text: &[u8]) -> Judged
     let Opening::Array {
         rows,
         columns,
-        o: _,
+        o,
         d: _,
         e: _,
         next,
@@ -169,8 +191,8 @@ pub fn judge(text: &[u8]) -> Judged
         stage: 1,
         from: 0,
     };
-    while cursor.stage < 5 {
-        let Step::To(then) = cursor.next(text, rows, columns, &chosen) else {
+    while cursor.stage < 6 {
+        let Step::To(then) = cursor.next(text, rows, columns, o, &chosen) else {
             return Judged::WrongAt(cursor.at);
         };
         if then.stage == 2 {

@@ -18,7 +18,7 @@ use Rattle.line.specs.declared.lines.Line.the-variants.{Group, End, Wrong}
 use Rattle.line.specs.Lines.{LineAt, ArrayAt}
 use Rattle.text.proofs.Standing.{open-wrong}
 use Rattle.text.proofs.Midway.{line-length}
-use Rattle.text.proofs.Writing.{Writing, writing-open, group-cell, writing-group, writing-ended, writing-wrong, not-both}
+use Rattle.text.proofs.Writing.{Writing, writing-open, group-cell, group-tile, writing-group, writing-ended, writing-wrong, not-both}
 use Rattle.line.proofs.lines.Line.{enum}
 use Rattle.text.proofs.into.write_job.Statement.{statement}
 use Rattle.text.proofs.into.write_job.Tie as tie
@@ -33,8 +33,8 @@ abbrev μ-loop : tie.MeasureT-loop
 -- a line that is no group's ends the job
 ends : {text rec : List ℕ} {K : Job} {at : ℕ} {out : List ℕ} → Writing text rec K at out → (l : Line)
     → (tagOf (declared enum) l ≡ 1) ⊎ (tagOf (declared enum) l ≡ 2) → LineAt text at l → out ≡ over (unwiredRecord K) rec
-ends w (Group n r c v next) (inl e) f = absurd (omega arith)
-ends w (Group n r c v next) (inr e) f = absurd (omega arith)
+ends w (Group n r c d v next) (inl e) f = absurd (omega arith)
+ends w (Group n r c d v next) (inr e) f = absurd (omega arith)
 ends w (End next) t f = writing-ended w next f
 ends w Wrong t f = absurd (writing-wrong w f)
 
@@ -118,8 +118,10 @@ write-line-requires c κs =
     let q = p .0 .1 in
     let (K, h) = c16 .pre .1 in
     let f = subst (LineAt t (l .at)) (p .1) (c4 .next-line .ensures) in
-    let b = group-cell (l .inv .3 K h) (l .inv .2) (p .0 .0) (q .0) (q .1 .0) (q .1 .1 .0) (q .1 .1 .1 .0) f in
-    (omega (arith, l .inv .0, l .inv .1), (b .0, b .1, f .5))
+    let w = l .inv .3 K h in
+    let b = group-cell w (l .inv .2) (p .0 .0) (q .0) (q .1 .0) (q .1 .1 .0) (q .1 .1 .1 .0) (q .1 .1 .1 .1 .0) f in
+    let t = group-tile w (l .inv .2) (p .0 .0) (q .0) (q .1 .0) (q .1 .1 .0) (q .1 .1 .1 .0) (q .1 .1 .1 .1 .0) f in
+    (omega (arith, l .inv .0, l .inv .1), (b .0, b .1, t, f .5))
 
 loop-less : tie.Need-loop-less Inv-loop μ-loop
 loop-less c =
@@ -132,7 +134,7 @@ loop-less c =
     let p = c5 .group .given in
     let f = subst (LineAt t (l .at)) (p .1) (c7 .next-line .ensures) in
     let q = p .0 .1 in
-    let b = line-length t (l .at) (q .1 .1 .1 .0) (groupLine (f .0) (q .0) (q .1 .0) 0 (q .1 .1 .0)) (l .inv .2) (f .6) (f .7) in
+    let b = line-length t (l .at) (q .1 .1 .1 .1 .0) (groupLine (f .0) (q .0) (q .1 .0) (q .1 .1 .0) (q .1 .1 .1 .0)) (l .inv .2) (f .6) (f .7) in
     omega (arith, b .1, f .6)
 
 loop-again : tie.Need-loop-again Inv-loop μ-loop
@@ -151,7 +153,7 @@ loop-again c =
       c2 .write-line .kept .0 ∙ l .inv .1,
       f .6,
       λ K h. let w = l .inv .3 K h in
-          writing-group w (l .inv .2) (p .0 .0) (q .0) (q .1 .0) (q .1 .1 .0) (q .1 .1 .1 .0) f (c2 .write-line .last .0)
+          writing-group w (l .inv .2) (p .0 .0) (q .0) (q .1 .0) (q .1 .1 .0) (q .1 .1 .1 .0) (q .1 .1 .1 .1 .0) f (c2 .write-line .last .0)
           (c2 .write-line .ensures (w .reader .job) _ (f .0) (f .1) (l .inv .0) (w .here)),
     )
 

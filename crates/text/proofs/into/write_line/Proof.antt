@@ -1,16 +1,23 @@
--- `write_line` names a pin or tile in a record: a closed tile by its state, any other line by its mark. Assumes nothing.
+-- `write_line` names a pin, tile or side in a record: a side by its count, a closed tile by its state, any other line by its mark. Assumes nothing.
 use mathlib.Core.Path.{sym, ap, _∙_}
 use mathlib.Core.List.{List}
 use Prim.Native.Nat.{ℕ}
+use native.Mathlib.Omega.{arith}
 use lib.ListN.{set}
 use borrow.Author.Needs.{needs}
+use Rattle.model.specs.Job.{sideOf}
 use Rattle.model.specs.Record.{markPlane, statePlane, offset}
-use Rattle.text.proofs.Writing.{named-closed, named-marked}
+use Rattle.channel.specs.Laid.{sideOffset}
+use Rattle.text.proofs.Writing.{named-laid, named-closed, named-marked}
 use Rattle.text.proofs.into.write_line.Statement.{statement}
 use Rattle.text.proofs.into.write_line.Tie as tie
 
-set-state-requires : tie.Need-set-state-requires
-set-state-requires c κs = search needs
+set-laid-requires : tie.Need-set-laid-requires
+set-laid-requires c κs =
+    let c3 = c .before .before .before in
+    let s = c3 in
+    let t = s .pre .1 .2 (c .before .if1 .taken) in
+    (s .pre .0, (t .0, t .1, omega (arith, s .pre .1 .3)))
 
 same-length : tie.Need-same-length
 same-length c = search needs
@@ -20,16 +27,17 @@ returns c =
     let c2 = c .before .before in
     let c4 = c2 .before .before in
     let c6 = c4 .before .before in
-    let r = c6 .args .row in
-    let k = c6 .args .column in
-    let v = c6 .args .value in
-    let p = c6 .pre .1 in
+    let s = c6 in
+    let a = s .args in
+    let p = s .pre .1 in
+    let t = p .2 (c4 .if1 .taken) in
     λ J under g i l e.
-    c2 .set-state .ensures
-    ∙ (ap (λ (s : List ℕ). set s (offset statePlane r k) v) e ∙ named-closed J under r k 0 v (p .0) (p .1) l g (sym i ∙ c4 .if1 .taken))
+    c2 .set-laid .ensures
+    ∙ (ap (λ (b : List ℕ). set b (sideOffset (sideOf (a .row) (a .column) (a .side))) (a .value)) e
+    ∙ named-laid J under (a .row) (a .column) (a .side) (a .value) (p .0) (p .1) l (t .0) (t .1) g (sym i ∙ c4 .if1 .taken))
 
-set-mark-requires : tie.Need-set-mark-requires
-set-mark-requires c κs = search needs
+set-state-requires : tie.Need-set-state-requires
+set-state-requires c κs = search needs
 
 same-length-2 : tie.Need-same-length-2
 same-length-2 c = search needs
@@ -38,22 +46,45 @@ returns-2 : tie.Need-returns-2
 returns-2 c =
     let c2 = c .before .before in
     let c4 = c2 .before .before in
-    let c6 = c4 .before .before in
-    let r = c6 .args .row in
-    let k = c6 .args .column in
-    let v = c6 .args .value in
-    let p = c6 .pre .1 in
+    let c7 = c4 .before .before .before in
+    let s = c7 in
+    let a = s .args in
+    let p = s .pre .1 in
+    λ J under g i l e.
+    c2 .set-state .ensures
+    ∙ (ap (λ (b : List ℕ). set b (offset statePlane (a .row) (a .column)) (a .value)) e
+    ∙ named-closed J under (a .row) (a .column) (a .side) (a .value) (p .0) (p .1) l g (sym i ∙ c4 .if2 .taken))
+
+set-mark-requires : tie.Need-set-mark-requires
+set-mark-requires c κs = search needs
+
+same-length-3 : tie.Need-same-length-3
+same-length-3 c = search needs
+
+returns-3 : tie.Need-returns-3
+returns-3 c =
+    let c2 = c .before .before in
+    let c4 = c2 .before .before in
+    let c5 = c4 .before in
+    let c7 = c5 .before .before in
+    let s = c7 in
+    let a = s .args in
+    let p = s .pre .1 in
     λ J under g i l e.
     c2 .set-mark .ensures
-    ∙ (ap (λ (s : List ℕ). set s (offset markPlane r k) v) e ∙ named-marked J under r k 0 v (p .0) (p .1) l g (λ x. c4 .if1 .left (i ∙ x)))
+    ∙ (ap (λ (b : List ℕ). set b (offset markPlane (a .row) (a .column)) (a .value)) e
+    ∙ named-marked J under (a .row) (a .column) (a .side) (a .value) (p .0) (p .1) l g (λ x. c5 .if1 .left (i ∙ x)) (λ x. c4 .if2 .left (i ∙ x)))
 
 pub write-line-spec : {M : Type 1} → statement M
 write-line-spec =
     tie.close
     (tie.spec
-    set-state-requires
+    set-laid-requires
     same-length
     returns
-    set-mark-requires
+    set-state-requires
     same-length-2
-    returns-2)
+    returns-2
+    set-mark-requires
+    same-length-3
+    returns-3)

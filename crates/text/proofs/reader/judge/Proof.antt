@@ -12,10 +12,10 @@ use Rattle.text.proofs.reader.judge.Statement.{statement}
 use Rattle.text.proofs.reader.judge.Tie as tie
 
 abbrev Inv-loop : tie.InvT-loop
-Inv-loop text rows columns next chosen₀ cursor₀ chosen cursor = Midway text (cursor .at) (cursor .stage) (cursor .from) rows columns chosen
+Inv-loop text rows columns o next chosen₀ cursor₀ chosen cursor = Midway text (cursor .at) (cursor .stage) (cursor .from) rows columns o chosen
 
 abbrev μ-loop : tie.MeasureT-loop
-μ-loop text rows columns next chosen₀ cursor₀ chosen cursor = length text - cursor .at
+μ-loop text rows columns o next chosen₀ cursor₀ chosen cursor = length text - cursor .at
 
 opened-requires : tie.Need-opened-requires Inv-loop μ-loop
 opened-requires c κs = search needs
@@ -45,7 +45,7 @@ next-requires : tie.Need-next-requires Inv-loop μ-loop
 next-requires c κs =
     let c3 = c .before .before .before in
     let m = c3 .loop .inv in
-    (m .within, m .begun, c .before .if1 .taken, m .high, m .wide)
+    (m .within, m .begun, c .before .if1 .taken, m .high, m .wide, m .most)
 
 enum-known-then : tie.Need-enum-known-then Inv-loop μ-loop
 enum-known-then c = search needs

@@ -4,6 +4,7 @@ use native.Mathlib.Omega.{arith}
 use denote.Ref.{now}
 use borrow.Author.Needs.{needs}
 use borrow.Author.Tests.{not-true, not-false}
+use Rattle.model.proofs.TextNames.{says-some}
 use Rattle.line.specs.Lines.{LineAt}
 use Rattle.text.proofs.Standing.{step-group, step-out-of-turn, step-unnamed, step-end, step-wrong}
 use Rattle.text.proofs.reader.Cursor.next.Statement.{statement}
@@ -39,6 +40,16 @@ mul-key-2 c =
     let f = subst (LineAt (now (a .text)) (a .self .at)) (c .before .group .given .1) (c3 .next-line .ensures) in
     omega (arith, f .3, f .4)
 
+add-key-2 : tie.Need-add-key-2
+add-key-2 c =
+    let c3 = c .before .before .before in
+    let c5 = c3 .before .before in
+    let a = c5 .args in
+    let p = c .before .group .given in
+    let f = subst (LineAt (now (a .text)) (a .self .at)) (p .1) (c3 .next-line .ensures) in
+    let d = says-some (f .0) (p .0 .1 .1 .1 .0) (p .0 .1 .1 .1 .1 .0) (f .2) in
+    omega (arith, f .3, f .4, d .0)
+
 in-turn-requires : tie.Need-in-turn-requires
 in-turn-requires c κs = search needs
 
@@ -52,8 +63,8 @@ returns c =
     let p = c3 .group .given in
     let f = subst (LineAt (now (a .text)) (a .self .at)) (p .1) (c5 .next-line .ensures) in
     λ R w.
-    step-out-of-turn w (s .pre .1) (s .pre .3) (s .pre .4) (now (a .text)) (a .self .at)
-    (p .0 .0) (p .0 .1 .0) (p .0 .1 .1 .0) (p .0 .1 .1 .1 .0) (p .0 .1 .1 .1 .1 .0) (f .0) (f .1) (f .2) (f .7) (sym (c .before .in-turn .ensures) ∙ not-true _ (c .if1 .taken))
+    step-out-of-turn w (s .pre .1) (s .pre .3) (s .pre .4) (s .pre .5) (now (a .text)) (a .self .at)
+    (p .0 .0) (p .0 .1 .0) (p .0 .1 .1 .0) (p .0 .1 .1 .1 .0) (p .0 .1 .1 .1 .1 .0) (p .0 .1 .1 .1 .1 .1 .0) (f .0) (f .1) (f .2) (f .7) (sym (c .before .in-turn .ensures) ∙ not-true _ (c .if1 .taken))
 
 names-requires : tie.Need-names-requires
 names-requires c κs =
@@ -75,17 +86,19 @@ returns-2 c =
     let p = c5 .group .given in
     let f = subst (LineAt (now (a .text)) (a .self .at)) (p .1) (c7 .next-line .ensures) in
     λ R w.
-    step-unnamed w (s .pre .1) (s .pre .3) (s .pre .4) (now (a .text)) (a .self .at)
-    (p .0 .0) (p .0 .1 .0) (p .0 .1 .1 .0) (p .0 .1 .1 .1 .0) (p .0 .1 .1 .1 .1 .0) (f .0) (f .1) (f .2) (f .7) (sym (c .before .names .ensures) ∙ not-true _ (c .if2 .taken))
+    step-unnamed w (s .pre .1) (s .pre .3) (s .pre .4) (s .pre .5) (now (a .text)) (a .self .at)
+    (p .0 .0) (p .0 .1 .0) (p .0 .1 .1 .0) (p .0 .1 .1 .1 .0) (p .0 .1 .1 .1 .1 .0) (p .0 .1 .1 .1 .1 .1 .0) (f .0) (f .1) (f .2) (f .7) (sym (c .before .names .ensures) ∙ not-true _ (c .if2 .taken))
 
-add-t15 : tie.Need-add-t15
-add-t15 c =
+add-t18 : tie.Need-add-t18
+add-t18 c =
     let c5 = c .before .before .before .before .before in
     let c7 = c5 .before .before in
     let c9 = c7 .before .before in
     let a = c9 .args in
-    let f = subst (LineAt (now (a .text)) (a .self .at)) (c5 .group .given .1) (c7 .next-line .ensures) in
-    omega (arith, f .3, f .4)
+    let p = c5 .group .given in
+    let f = subst (LineAt (now (a .text)) (a .self .at)) (p .1) (c7 .next-line .ensures) in
+    let d = says-some (f .0) (p .0 .1 .1 .1 .0) (p .0 .1 .1 .1 .1 .0) (f .2) in
+    omega (arith, f .3, f .4, d .0)
 
 enum-known-next : tie.Need-enum-known-next
 enum-known-next c = search needs
@@ -105,8 +118,8 @@ returns-3 c =
     let p = c5 .group .given in
     let f = subst (LineAt (now (a .text)) (a .self .at)) (p .1) (c7 .next-line .ensures) in
     λ R w.
-    step-group w (s .pre .1) (s .pre .3) (s .pre .4) (now (a .text)) (a .self .at)
-    (p .0 .0) (p .0 .1 .0) (p .0 .1 .1 .0) (p .0 .1 .1 .1 .0) (p .0 .1 .1 .1 .1 .0) (f .0) (f .1) (f .2) (f .7) _ (f .6) refl refl refl
+    step-group w (s .pre .1) (s .pre .3) (s .pre .4) (s .pre .5) (now (a .text)) (a .self .at)
+    (p .0 .0) (p .0 .1 .0) (p .0 .1 .1 .0) (p .0 .1 .1 .1 .0) (p .0 .1 .1 .1 .1 .0) (p .0 .1 .1 .1 .1 .1 .0) (f .0) (f .1) (f .2) (f .7) _ (f .6) refl refl refl
     (sym (c3 .in-turn .ensures) ∙ not-false _ (c2 .if1 .left)) (sym (c .before .names .ensures) ∙ not-false _ (c .if2 .left))
 
 returns-4 : tie.Need-returns-4
@@ -118,7 +131,7 @@ returns-4 c =
     let p = c .before .next .given in
     let f = subst (LineAt (now (a .text)) (a .self .at)) (p .1) (c3 .next-line .ensures) in
     λ R w.
-    step-end w (s .pre .1) (s .pre .3) (s .pre .4) (now (a .text)) (a .self .at) (p .0 .0)
+    step-end w (s .pre .1) (s .pre .3) (s .pre .4) (s .pre .5) (now (a .text)) (a .self .at) (p .0 .0)
     _ (s .pre .2) (f .0) refl refl refl (f .1)
 
 returns-5 : tie.Need-returns-5
@@ -128,7 +141,7 @@ returns-5 c =
     let s = c4 in
     let a = s .args in
     λ R w.
-    step-wrong w (s .pre .1) (s .pre .3) (s .pre .4) (now (a .text)) (a .self .at)
+    step-wrong w (s .pre .1) (s .pre .3) (s .pre .4) (s .pre .5) (now (a .text)) (a .self .at)
     (subst (LineAt (now (a .text)) (a .self .at)) (c .enum-told .given .1) (c2 .next-line .ensures))
 
 pub next-spec : {M : Type 1} → statement M
@@ -140,11 +153,12 @@ next-spec =
     mul-key
     add-key
     mul-key-2
+    add-key-2
     in-turn-requires
     returns
     names-requires
     returns-2
-    add-t15
+    add-t18
     enum-known-next
     enum-told
     returns-3
