@@ -197,7 +197,7 @@ void table(std::vector<Column> &columns) {
         for (Column &c : columns) std::printf(" %.1f |", c.time([&](Host &h) { return call(c, h); }));
         std::printf("\n");
     };
-    Bytes text(320200);
+    Bytes text(576240);
     line("New", [](Column &, Host &h) { return talusdish_new(h.record.data(), h.record.size(), 40, 40, 8, 12, 8); });
     line("Read text", [](Column &c, Host &h) { return h.read(c.text); });
     line("Write text", [&](Column &, Host &h) { return talusdish_write_text(h.record.data(), h.record.size(), text.data(), text.size()); });
