@@ -1,6 +1,6 @@
 // Runs the reader and the writer of job text. On the vectors of data/, NAME.job with NAME.expect: a wrong text is refused as the expected line says, and
-// one that reads is written again byte for byte. On the examples of document 01. On the example with one bit changed, where the oracle has to agree, and on
-// the texts of random jobs, which have to come back. It writes the name of each vector that does not agree, and then the counts, with ok if nothing is wrong.
+// one that reads is written again byte for byte. On the examples of document 01, and on lines of laid wires that may not stand. On two texts with one bit
+// changed, where the oracle has to agree, and on the texts of random jobs with laid wires, which have to come back. It writes the name of each vector that does not agree, and then the counts, with ok if nothing is wrong.
 use check::same;
 use libc::STDOUT_FILENO;
 use oracle::lines::refused_listing;
@@ -9,7 +9,9 @@ use oracle_text::page::Page;
 use oracle_text::page::byte;
 use oracle_text::page::decimal;
 use oracle_text::page::word;
+use oracle_text::random::below;
 use oracle_text::random::random_job;
+use oracle_text::random::random_laid;
 use oracle_text::text::ACCEPTED;
 use text::Judged;
 use text::Written;
@@ -24,7 +26,10 @@ const EXCHANGED: [u8; 64] =
 // A byte after its end.
 const LONGER: [u8; 65] = *b"(array (pins 2 2) (caps 1 2 0))\n(chosen 0 0)\n(closed 0 0)\n(end)\n\n";
 
-// An output one byte shorter than it.
+// One tile with wires laid on two of its sides.
+const LAID: [u8; 68] = *b"(array (pins 2 2) (caps 2 3 0))\n(laid 0 0 n 1)\n(laid 0 0 s 2)\n(end)\n";
+
+// An output one byte shorter than the first.
 const NARROW: [u8; 63] = [7; 63];
 
 // What is counted.
@@ -182,11 +187,14 @@ fn vectors(counts: &mut [u64; 5]) {
     series(counts, b"text0", 60);
     series(counts, b"K2/job", 16);
     series(counts, b"K2/text", 4);
+    series(counts, b"K3/job", 12);
+    series(counts, b"K3/text", 8);
 }
 
 // The examples that document 01 gives, and an output that is too short for the first.
 fn examples(counts: &mut [u64; 5]) {
     tally_right(counts, comes_back(&EXAMPLE), READ);
+    tally_right(counts, comes_back(&LAID), READ);
     tally_right(counts, is_refused(&EXCHANGED, 45), REFUSED);
     tally_right(counts, is_refused(b"", 0), REFUSED);
     tally_right(counts, is_refused(&LONGER, 64), REFUSED);
@@ -194,7 +202,7 @@ fn examples(counts: &mut [u64; 5]) {
 }
 
 // The oracle says of the text what the reader says.
-fn agrees(text: &[u8; 64]) -> bool {
+fn agrees(text: &[u8]) -> bool {
     let mut job = blank();
     let reading = oracle_text::text::read_text(text, &mut job);
     if reading.stage == ACCEPTED {
@@ -204,26 +212,82 @@ fn agrees(text: &[u8; 64]) -> bool {
     }
 }
 
+// The text with lines behind the array line of three rows and columns, O 2, is refused at an offset, and the oracle agrees.
+fn wrong(counts: &mut [u64; 5], lines: &[u8], offset: usize) {
+    let mut page = [0u8; 262144];
+    let a = word(&mut page, 0, b"(array (pins 3 3) (caps 2 3 1))\n");
+    let b = word(&mut page, a, lines);
+    let n = word(&mut page, b, b"(end)\n");
+    let right = is_refused(bytes(&page, n), offset) && agrees(bytes(&page, n));
+    tally_right(counts, right, REFUSED);
+}
+
+// Lines of laid wires that are none: counts, letters, parts and numbers that may not stand.
+fn wrong_forms(counts: &mut [u64; 5]) {
+    wrong(counts, b"(laid 0 0 n 0)\n", 32);
+    wrong(counts, b"(laid 0 0 n 3)\n", 32);
+    wrong(counts, b"(laid 0 0 n 01)\n", 32);
+    wrong(counts, b"(laid 0 0 n 100)\n", 32);
+    wrong(counts, b"(laid 0 0 n -1)\n", 32);
+    wrong(counts, b"(laid 0 0 ne 1)\n", 32);
+    wrong(counts, b"(laid 0 0 x 1)\n", 32);
+    wrong(counts, b"(laid 0 0 N 1)\n", 32);
+    wrong(counts, b"(laid 0 0 0 1)\n", 32);
+    wrong(counts, b"(laid 0 0 n)\n", 32);
+    wrong(counts, b"(laid 0 0 1)\n", 32);
+    wrong(counts, b"(laid 0 n 1)\n", 32);
+    wrong(counts, b"(laid 0 0 n  1)\n", 32);
+    wrong(counts, b"(laid 0 0 n 1 )\n", 32);
+    wrong(counts, b"(laid 00 0 n 1)\n", 32);
+    wrong(counts, b"(laid 0 0 n 1)", 32);
+    wrong(counts, b"(laids 0 0 n 1)\n", 32);
+}
+
+// Lines of laid wires that name no side, or a side of another tile, or stand out of their order.
+fn wrong_sides(counts: &mut [u64; 5]) {
+    wrong(counts, b"(laid 2 0 s 1)\n", 32);
+    wrong(counts, b"(laid 0 2 e 1)\n", 32);
+    wrong(counts, b"(laid 1 0 n 1)\n", 32);
+    wrong(counts, b"(laid 0 1 w 1)\n", 32);
+    wrong(counts, b"(laid 0 0 e 1)\n(laid 0 0 n 1)\n", 47);
+    wrong(counts, b"(laid 0 0 s 1)\n(laid 0 0 s 1)\n", 47);
+    wrong(counts, b"(laid 0 1 n 1)\n(laid 0 0 s 1)\n", 47);
+    wrong(counts, b"(laid 1 0 e 1)\n(laid 0 1 e 1)\n", 47);
+    wrong(counts, b"(laid 0 0 n 1)\n(closed 1 1)\n", 47);
+    wrong(counts, b"(laid 0 0 n 1)\n(chosen 1 1)\n", 47);
+}
+
 // The example with bit k % 8 of its byte k / 8 changed.
 fn change(counts: &mut [u64; 5], k: usize) {
-    let mut text = EXAMPLE;
     if k < 512 {
+        let mut text = EXAMPLE;
         text[k / 8] = text[k / 8] ^ (1 << (k % 8));
+        tally_right(counts, agrees(&text), CHANGED);
     }
-    tally_right(counts, agrees(&text), CHANGED);
+}
+
+// The text with laid wires, changed in the same way.
+fn change_laid(counts: &mut [u64; 5], k: usize) {
+    if k < 544 {
+        let mut text = LAID;
+        text[k / 8] = text[k / 8] ^ (1 << (k % 8));
+        tally_right(counts, agrees(&text), CHANGED);
+    }
 }
 
 fn changes(counts: &mut [u64; 5]) {
-    for k in 0..512 {
+    for k in 0..544 {
         change(counts, k);
+        change_laid(counts, k);
     }
 }
 
-// A random job's text; gives the generator's number afterwards.
+// The text of a random job with laid wires; gives the generator's number afterwards.
 fn draw(counts: &mut [u64; 5], seed: u32) -> u32 {
     let mut job = blank();
     let mut page = [0u8; 262144];
-    let next = random_job(seed, 40, &mut job);
+    let then = random_job(seed, 40, &mut job);
+    let next = random_laid(then, below(then, 1001), &mut job);
     let n = oracle_text::text::write_text(&job, &mut page);
     tally_right(counts, comes_back(bytes(&page, n)), RANDOM);
     next
@@ -245,6 +309,8 @@ fn main() {
     let mut counts = [0u64; 5];
     vectors(&mut counts);
     examples(&mut counts);
+    wrong_forms(&mut counts);
+    wrong_sides(&mut counts);
     changes(&mut counts);
     draws(&mut counts);
     number(b"refused ", counts[0]);

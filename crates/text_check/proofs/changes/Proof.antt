@@ -5,16 +5,19 @@ use Rattle.text_check.proofs.changes.Statement.{statement}
 use Rattle.text_check.proofs.changes.Tie as tie
 
 abbrev Inv-loop : tie.InvT-loop
-Inv-loop counts₀ k₀ counts k = k ≤ 512
+Inv-loop counts₀ k₀ counts k = k ≤ 544
 
 abbrev μ-loop : tie.MeasureT-loop
-μ-loop counts₀ k₀ counts k = 512 - k
+μ-loop counts₀ k₀ counts k = 544 - k
 
 loop-holds : tie.Need-loop-holds Inv-loop μ-loop
 loop-holds c = search needs
 
 change-requires : tie.Need-change-requires Inv-loop μ-loop
 change-requires c κs = search needs
+
+change-laid-requires : tie.Need-change-laid-requires Inv-loop μ-loop
+change-laid-requires c κs = search needs
 
 add-k : tie.Need-add-k Inv-loop μ-loop
 add-k c = search needs
@@ -31,4 +34,4 @@ returns c = search needs
 pub changes-spec : {M : Type 1} → statement M
 changes-spec =
     tie.close
-    (tie.spec Inv-loop μ-loop loop-holds change-requires add-k loop-less loop-again returns)
+    (tie.spec Inv-loop μ-loop loop-holds change-requires change-laid-requires add-k loop-less loop-again returns)
