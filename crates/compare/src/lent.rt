@@ -37,6 +37,20 @@ pub fn close_on(rec: &mut [u8], n: usize, row: usize, column: usize, value: usiz
     Answer::Done
 }
 
+pub fn lay_on(
+    rec: &mut [u8],
+    n: usize,
+    row: usize,
+    column: usize,
+    side: usize,
+    count: usize,
+) -> Answer {
+    if n <= rec.len() {
+        return service::lay(&mut rec[..n], row, column, side, count);
+    }
+    Answer::Done
+}
+
 fn step_scratch(rec: &mut [u8], scratch: &mut [u8], m: usize) -> Answer {
     if m <= scratch.len() {
         return service::step(rec, &mut scratch[..m]);

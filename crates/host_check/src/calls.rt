@@ -13,6 +13,7 @@ use oracle_text::random::xorshift;
 use oracle_text::text::write_text;
 use service::Answer;
 use talusdish::exports::talusdish_close;
+use talusdish::exports::talusdish_lay;
 use talusdish::exports::talusdish_listing;
 use talusdish::exports::talusdish_mark;
 use talusdish::exports::talusdish_new;
@@ -98,6 +99,19 @@ fn call_close(tally: &mut Tally, rec: &mut [u8], twin: &mut [u8], seed: u32) -> 
     let answer = service::close(rec, row, column, state);
     let word = talusdish_close(twin, row as u64, column as u64, state as u64);
     hold(tally, says(word, answer), b"the word of close");
+    answer
+}
+
+fn call_lay(tally: &mut Tally, rec: &mut [u8], twin: &mut [u8], seed: u32) -> Answer {
+    let a = xorshift(seed);
+    let b = xorshift(a);
+    let row = pick(seed, 0, 7);
+    let column = pick(a, 0, 7);
+    let side = pick(b, 0, 5);
+    let count = pick(xorshift(b), 0, 4);
+    let answer = service::lay(rec, row, column, side, count);
+    let word = talusdish_lay(twin, row as u64, column as u64, side as u64, count as u64);
+    hold(tally, says(word, answer), b"the word of lay");
     answer
 }
 
@@ -268,6 +282,7 @@ fn call(tally: &mut Tally, rec: &mut [u8], twin: &mut [u8], seed: u32, kind: usi
         5 => call_shortfall(tally, rec, twin, seed),
         6 => call_part(tally, rec, twin, seed),
         7 => call_write(tally, rec, twin, seed),
+        9 => call_lay(tally, rec, twin, seed),
         _ => call_listing(tally, rec, twin, seed),
     }
 }
@@ -310,8 +325,9 @@ fn kind_of(n: usize, k: usize) -> usize {
         match n {
             0..=7 => 0,
             8..=11 => 1,
-            12..=21 => 2,
-            _ => 3,
+            12..=19 => 2,
+            20..=25 => 3,
+            _ => 9,
         }
     } else {
         match n {

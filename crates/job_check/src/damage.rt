@@ -122,6 +122,18 @@ fn spoil_cell(rec: &mut Record, x: u32, y: u32) {
     set(rec, k, below(y / 16, 4));
 }
 
+// A count of wires already laid at the north-west cells, mostly a small one.
+fn spoil_count(rec: &mut Record, x: u32, y: u32) {
+    let p = 40 * (x as usize % 9) + x as usize / 16 % 9;
+    let k = if y % 2 == 0 { 27968 + p } else { 29568 + p };
+    let n = if y / 2 % 8 == 0 {
+        below(y / 16, 256)
+    } else {
+        below(y / 16, 5)
+    };
+    set(rec, k, n);
+}
+
 // A load of the north-west cells: one more, one less, or any.
 fn spoil_load(rec: &mut Record, x: u32, y: u32) {
     let r = x as usize % 9;
@@ -171,7 +183,7 @@ fn lead_north(rec: &mut Record, c: usize, beside: bool) {
 fn spoil(rec: &mut Record, x: u32, y: u32, z: u32) {
     let r = below(y, 7);
     let c = below(y / 8, 7);
-    match below(x, 12) {
+    match below(x, 14) {
         0 => spoil_header(rec, y),
         1 => spoil_any(rec, y, z),
         2 | 3 => spoil_cell(rec, y, z),
@@ -180,6 +192,7 @@ fn spoil(rec: &mut Record, x: u32, y: u32, z: u32) {
         8 => turn_centre(rec, r, c, z % 2 == 0),
         9 => spoil_direct(rec, y, z),
         10 => lead_north(rec, c, z % 2 == 0),
+        11 | 12 => spoil_count(rec, y, z),
         _ => turn_pin(rec, r, c, z % 2 == 0),
     }
 }
@@ -201,6 +214,10 @@ fn close_tile(rec: &mut Record) -> Answer {
     service::close(rec, 0, 0, 1)
 }
 
+fn lay_one(rec: &mut Record) -> Answer {
+    service::lay(rec, 0, 0, 0, 1)
+}
+
 fn step(rec: &mut Record, scratch: &mut [u8; 65536]) -> Answer {
     service::step(rec, scratch)
 }
@@ -220,6 +237,9 @@ fn ask_edits(tally: &mut Tally, rec: &Record, sound: bool) {
         b"close on damage",
     );
     hold_kept(tally, rec, &other, sound);
+    let mut third = *rec;
+    hold(tally, refuses(lay_one(&mut third), sound), b"lay on damage");
+    hold_kept(tally, rec, &third, sound);
 }
 
 fn is_kept(scratch: &[u8; 65536], sound: bool) -> bool {

@@ -6,7 +6,6 @@ use compare::listed::list_text;
 use compare::listed::shown;
 use judge::listing::check_listing;
 use judge::walk::LEGAL;
-use listing::Page;
 use oracle_text::job::blank;
 use oracle_text::page::Page as Sheet;
 use oracle_text::page::byte;
@@ -85,4 +84,6 @@ pub fn vectors(tally: &mut Tally) {
     vector(tally, &mut page, b"four");
     series(tally, &mut page, b"K2/job", 16);
     series(tally, &mut page, b"K2/text", 4);
+    series(tally, &mut page, b"K3/job", 12);
+    series(tally, &mut page, b"K3/text", 8);
 }

@@ -26,6 +26,7 @@ use oracle_text::job::is_pin;
 use oracle_text::job::is_rim;
 use oracle_text::job::mark;
 use oracle_text::job::number;
+use oracle_text::job::room;
 ghost use Prim.Native.Nat.{_<_};
 
 pub const START: usize = 0;
@@ -171,24 +172,23 @@ fn centre(m: &mut Sheet, job: &Job, down: usize, right: usize, limit: usize) {
 fn sides(m: &mut Sheet, job: &Job, r: usize, c: usize)
     requires { ⌜ (r < 39) × (c < 39) ⌝ }
 {
-    let limit = number(job, SIDE);
     let n = place(job, r + 1, c + 1, N);
     let w = place(job, r + 1, c + 1, W);
     if r == 0 {
-        one_way(m, n, OUTSIDE, limit);
+        one_way(m, n, OUTSIDE, room(job, r, c, b'n'));
     } else {
-        edge(m, n, place(job, r, c + 1, S), limit);
+        edge(m, n, place(job, r, c + 1, S), room(job, r, c, b'n'));
     }
     if c == 0 {
-        one_way(m, w, OUTSIDE, limit);
+        one_way(m, w, OUTSIDE, room(job, r, c, b'w'));
     } else {
-        edge(m, w, place(job, r + 1, c, E), limit);
+        edge(m, w, place(job, r + 1, c, E), room(job, r, c, b'w'));
     }
     if r + 2 == number(job, ROWS) {
-        one_way(m, place(job, r + 1, c + 1, S), OUTSIDE, limit);
+        one_way(m, place(job, r + 1, c + 1, S), OUTSIDE, room(job, r, c, b's'));
     }
     if c + 2 == number(job, COLUMNS) {
-        one_way(m, place(job, r + 1, c + 1, E), OUTSIDE, limit);
+        one_way(m, place(job, r + 1, c + 1, E), OUTSIDE, room(job, r, c, b'e'));
     }
 }
 

@@ -147,6 +147,15 @@ pub fn laid(job: &Job, r: usize, c: usize, letter: u8) -> usize
     number(job, count_of(r, c, letter))
 }
 
+// How many wires a side of the tile takes.
+pub fn room(job: &Job, r: usize, c: usize, letter: u8) -> usize
+    ensures { λ n. ⌜ n < 256 ⌝ }
+{
+    let most = number(job, SIDE);
+    let taken = laid(job, r, c, letter);
+    if taken < most { most - taken } else { 0 }
+}
+
 pub fn set_laid(job: &mut Job, r: usize, c: usize, letter: u8, n: usize) {
     set_number(job, count_of(r, c, letter), n);
 }

@@ -4,6 +4,7 @@ use crate::draws::pick;
 use crate::draws::pick_length;
 use crate::draws::pick_spot;
 use crate::edits::call_close;
+use crate::edits::call_lay;
 use crate::edits::call_mark;
 use crate::edits::call_new;
 use crate::edits::call_read;
@@ -202,6 +203,7 @@ fn call(
         5 => call_shortfall(tally, rec, job, seed),
         6 => call_part(tally, rec, job, page, seed),
         7 => call_write(tally, rec, job, seed),
+        9 => call_lay(tally, rec, job, seed),
         _ => call_listing(tally, rec, page, seed),
     }
 }
@@ -210,10 +212,11 @@ fn call(
 fn editing(n: usize) -> usize {
     match n {
         0 => 0,
-        1..=4 => 1,
-        5..=13 => 2,
-        14..=21 => 3,
-        22..=24 => 4,
+        1..=3 => 1,
+        4..=11 => 2,
+        12..=16 => 3,
+        17..=22 => 9,
+        23 | 24 => 4,
         25 => 5,
         26..=28 => 6,
         29 | 30 => 7,
@@ -226,7 +229,8 @@ fn asking(n: usize) -> usize {
     match n {
         0 => 2,
         1 => 3,
-        2..=17 => 4,
+        2 => 9,
+        3..=17 => 4,
         18..=21 => 5,
         22..=27 => 6,
         28 | 29 => 7,

@@ -7,13 +7,16 @@ use crate::draws::pick_spot;
 use crate::draws::pick_state;
 use crate::expect::cell;
 use crate::expect::expect_close;
+use crate::expect::expect_lay;
 use crate::expect::expect_mark;
 use crate::expect::expect_new;
 use crate::expect::expect_read;
+use crate::expect::letter_of;
 use crate::expect::mark_at;
 use crate::expect::state_at;
 use check::same;
 use compare::lent::close_on;
+use compare::lent::lay_on;
 use compare::lent::mark_on;
 use compare::lent::new_on;
 use compare::lent::read_on;
@@ -25,6 +28,8 @@ use compare::said::coded;
 use oracle_text::job::Job;
 use oracle_text::job::blank;
 use oracle_text::job::fresh;
+use oracle_text::job::laid;
+use oracle_text::job::set_laid;
 use oracle_text::job::set_mark;
 use oracle_text::job::set_state;
 use oracle_text::random::random_job;
@@ -143,4 +148,23 @@ pub fn call_close(tally: &mut Tally, rec: &mut Record, job: &mut Job, seed: u32)
     }
     hold_edit(tally, &before, rec, job, changes);
     at.next
+}
+
+// The wires already laid on a side of a tile.
+pub fn call_lay(tally: &mut Tally, rec: &mut Record, job: &mut Job, seed: u32) -> u32 {
+    let at = pick_spot(seed, 8);
+    let x = xorshift(at.next);
+    let side = pick(x, 0, 4);
+    let count = pick(xorshift(x), 0, 4);
+    let letter = letter_of(side);
+    let before = *rec;
+    let answer = lay_on(rec, at.n, at.row, at.column, side, count);
+    let expected = expect_lay(job, at.n, at.row, at.column, side, count);
+    hold_answer(tally, answer, expected, b"lay answers");
+    let changes = expected.kind == DONE && laid(job, at.row, at.column, letter) != count;
+    if changes {
+        set_laid(job, at.row, at.column, letter, count);
+    }
+    hold_edit(tally, &before, rec, job, changes);
+    x
 }

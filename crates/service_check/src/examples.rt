@@ -19,7 +19,6 @@ use compare::said::put_listed;
 use compare::said::say;
 use judge::listing::check_listing;
 use judge::walk::LEGAL;
-use listing::Page;
 use oracle_text::job::blank;
 use oracle_text::text::read_text;
 use verdict::bytes::Tally;

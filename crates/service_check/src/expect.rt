@@ -12,10 +12,12 @@ use compare::said::WROTE;
 use compare::said::say;
 use oracle_text::job::CHOSEN;
 use oracle_text::job::Job;
+use oracle_text::job::SIDE;
 use oracle_text::job::count_marked;
 use oracle_text::job::is_pin;
 use oracle_text::job::is_tile;
 use oracle_text::job::mark;
+use oracle_text::job::number;
 use oracle_text::job::state;
 use oracle_text::text::ACCEPTED;
 use oracle_text::text::Reading;
@@ -81,6 +83,33 @@ pub fn expect_close(job: &Job, n: usize, row: usize, column: usize, value: usize
         return say(REFUSED, 5);
     }
     say(DONE, 0)
+}
+
+pub fn expect_lay(job: &Job, n: usize, row: usize, column: usize, side: usize, count: usize) -> Said {
+    if n < 32768 {
+        return say(REFUSED, 1);
+    }
+    if !is_tile(job, row, column) {
+        return say(REFUSED, 4);
+    }
+    if side > 3 {
+        return say(REFUSED, 5);
+    }
+    if count > number(job, SIDE) {
+        return say(REFUSED, 11);
+    }
+    say(DONE, 0)
+}
+
+// The letter of a side code; 0 for none.
+pub fn letter_of(side: usize) -> u8 {
+    match side {
+        0 => b'n',
+        1 => b'e',
+        2 => b's',
+        3 => b'w',
+        _ => 0,
+    }
 }
 
 // The cell 40 r + c; 1,600, which is none, where one of the two is too large.

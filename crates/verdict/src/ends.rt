@@ -64,6 +64,13 @@ pub fn load(rec: &[u8], i: usize) -> usize
     if i < 24000 { number(rec, 3968 + i) } else { 0 }
 }
 
+// The wires already laid on the side i.
+pub fn laid(rec: &[u8], i: usize) -> usize
+    ensures { λ r. ⌜ r < 256 ⌝ }
+{
+    if i < 3200 { number(rec, 27968 + i) } else { 0 }
+}
+
 fn spot(r: usize, c: usize, kind: usize) -> usize {
     if r < 40 {
         if c < 40 {

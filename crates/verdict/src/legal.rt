@@ -9,6 +9,7 @@ use crate::ends::columns;
 use crate::ends::diagonal;
 use crate::ends::exists;
 use crate::ends::extra;
+use crate::ends::laid;
 use crate::ends::load;
 use crate::ends::mark;
 use crate::ends::rows;
@@ -34,11 +35,18 @@ fn amount(x: usize) -> usize
     1000
 }
 
+// The limit of the side i.
+fn side_limit(rec: &[u8], i: usize) -> usize {
+    let o = side(rec);
+    let n = laid(rec, i);
+    if n < o { o - n } else { 0 }
+}
+
 // The limit of the link i; 31 where it has none of its own.
 fn limit(rec: &[u8], i: usize) -> usize {
     let plane = i / 1600;
     if plane < 2 {
-        return side(rec);
+        return side_limit(rec, i);
     }
     if plane < 6 {
         return side(rec) / 2;
@@ -93,7 +101,27 @@ fn header_fits(rec: &[u8]) -> bool {
         && in_range(diagonal(rec), o, 2 * o)
         && extra(rec) <= 16
         && all(span(rec, 5, 763), 0)
-        && all(span(rec, 27968, 4800), 0)
+        && all(span(rec, 31168, 1600), 0)
+}
+
+// The counts of the sides at the cell p, 40 r + c, are values that may stand there.
+fn counts_fit(rec: &[u8], p: usize) -> bool {
+    let r = p / 40;
+    let c = p % 40;
+    let north = if r < rows(rec) && c + 1 < columns(rec) {
+        side(rec)
+    } else {
+        0
+    };
+    let west = if r + 1 < rows(rec) && c < columns(rec) {
+        side(rec)
+    } else {
+        0
+    };
+    if p < 1600 {
+        return laid(rec, p) <= north && laid(rec, 1600 + p) <= west;
+    }
+    true
 }
 
 // The mark and the state of the cell p, 40 r + c, are values that may stand there.
@@ -110,7 +138,7 @@ fn cell_fits(rec: &[u8], p: usize) -> bool {
     } else {
         0
     };
-    mark(rec, p) <= most_mark && state(rec, p) <= most_state
+    mark(rec, p) <= most_mark && state(rec, p) <= most_state && counts_fit(rec, p)
 }
 
 // The load byte p is in order, or the cell p.
