@@ -9,12 +9,13 @@
  *        2  rows or columns not 2 to 40
  *        3  capacities: O not 1 to 8, D not O to 2*O, or E not 0 to 16
  *        4  no such pin or tile; in part also a pin that is not chosen
- *        5  unknown mark or state
+ *        5  unknown mark, state or side code
  *        6  wrong text; the value is the offset of the first line that may not stand there
  *        7  output too short
  *        8  scratch under 65,536 bytes
  *        9  a measure not 1 to 100,000
  *       10  pitch under pad diameter and spacing together, or O not 1 to 8
+ *       11  a count of laid wires above O
  * value  as said below; 0 where nothing is said, and with every code but 0 and 6
  *
  * Where several codes fit, the one that stands first at the function is returned. A refused call changes no byte.
@@ -23,7 +24,7 @@
  * with length 0 is an empty buffer. The buffers of one call do not overlap, and nobody else writes them during the call. A function keeps nothing between
  * calls, so calls on different records may run at the same time. docs/RECORD.md says what each byte of a record and of shortfall's output holds.
  *
- * A call works on the stack of its thread: step and shortfall need 263 KiB of it, mark, close, part and write_text 103 KiB, new and read_text at most 17 KiB
+ * A call works on the stack of its thread: step and shortfall need 263 KiB of it, mark, close, lay, part and write_text 103 KiB, new and read_text at most 17 KiB
  * (measured on x86-64 with two 40 by 40 jobs, not proved; listing and rules were not measured). A thread with 512 KiB is safe.
  */
 #ifndef TALUSDISH_H
@@ -49,6 +50,10 @@ uint64_t talusdish_mark(uint8_t *record, uint64_t record_len, uint64_t row, uint
 
 /* The state of a tile: 0 open, 1 closed. 1; 4; 5. A state already there changes nothing, another takes out all wires. */
 uint64_t talusdish_close(uint8_t *record, uint64_t record_len, uint64_t row, uint64_t column, uint64_t state);
+
+/* How many wires are already laid on a side of a tile, 0 to O: the side takes O less that. Side 0 n, 1 e, 2 s, 3 w; an inner side has one count, whichever of its
+ * tiles names it. 1; 4 no such tile; 5; 11. A count already there changes nothing, another takes out all wires. */
+uint64_t talusdish_lay(uint8_t *record, uint64_t record_len, uint64_t row, uint64_t column, uint64_t side, uint64_t count);
 
 /* One wire more. 1; 8. Value 0 added: one more chosen pin is wired and those wired stay wired; 1 all wired; 2 short: no more wires fit.
  * 1 and 2 change no byte of the record. The scratch of an accepted call is zero afterwards. */
