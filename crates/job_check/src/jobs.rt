@@ -25,6 +25,7 @@ use oracle_text::job::blank;
 use oracle_text::job::count_marked;
 use oracle_text::job::set_mark;
 use oracle_text::random::random_job;
+use oracle_text::random::random_laid;
 use oracle_text::text::write_text;
 use verdict::bytes::Tally;
 use verdict::bytes::all;
@@ -274,11 +275,20 @@ fn size(k: usize) -> usize {
     }
 }
 
+// Wires are already laid in every other job, on a quarter of its sides.
+fn lay_some(seed: u32, k: usize, job: &mut Job) -> u32 {
+    if k % 2 == 0 {
+        return seed;
+    }
+    random_laid(seed, 250, job)
+}
+
 // The k-th job; gives the generator's number afterwards.
 fn draw(tally: &mut Tally, exits: &mut Tally, page: &mut Page, seed: u32, k: usize) -> u32 {
     let mut job = blank();
     let wrong = tally[1];
-    let next = random_job(seed, size(k), &mut job);
+    let then = random_job(seed, size(k), &mut job);
+    let next = lay_some(then, k, &mut job);
     judge(tally, exits, &job, page, k % 32 == 0);
     if tally[1] != wrong {
         line(b"in the random job", seed as u64);
