@@ -1,0 +1,112 @@
+"""Why a line of job text may not stand where it stands. The library decides that it may not; this finds the reason to tell a person."""
+import re
+from typing import NamedTuple
+
+RANGES = {'rows': (2, 40), 'columns': (2, 40), 'O': (1, 8), 'E': (0, 16)}
+GROUPS = ('chosen', 'missing', 'closed')                            # in the order of a text
+FORMS = {'array': '(array (pins ROWS COLUMNS) (caps O D E))', 'end': '(end)', **{word: f'({word} ROW COLUMN)' for word in GROUPS}}
+
+
+class Wrong(NamedTuple):
+    """A wrong line: its number from 1, its bytes, the first wrong column from 0, and the reason."""
+    line: int
+    content: bytes
+    column: int
+    reason: str
+
+
+class Array(NamedTuple):
+    """What the first line gives."""
+    rows: int
+    columns: int
+
+
+def numbers_in(line):
+    """[(column, digits)] of a line's numbers."""
+    return [(found.start(), found[0].decode()) for found in re.finditer(rb'[0-9]+', line)]
+
+
+def spelling(line, word):
+    """(column, reason) where a line is not spelt as its form asks, or None."""
+    for column, digits in numbers_in(line):
+        if len(digits) > 1 and digits.startswith('0'):
+            return column, 'a number has no leading zeros'
+    pattern = ' '.join(re.escape(part) if not part.strip('()').isupper() else re.sub(r'[A-Z]+', '[0-9]+', re.escape(part)) for part in FORMS[word].split(' '))
+    if re.fullmatch(pattern.encode(), line):
+        return None
+    return first_difference(line, FORMS[word]), f'the form of this line is {FORMS[word]}, with one space between parts'
+
+
+def first_difference(line, form):
+    """The column where a line leaves its form; a word in capitals stands for a number."""
+    column = 0
+    for part in re.findall(r'[A-Z]+|[^A-Z]', form):
+        found = re.match(rb'[0-9]+' if part.isupper() else re.escape(part).encode(), line[column:])
+        if not found:
+            break
+        column += found.end()
+    return column
+
+
+def array_reason(line):
+    """(column, reason) of a wrong array line."""
+    wrong = spelling(line, 'array')
+    if wrong:
+        return wrong
+    (at_rows, rows), (at_columns, columns), (at_o, o), (at_d, d), (at_e, e) = ((column, int(digits)) for column, digits in numbers_in(line))
+    for column, number, what in ((at_rows, rows, 'rows'), (at_columns, columns, 'columns'), (at_o, o, 'O'), (at_e, e, 'E')):
+        low, high = RANGES[what]
+        if not low <= number <= high:
+            return column, f'{what} may be {low} to {high}, not {number}'
+    if not o <= d <= 2 * o:
+        return at_d, f'D may be O to 2×O, here {o} to {2 * o}, not {d}'
+    return None
+
+
+def group_reason(line, word, array, lines):
+    """(column, reason) of a wrong line of a group, after the right `lines`."""
+    wrong = spelling(line, word)
+    if wrong:
+        return wrong
+    (at_row, row), (at_column, column) = ((place, int(digits)) for place, digits in numbers_in(line))
+    thing, less = ('tile', 1) if word == 'closed' else ('pin', 0)
+    for place, number, what, size in ((at_row, row, 'row', array.rows - less), (at_column, column, 'column', array.columns - less)):
+        if number >= size:
+            return place, f'there is no {what} {number} of {thing}s: {what}s are 0 to {size - 1}'
+    last = lines[-1]
+    if last[0] in GROUPS and GROUPS.index(last[0]) > GROUPS.index(word):
+        return 1, f'{word} stands after {last[0]}: the groups come as {", ".join(GROUPS)}'
+    if last[0] == word and last[1:] >= (row, column):
+        return at_row, f'{thing} {row} {column} comes after {last[1]} {last[2]}: a group rises by row, then column' if last[1:] != (row, column) else f'{thing} {row} {column} is named twice'
+    if word == 'missing' and ('chosen', row, column) in lines:
+        return at_row, f'pin {row} {column} is chosen already'
+    return None
+
+
+def line_reason(line, lines):
+    """(column, reason) of a line that may not stand after the right `lines`, each a word and its numbers."""
+    found = re.match(rb'\(([a-z]+)', line)
+    word = found[1].decode() if found else ''
+    if not lines:
+        return array_reason(line) if word == 'array' else (0, f'a text begins with its array line: {FORMS["array"]}')
+    if lines[-1][0] == 'end':
+        return 0, 'nothing may follow the line (end)'
+    if word == 'array':
+        return 0, 'the array line stands once, at the start'
+    if word == 'end':
+        return spelling(line, 'end')
+    if word in GROUPS:
+        return group_reason(line, word, Array(*lines[0][1:3]), lines)
+    return 0, f'a line here is {", ".join(FORMS[name] for name in (*GROUPS, "end"))}'
+
+
+def wrong_line(text, offset):
+    """The wrong line of a text, by the offset at which the library refuses it."""
+    lines = [(re.match(rb'\((\w+)', line)[1].decode(), *(int(digits) for _, digits in numbers_in(line))) for line in text[:offset].split(b'\n')[:-1]]
+    line, newline, _ = text[offset:].partition(b'\n')
+    if not line and not newline and (not lines or lines[-1][0] != 'end'):
+        return Wrong(len(lines) + 1, b'', 0, 'the text ends before its line (end)' if lines else 'the text is empty')
+    if line.endswith(b'\r'):
+        return Wrong(len(lines) + 1, line, len(line) - 1, 'the line ends in a carriage return: lines end in a newline alone')
+    column, reason = line_reason(line, lines) or (len(line), 'the line is not ended by a newline')
+    return Wrong(len(lines) + 1, line, column, reason)
