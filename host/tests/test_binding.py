@@ -1,0 +1,137 @@
+"""The binding: the header's functions, the answers of `escape`, ball names."""
+import re
+import subprocess
+import unittest
+
+import command
+import talusdish
+from layout import hops, link
+from support import EXAMPLES, ROOT, random_job
+from talusdish import CHOSEN, SHORT, Job, Out, Refused, ball_name, ball_place, row_name, wires_of
+
+HEADER = (ROOT / 'include' / 'talusdish.h').read_text()
+
+
+def header_signatures():
+    """{function: what it takes} of the header, in the letters of the binding."""
+    found = {}
+    for name, takes in re.findall(r'^uint64_t (talusdish_\w+)\(([^)]*)\);', HEADER, re.MULTILINE):
+        letters = ''
+        for parameter in takes.split(','):
+            kind, word = re.fullmatch(r'\s*(?:const )?(uint8_t \*|uint64_t \*|uint64_t )(\w+)', parameter).groups()
+            letters += 'b' if kind == 'uint8_t *' else 'r' if kind == 'uint64_t *' else '' if word.endswith('_len') else 'n'
+        found[name] = letters
+    return found
+
+
+class Binding(unittest.TestCase):
+    def test_functions_and_types_are_the_headers(self):
+        self.assertEqual(header_signatures(), talusdish.SIGNATURES)
+
+    def test_refusals_are_the_headers(self):
+        codes = re.findall(r'^ \*(?: code)? +(\d+)  ', HEADER.split('\n * value')[0], re.MULTILINE)
+        self.assertEqual({int(code) for code in codes} - {0}, set(talusdish.REFUSALS))
+
+    def test_sizes_are_the_headers(self):
+        sizes = dict(re.findall(r'#define TALUSDISH_(\w+) (\d+)', HEADER))
+        self.assertEqual((int(sizes['RECORD']), int(sizes['SCRATCH'])), (talusdish.RECORD, talusdish.SCRATCH))
+
+    def test_refused_calls(self):
+        for code, refused in ((2, lambda: Job(1, 2)), (3, lambda: Job(2, 2, 2, 5, 0)), (4, lambda: Job().mark(2, 0, CHOSEN)), (5, lambda: Job().close(0, 0, 2)),
+                              (4, lambda: Job().part(0, 0, 0)), (9, lambda: talusdish.rules(0, 1, 1, 1)), (10, lambda: talusdish.rules(100, 90, 20, 20))):
+            with self.subTest(code=code), self.assertRaises(Refused) as caught:
+                refused()
+            self.assertEqual(caught.exception.code, code)
+
+    def test_rules_of_document_02(self):
+        self.assertEqual(talusdish.rules(800, 400, 100, 75), (1, 150, 3, 280000, 2))
+        self.assertEqual(talusdish.rules(1000, 500, 100, 100), (2, 0, 4, 40000, 4))
+
+    def test_text_is_read_and_written(self):
+        for path in EXAMPLES:
+            if path.stem != 'refused':
+                self.assertEqual(Job.of_text(path.read_bytes()).write_text(), path.read_bytes(), path)
+
+    def test_a_direct_exit_as_a_part(self):
+        job = Job(4, 4)
+        job.mark(0, 1, CHOSEN)
+        job.route()
+        self.assertEqual((job.part(0, 1, 0), job.part(0, 1, 1)), (Out('p', 0), None))
+        self.assertEqual(job.wires(), {(0, 1): [Out('p', 0)]})
+
+    def test_a_listing_longer_than_its_first_output(self):
+        job = random_job(5)
+        job.route()
+        self.assertEqual(job.listing(size=16), job.listing())
+
+
+def over_limits(job, wires):
+    """The links, centres and missing pins of wires that have more than their limit."""
+    loads, passed = {}, {}
+    for pin, parts in wires.items():
+        for u, v, _ in hops(pin, parts):
+            loads[link(u, v)] = loads.get(link(u, v), 0) + 1
+            if v[2] in 'cr':
+                passed[v] = passed.get(v, 0) + 1
+    limits = {ends: limit_of(job, *ends) for ends in loads} | {place: job.e if place[2] == 'r' else job.centre_limit(*place[:2]) for place in passed}
+    return [what for what, load in (loads | passed).items() if load > limits[what]]
+
+
+def limit_of(job, u, v):
+    """The limit of a link of places, or of a pin and a place."""
+    kinds = {u[2], v[2]}
+    if kinds & set('cr'):
+        return 1 if kinds & {'r'} and job.mark_of(*(u if u[2] == 'r' else v)[:2]) == CHOSEN else job.rows * job.columns
+    return job.corner_limit() if u[:2] == v[:2] and kinds <= set('nesw') else job.o
+
+
+class BesideEscape(unittest.TestCase):
+    """The same answers as `escape` on all examples. Which legal wires Steps lead to is free, so of a wired job the wired pins are compared."""
+
+    @classmethod
+    def setUpClass(cls):
+        subprocess.run([ROOT / 'host' / 'prove', 'check', 'escape'], check=True)
+
+    def escape(self, path):
+        with open(path, 'rb') as text:
+            return subprocess.run([ROOT / 'target' / 'bin' / 'escape'], stdin=text, capture_output=True, text=True, check=True).stdout
+
+    def test_every_example(self):
+        for path in EXAMPLES:
+            with self.subTest(path.stem):
+                mine, other = self.answer(path), self.escape(path)
+                self.assertEqual(mine.split('\n')[0], other.split('\n')[0])
+                if mine.startswith('(wires'):
+                    self.compare_wires(Job.of_text(path.read_bytes()), wires_of(mine), wires_of(other))
+                else:
+                    self.assertEqual(mine, other)
+
+    def compare_wires(self, job, mine, other):
+        self.assertEqual(list(mine), list(other))
+        self.assertEqual(list(mine), job.pins(CHOSEN))
+        self.assertEqual((over_limits(job, mine), over_limits(job, other)), ([], []))
+
+    def answer(self, path):
+        """What the binding gives for a job, in the form of a listing."""
+        try:
+            job = Job.of_text(path.read_bytes())
+        except Refused as refused:
+            return f'(refused {refused.code} {refused.value})\n'
+        return command.near_listing(job, *job.shortfall()) if job.route() == SHORT else job.listing()
+
+
+class BallNames(unittest.TestCase):
+    def test_forty_rows_end_at_ay(self):
+        self.assertEqual([row_name(row) for row in (0, 7, 8, 19, 20, 39)], ['A', 'H', 'J', 'Y', 'AA', 'AY'])
+        self.assertEqual((ball_name(0, 0), ball_name(39, 39)), ('A1', 'AY40'))
+
+    def test_names_and_places_are_one_to_one(self):
+        names = {ball_name(row, column): (row, column) for row in range(60) for column in range(60)}
+        self.assertEqual(len(names), 3600)
+        self.assertTrue(all(ball_place(name) == place and ball_place(name.lower()) == place for name, place in names.items()))
+        self.assertFalse(set('IOQSXZ') & set(''.join(names)))
+
+    def test_no_ball_names(self):
+        for name in ('', 'A', '1', 'A0', 'I1', 'AO3', 'AAA1', '1A', 'A-1', 'A1B', 'Ä1', 'A１'):
+            with self.subTest(name), self.assertRaises(ValueError):
+                ball_place(name)
