@@ -16,7 +16,7 @@ from talusdish import CHOSEN, MISSING, SHORT, Failed, Job, Refused, rules
 WIRED, STOPPED_SHORT, REFUSED, FAILED = 0, 1, 2, 3
 LARGEST_TEXT, LARGEST_IMPORT = 1 << 20, 1 << 24                     # what is read of a job text, far above the longest; and of an import
 WIDEST = 100                                                        # characters of a wrong line that are shown
-STATUS = 'Exit status: 0 wired, 1 short, 2 refused (a wrong text or file), 3 failed.'
+STATUS = 'Exit status: 0 {}, 2 refused (a wrong text or file), 3 failed.'
 
 
 class Stop(Exception):
@@ -160,7 +160,7 @@ def draw(arguments):
     is_short = job.route() == SHORT
     layout = Layout(job, job.wires(), Progress('laying out wires'))
     bottleneck = Bottleneck(layout, job.shortfall()[1]) if is_short else None
-    name = 'job' if arguments.job == '-' else Path(arguments.job).stem
+    name = 'job' if arguments.job == '-' else shown(os.fsencode(Path(arguments.job).stem))
     picture = Picture(name, layout, bottleneck, Progress('rounding bends'))
     if arguments.check:
         check_picture(arguments.job, picture)
@@ -235,6 +235,8 @@ def unfit_in(name, function, *arguments):
 def capacities_of(arguments, pitch, pad):
     """O, D and E: as given, or by the design rules."""
     if arguments.caps:
+        if arguments.width is not None or arguments.spacing is not None:
+            raise Stop(FAILED, f'{arguments.file}: --caps are the capacities themselves; --width and --spacing do not go with them')
         return arguments.caps
     if arguments.width is None or arguments.spacing is None:
         raise Stop(FAILED, f'{arguments.file}: capacities are needed: --width and --spacing in micrometres, or --caps O D E')
@@ -263,9 +265,9 @@ def whole(digits):
     return int(digits)
 
 
-def part_of(parts, name, run, says, more):
-    """One part of the command, with its help."""
-    parser = parts.add_parser(name, help=says, description=f'{says[0].upper()}{says[1:]}.', epilog=f'{more}\n\n{STATUS}',
+def part_of(parts, name, run, says, more, zero='wired, 1 short'):
+    """One part of the command, with its help; `zero` is what status 0 means."""
+    parser = parts.add_parser(name, help=says, description=f'{says[0].upper()}{says[1:]}.', epilog=f'{more}\n\n{STATUS.format(zero)}',
                               formatter_class=argparse.RawDescriptionHelpFormatter)
     parser.set_defaults(run=run)
     return parser
@@ -280,7 +282,7 @@ def describe_route(parts):
 
 def describe_check(parts):
     part = part_of(parts, 'check', check, 'tell whether a job text is right, and where and why it is not',
-                   'Nothing is printed for a right text. A wrong one is FILE:LINE: reason, with the line.\n\nExample: host/talus check examples/refused.job')
+                   'Nothing is printed for a right text. A wrong one is FILE:LINE: reason, with the line.\n\nExample: host/talus check examples/refused.job', zero='right')
     part.add_argument('job', metavar='JOB', help='a job text; - for standard input')
 
 
@@ -298,7 +300,7 @@ def describe_import(parts):
                    'Measures are whole micrometres; pitch and pad are taken from a footprint unless given.\n'
                    'O and D follow from them by the library; E, the wires that a missing ball lets through, is your choice.\n\n'
                    'Examples: host/talus import U1.kicad_mod --width 100 --spacing 75 --outer 3 -o u1.job\n'
-                   '          host/talus import balls.csv --caps 1 2 0 -o balls.job')
+                   '          host/talus import balls.csv --caps 1 2 0 -o balls.job', zero='made')
     part.add_argument('file', metavar='FILE', help='a .kicad_mod footprint or a .csv file; - for standard input')
     part.add_argument('-o', '--output', metavar='JOB', help='the job text; standard output if not given')
     measures = part.add_argument_group('capacities')
@@ -309,14 +311,15 @@ def describe_import(parts):
     measures.add_argument('--extra', type=whole, default=0, metavar='E', help='wires that a missing ball lets through, 0 to 16 (0)')
     measures.add_argument('--caps', type=whole, nargs=3, metavar=('O', 'D', 'E'), help='the capacities themselves')
     balls = part.add_argument_group('balls')
-    balls.add_argument('--balls', metavar='CSV', help="of a footprint: the states of its balls; a name alone is chosen, and a ball that is not named idle")
-    balls.add_argument('--outer', type=whole, metavar='N', help='of a footprint: only the N outer rings of balls are chosen')
+    which = balls.add_mutually_exclusive_group()
+    which.add_argument('--balls', metavar='CSV', help="of a footprint: the states of its balls; a name alone is chosen, and a ball that is not named idle")
+    which.add_argument('--outer', type=whole, metavar='N', help='of a footprint: only the N outer rings of balls are chosen')
     balls.add_argument('--unlisted', choices=('idle', 'missing'), default='idle', help='of a CSV: what a ball is that no row names (idle)')
 
 
 def parser():
     """The arguments of the command."""
-    top = Parser(prog='talus', description='Escape routing of a ball grid, by a library that is proved.', epilog=f'`talus PART --help` has an example.\n\n{STATUS}',
+    top = Parser(prog='talus', description='Escape routing of a ball grid, by a library that is proved.', epilog=f'`talus PART --help` has an example.\n\n{STATUS.format("wired, 1 short")}',
                  formatter_class=argparse.RawDescriptionHelpFormatter)
     parts = top.add_subparsers(metavar='PART', required=True)
     for describe in (describe_route, describe_check, describe_draw, describe_import):

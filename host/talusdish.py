@@ -118,7 +118,7 @@ def library():
     """The library, its functions with their types."""
     types = {'b': (ctypes.POINTER(ctypes.c_uint8), ctypes.c_uint64), 'n': (ctypes.c_uint64,), 'r': (ctypes.POINTER(ctypes.c_uint64),)}
     try:
-        loaded = ctypes.CDLL(os.environ.get('TALUSDISH') or build_library())
+        loaded = ctypes.CDLL(os.environ.get('TALUSDISH') or str(build_library()))
         for name, takes in SIGNATURES.items():
             function = getattr(loaded, name)
             function.restype = ctypes.c_uint64
