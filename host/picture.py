@@ -11,7 +11,8 @@ SHADES = {'N': ('#1d4ed8', '#0369a1', '#4f46e5'), 'E': ('#15803d', '#4d7c0f', '#
           'S': ('#c2410c', '#92560a', '#9a3412'), 'W': ('#7e22ce', '#a21caf', '#6b5b95')}
 PAPER, BOARD, EDGING, INK, FAINT = '#ffffff', '#f6f4ee', '#d6d1c0', '#33312b', '#6b675a'
 GREY, LINE, ALARM, SHADE = '#d9d4c5', '#a8a291', '#b91c1c', '#f5b74a'
-HEAD, FOOT, NARROWEST = 52, 30, 520                                 # in pixels: above and below the array, and the least width
+HEAD, FOOT, NARROWEST = 52, 30, 660                                 # in pixels: above and below the array, and the least width
+LONGEST = 40                                                        # letters of a name above a picture
 MIDDLE = '.35em'                                                    # from the middle of a letter down to the line that it stands on
 FLAT = .04                                                          # a bend that is off the straight line by fewer pixels is drawn without a curve
 
@@ -123,7 +124,8 @@ class Picture:
         return element('defs', element('pattern', pattern, id='talus-closed', width=6, height=6, patternTransform='rotate(45)', patternUnits='userSpaceOnUse'))
 
     def _head(self):
-        name = element('tspan', escape(self.name), font_weight='bold') + element('tspan', self.size(), dx=12)
+        short = self.name if len(self.name) <= LONGEST else f'{self.name[:LONGEST - 1]}…'
+        name = element('tspan', escape(short), font_weight='bold') + element('tspan', self.size(), dx=12)
         colour = ALARM if self.bottleneck else INK
         return (element('text', name, x=14, y=21, font_size=14, fill=INK)
                 + element('text', self.verdict(), x=14, y=41, font_size=13, fill=colour))

@@ -82,7 +82,8 @@ def limit_of(job, u, v):
     kinds = {u[2], v[2]}
     if kinds & set('cr'):
         return 1 if kinds & {'r'} and job.mark_of(*(u if u[2] == 'r' else v)[:2]) == CHOSEN else job.rows * job.columns
-    return job.corner_limit() if u[:2] == v[:2] and kinds <= set('nesw') else job.o
+    is_corner = u[:2] == v[:2] and kinds <= set('nesw')
+    return job.corner_limit() if is_corner else job.side_limit(*(u if u[2] in 'nesw' else v))
 
 
 class BesideEscape(unittest.TestCase):
