@@ -9,7 +9,9 @@ import time
 import unittest
 import xml.etree.ElementTree as xml
 from pathlib import Path
+from unittest import mock
 
+import command
 from support import ROOT, TALUS, example, talus
 
 NUMBER = re.compile(r'[0-9]+(?:[.][0-9]+)?')
@@ -150,9 +152,13 @@ class Check(Folder):
         self.says(talus('draw', example('table2_1'), '--check', '-o', '/dev/null'), 0, 'meet as drawn')
         self.says(talus('draw', example('short'), '--check', '-o', '/dev/null'), 1, 'all full, with the greatest number as their sum')
 
-    def test_progress_of_a_large_picture(self):
-        run = talus('draw', example('full_40_by_40_short'), '-o', '/dev/null')
-        self.says(run, 1, 'talus: laying out wires, ')
+    def test_progress_is_said_after_a_second_and_then_every_two(self):
+        said, times = [], iter((0, .5, 1.1, 1.1, 2, 3.2, 3.2))
+        with mock.patch('command.say', said.append), mock.patch('command.time.monotonic', lambda: next(times)):
+            progress = command.Progress('drawing')
+            for done in range(4):
+                progress(done, 8)
+        self.assertEqual(said, ['talus: drawing, 12 %', 'talus: drawing, 37 %'])
 
     def test_pictures_of_the_repository_are_of_today(self):
         for name in ('table2_1', 'bottleneck'):
