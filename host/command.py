@@ -170,7 +170,7 @@ def draw(arguments):
 
 def check_picture(name, picture):
     """Says that nothing is wrong with a picture, or what is."""
-    faults = list(picture.faults())
+    faults = list(picture.faults(Progress('checking the picture')))
     if faults:
         raise Stop(FAILED, '\n'.join(f'{name}: {fault}' for fault in faults))
     cut = f'; {count(len(picture.bottleneck.cuts), "cut")}, all full, with the greatest number as their sum' if picture.bottleneck else ''

@@ -39,10 +39,11 @@ def meet(p, q, r, s):
     return not apart and side(p, q, r) * side(p, q, s) <= 0 and side(r, s, p) * side(r, s, q) <= 0
 
 
-def crossings(lines, size):
+def crossings(lines, size, progress=lambda done, of: None):
     """The pairs of wires {wire: points} that meet, looked for in boxes of a size."""
-    found = set()
-    for pieces in pieces_by_box(lines, size).values():
+    found, boxes = set(), pieces_by_box(lines, size)
+    for done, pieces in enumerate(boxes.values()):
+        progress(done, len(boxes))
         for i, (wire, p, q) in enumerate(pieces):
             for other, r, s in pieces[:i]:
                 if other != wire and meet(p, q, r, s):

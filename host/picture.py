@@ -78,9 +78,10 @@ class Picture:
         curves = [tuple(self.at(*point) for point in bend) for bend in bends(points, radii)]
         return self.at(*points[0]), [curve[1:2] if is_flat(*curve) else curve for curve in curves], self.at(*points[-1])
 
-    def faults(self):
+    def faults(self, progress=lambda done, of: None):
         """What is wrong with the picture, as reasons: wires that meet as drawn, and a bottleneck that is none."""
-        for one, other in crossings({pin: drawn(*curves) for pin, curves in self.curves.items()}, self.scale / 2):
+        lines = {pin: drawn(*curves) for pin, curves in self.curves.items()}
+        for one, other in crossings(lines, self.scale / 4, progress):
             yield f'the wires of {ball_name(*one)} and {ball_name(*other)} meet as drawn'
         if self.bottleneck:
             yield from self.bottleneck.faults()

@@ -17,6 +17,11 @@ mkdir -p target/bin
 printf '#!/bin/sh\\ncat "$LISTING"\\n' >target/bin/escape
 chmod +x target/bin/escape
 '''
+BUILDING = '''#!/bin/sh
+echo built >>target/host/builds
+mkdir -p target/staticlib
+cp "$ARCHIVE" target/staticlib/
+'''
 FAILING = '''#!/bin/sh
 echo "error: a need is not proved"
 echo "rt: sums NOT PROVED (exit 1, 3 s)"
@@ -36,7 +41,7 @@ class Copy(unittest.TestCase):
         shutil.copytree(ROOT / 'host', self.root / 'host', ignore=shutil.ignore_patterns('__pycache__'))
         for name in ('run', 'crates.txt'):
             shutil.copy(ROOT / name, self.root / name)
-        for tool in ('env', 'bash', 'sh', 'python3', 'awk', 'sort', 'tee', 'tail', 'cut', 'sed', 'mkdir', 'dirname', 'nproc', 'realpath', 'mktemp', 'rm', 'cat', 'head', 'sleep', 'chmod', 'cc'):
+        for tool in ('env', 'bash', 'sh', 'python3', 'awk', 'sort', 'tee', 'tail', 'cut', 'sed', 'mkdir', 'dirname', 'nproc', 'realpath', 'mktemp', 'rm', 'cat', 'head', 'sleep', 'chmod', 'cp', 'cc', 'ld'):
             (self.bin / tool).symlink_to(self.tool(tool))
 
     @staticmethod
@@ -123,9 +128,19 @@ class Run(Copy):
         return run.stderr
 
 
-class Sources(unittest.TestCase):
+class Sources(Copy):
     def test_the_library_is_built_again_only_when_its_sources_change(self):
-        self.assertEqual(talusdish.sources_digest(), talusdish.sources_digest())
-        self.assertIn('talusdish', talusdish.crates_below('talusdish'))
-        self.assertIn('sums', talusdish.crates_below('talusdish'))
-        self.assertNotIn('oracle', talusdish.crates_below('talusdish'))
+        talusdish.library()
+        self.rt(BUILDING)
+        source, builds = self.root / 'crates' / 'sums' / 'specs' / 'Some.antt', self.root / 'target' / 'host' / 'builds'
+        source.parent.mkdir(parents=True)
+        for content, count in (('one', 1), ('one', 1), ('two', 2)):
+            source.write_text(content)
+            run = self.run_in_copy('host/talus', 'check', example('four_pins'), ARCHIVE=str(ROOT / 'target' / 'staticlib' / 'libtalusdish.a'))
+            self.assertEqual((run.returncode, run.stderr), (0, ''))
+            self.assertEqual(builds.read_text().count('built'), count)
+
+    def test_the_crates_below_the_library(self):
+        below = talusdish.crates_below('talusdish')
+        self.assertLessEqual({'talusdish', 'sums', 'rules'}, set(below))
+        self.assertNotIn('oracle', below)
