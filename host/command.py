@@ -14,7 +14,7 @@ from picture import Picture, count
 from talusdish import CHOSEN, MISSING, SHORT, Failed, Job, Refused, rules
 
 WIRED, STOPPED_SHORT, REFUSED, FAILED = 0, 1, 2, 3
-LARGEST_TEXT, LARGEST_IMPORT = 1 << 20, 1 << 24                     # what is read of a job text, far above the longest; and of an import
+LARGEST_TEXT, LARGEST_IMPORT = 1 << 20, 1 << 22                     # what is read of a job text, far above the longest; and of an import
 WIDEST = 100                                                        # characters of a wrong line that are shown
 STATUS = 'Exit status: 0 {}, 2 refused (a wrong text or file), 3 failed.'
 

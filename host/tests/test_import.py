@@ -108,7 +108,7 @@ class Csv(Files):
         path = self.folder / 'huge.csv'
         with open(path, 'wb') as file:
             file.truncate(1 << 30)
-        self.assertIn('larger than 16 MiB', self.refused(str(path)))
+        self.assertIn('larger than 4 MiB', self.refused(str(path)))
 
     def test_options_of_footprints(self):
         run = talus('import', self.file('balls.csv', 'A1,chosen\nB2,idle\n'), '--caps', '1', '2', '0', '--outer', '1')
