@@ -24,7 +24,8 @@ def beyond(job, row, column, side):
 
 
 class Bottleneck:
-    """The cuts of a near side, the chosen pins in it and those beyond."""
+    """The cuts of a near side, the chosen pins in it and those beyond. Direct exits are no cuts: a pin that may leave directly is never near, as more wires
+    would fit."""
 
     def __init__(self, layout, near):
         self.job, self.layout, self.near = layout.job, layout, near
