@@ -59,6 +59,11 @@ class Footprints(Files):
         run = talus('import', FOOTPRINTS / 'ring_12_by_12.kicad_mod', '--width', '100', '--spacing', '100')
         self.assertIn('20 missing balls let no wire through', run.stderr)
 
+    def test_a_footprint_seen_from_below(self):
+        pads = [PAD.format(f'{letter}{n}', -n, -row) for row, letter in enumerate('ABC') for n in (1, 2, 3, 4)]
+        job = self.job(self.file('x.kicad_mod', footprint(*pads)), '--caps', '1', '2', '0')
+        self.assertEqual((job.rows, job.columns, len(job.pins(CHOSEN))), (3, 4, 12))
+
     def test_wrong_footprints(self):
         for content, reason in (
                 ('', 'empty'), ('   \n', 'empty'), ('hello', ':1: a footprint begins'), (footprint(), '0 pads have ball names'), ('(board)', ':1: this is no footprint'),
