@@ -15,15 +15,17 @@ from typing import NamedTuple
 
 ROOT = Path(__file__).resolve().parent.parent
 RECORD, SCRATCH = 32768, 65536                                      # bytes of a record and of a near side, bytes of scratch
-TEXT, LISTING = 320200, 1 << 20                                     # an output that every text fits, and one to begin a listing with
+TEXT, LISTING = 576240, 1 << 20                                     # an output that every text fits, and one to begin a listing with
 IDLE, CHOSEN, MISSING = 0, 1, 2
 ADDED, ALL_WIRED, SHORT = 0, 1, 2
+SIDES = 'nesw'                                                      # by their codes
 
 # What each function takes: b a buffer and its length, n a number, r a pointer to a number that it gives. Every function returns 256 * value + code.
 SIGNATURES = {
     'talusdish_new': 'bnnnnn',
     'talusdish_mark': 'bnnn',
     'talusdish_close': 'bnnn',
+    'talusdish_lay': 'bnnnn',
     'talusdish_step': 'bb',
     'talusdish_shortfall': 'bbb',
     'talusdish_part': 'bnnn',
@@ -38,12 +40,13 @@ REFUSALS = {
     2: 'rows and columns are 2 to 40',
     3: 'the capacities are out of range: O is 1 to 8, D is O to 2×O, E is 0 to 16',
     4: 'there is no such pin or tile, or the pin is not chosen',
-    5: 'unknown mark or state',
+    5: 'unknown mark, state or side',
     6: 'wrong text',
     7: 'the output is too short',
     8: 'the scratch is too short',
     9: 'a measure is not 1 to 100,000 micrometres',
     10: 'the pitch is under pad and spacing together, or the wires that fit between two pads (O) are not 1 to 8',
+    11: 'more wires are laid on a side than fit there (O)',
 }
 
 
@@ -245,6 +248,10 @@ class Job:
     def close(self, row, column, state):
         call('talusdish_close', self._record, row, column, state)
 
+    def lay(self, row, column, side, count):
+        """Sets how many wires are already laid on the side n, e, s or w of a tile; the library refuses any other side."""
+        call('talusdish_lay', self._record, row, column, (*SIDES, side).index(side), count)
+
     def step(self):
         """ADDED, ALL_WIRED or SHORT."""
         return call('talusdish_step', self._record, self._scratch)
@@ -316,9 +323,18 @@ class Job:
         """The open or the closed tiles, by row and column."""
         return [(r, c) for r in range(self.rows - 1) for c in range(self.columns - 1) if self.is_open(r, c) == is_open]
 
+    def laid_on(self, row, column, side):
+        """How many wires are already laid on the side n, e, s or w of a tile: an inner side is n or w of its southern or eastern tile too."""
+        return self._plane(17 if side in 'ns' else 18, row + (side == 's'), column + (side == 'e'))
+
+    def laid_sides(self):
+        """The sides on which wires are already laid, each once, as a text names and orders them: n in the first row and w in the first column alone."""
+        return [(r, c, side) for r in range(self.rows - 1) for c in range(self.columns - 1) for side in SIDES
+                if (side in 'es' or (r if side == 'n' else c) == 0) and self.laid_on(r, c, side)]
+
     def side_limit(self, row, column, side):
-        """How many wires the side n, e, s or w of an open tile takes."""
-        return self.o
+        """How many wires the side n, e, s or w of an open tile takes besides those already laid."""
+        return self.o - self.laid_on(row, column, side)
 
     def corner_limit(self):
         """How many wires n-e, e-s, s-w or w-n takes, in every tile."""

@@ -25,7 +25,7 @@ def example(name):
 
 
 def random_job(seed, largest=14):
-    """A job of any capacities and densities, by a seed."""
+    """A job of any capacities and densities, every other one with wires already laid, by a seed."""
     draw = random.Random(seed)
     rows, columns, o = draw.randint(2, largest), draw.randint(2, largest), draw.choice((1, 1, 2, 2, 3, 4, 6, 8))
     job = talusdish.Job(rows, columns, o, draw.randint(o, 2 * o), draw.choice((0, 0, 1, 2, 5, 16)))
@@ -38,4 +38,9 @@ def random_job(seed, largest=14):
                 job.mark(row, column, talusdish.MISSING)
             if job.has_tile(row, column) and draw.random() < closed:
                 job.close(row, column, 1)
+    laid = draw.choice((0, 0, .1, .4))
+    for row, column in (*job.tiles(True), *job.tiles(False)):
+        for side in talusdish.SIDES:
+            if draw.random() < laid:
+                job.lay(row, column, side, draw.randint(1, o))
     return job

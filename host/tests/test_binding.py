@@ -7,7 +7,7 @@ import command
 import talusdish
 from layout import hops, link
 from support import EXAMPLES, ROOT, random_job
-from talusdish import CHOSEN, SHORT, Job, Out, Refused, ball_name, ball_place, row_name, wires_of
+from talusdish import CHOSEN, MISSING, SHORT, Job, Out, Refused, ball_name, ball_place, row_name, wires_of
 
 HEADER = (ROOT / 'include' / 'talusdish.h').read_text()
 
@@ -38,10 +38,41 @@ class Binding(unittest.TestCase):
 
     def test_refused_calls(self):
         for code, refused in ((2, lambda: Job(1, 2)), (3, lambda: Job(2, 2, 2, 5, 0)), (4, lambda: Job().mark(2, 0, CHOSEN)), (5, lambda: Job().close(0, 0, 2)),
-                              (4, lambda: Job().part(0, 0, 0)), (9, lambda: talusdish.rules(0, 1, 1, 1)), (10, lambda: talusdish.rules(100, 90, 20, 20))):
+                              (4, lambda: Job().part(0, 0, 0)), (9, lambda: talusdish.rules(0, 1, 1, 1)), (10, lambda: talusdish.rules(100, 90, 20, 20)),
+                              (4, lambda: Job().lay(1, 0, 'x', 2)), (5, lambda: Job().lay(0, 0, 'x', 2)), (11, lambda: Job().lay(0, 0, 'n', 2))):
             with self.subTest(code=code), self.assertRaises(Refused) as caught:
                 refused()
             self.assertEqual(caught.exception.code, code)
+
+    def test_an_inner_side_has_one_count_whichever_tile_names_it(self):
+        job = Job(4, 4, 3, 3, 0)
+        job.lay(0, 1, 's', 2)
+        job.lay(1, 1, 'w', 3)
+        self.assertEqual([job.laid_on(*side) for side in ((0, 1, 's'), (1, 1, 'n'), (1, 1, 'w'), (1, 0, 'e'), (1, 1, 'e'))], [2, 2, 3, 3, 0])
+        self.assertEqual([job.side_limit(*side) for side in ((0, 1, 's'), (1, 1, 'n'), (1, 1, 'w'), (1, 0, 'e'), (1, 1, 'e'))], [1, 1, 0, 0, 3])
+        self.assertIn(b')\n(laid 0 1 s 2)\n(laid 1 0 e 3)\n(end)\n', job.write_text())
+        job.lay(1, 1, 'n', 0)
+        self.assertEqual(job.laid_sides(), [(1, 0, 'e')])
+
+    def test_laid_sides_are_those_of_the_text(self):
+        named = 0
+        for seed in range(60):
+            job = random_job(seed)
+            lines = re.findall(r'^\(laid (\d+) (\d+) (\w) (\d+)\)$', job.write_text().decode(), re.MULTILINE)
+            self.assertEqual([(*map(str, side[:2]), side[2], str(job.laid_on(*side))) for side in job.laid_sides()], lines)
+            named += len(lines)
+        self.assertGreater(named, 500)
+
+    def test_the_longest_text(self):
+        job = Job(40, 40, 8, 16, 16)
+        for row in range(40):
+            for column in range(40):
+                job.mark(row, column, MISSING)
+        for row, column in job.tiles(True):
+            job.close(row, column, 1)
+            for side in talusdish.SIDES:
+                job.lay(row, column, side, 8)
+        self.assertEqual((len(job.laid_sides()), len(job.write_text())), (3120, 98259))
 
     def test_rules_of_document_02(self):
         self.assertEqual(talusdish.rules(800, 400, 100, 75), (1, 150, 3, 280000, 2))
@@ -84,6 +115,19 @@ def limit_of(job, u, v):
         return 1 if kinds & {'r'} and job.mark_of(*(u if u[2] == 'r' else v)[:2]) == CHOSEN else job.rows * job.columns
     is_corner = u[:2] == v[:2] and kinds <= set('nesw')
     return job.corner_limit() if is_corner else job.side_limit(*(u if u[2] in 'nesw' else v))
+
+
+class Limits(unittest.TestCase):
+    def test_wires_of_random_jobs_keep_them(self):
+        filled = 0
+        for seed in range(100):
+            job = random_job(seed)
+            job.route()
+            wires = job.wires()
+            self.assertEqual(over_limits(job, wires), [], seed)
+            sides = [u for pin, parts in wires.items() for u, v, _ in hops(pin, parts) if limit_of(job, u, v) == 1 and u[2] in talusdish.SIDES and job.laid_on(*u)]
+            filled += len(sides)
+        self.assertGreater(filled, 20)
 
 
 class BesideEscape(unittest.TestCase):

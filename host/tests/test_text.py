@@ -33,12 +33,31 @@ WRONG = [                                                           # text, line
     (ARRAY + b'(chosen 1 1)\n(chosen 1 1)\n', 3, 8, 'named twice'),
     (ARRAY + b'(chosen 1 1)\n(chosen 1 0)\n', 3, 8, 'rises by row, then column'),
     (ARRAY + b'(closed 0 0)\n(missing 1 0)\n', 3, 1, 'missing stands after closed'),
+    (ARRAY + b'(laid 0 0 n 1)\n(closed 0 0)\n', 3, 1, 'closed stands after laid: the groups come as chosen, missing, closed, laid'),
+    (ARRAY + b'(laid 3 0 s 1)\n', 2, 6, 'no row 3 of tiles: rows are 0 to 2'),
+    (ARRAY + b'(laid 0 4 n 1)\n', 2, 8, 'no column 4 of tiles: columns are 0 to 3'),
+    (ARRAY + b'(laid 0 0 x 1)\n', 2, 10, 'a side is n, e, s or w, not x'),
+    (ARRAY + b'(laid 0 0 N 1)\n', 2, 10, 'a side is n, e, s or w, not N'),
+    (ARRAY + b'(laid 0 0 0 1)\n', 2, 10, 'a side is n, e, s or w, not 0'),
+    (ARRAY + b'(laid 0 0 ne 1)\n', 2, 10, 'a side is n, e, s or w, not ne'),
+    (ARRAY + b'(laid 1 2 n 1)\n', 2, 10, 'here s of tile 0 2: n stands in the first row alone'),
+    (ARRAY + b'(laid 1 2 w 1)\n', 2, 10, 'here e of tile 1 1: w stands in the first column alone'),
+    (ARRAY + b'(laid 0 0 n 0)\n', 2, 12, 'may be 1 to O, here 1 to 2, not 0'),
+    (ARRAY + b'(laid 0 0 n 3)\n', 2, 12, 'may be 1 to O, here 1 to 2, not 3'),
+    (ARRAY + b'(laid 0 0 n 01)\n', 2, 12, 'leading zeros'),
+    (ARRAY + b'(laid 0 0 n)\n', 2, 11, 'the form of this line is (laid ROW COLUMN SIDE COUNT)'),
+    (ARRAY + b'(laid 0 0)\n', 2, 9, 'the form of this line is (laid ROW COLUMN SIDE COUNT)'),
+    (ARRAY + b'(laid 0 0 \xff 1)\n', 2, 10, 'the form of this line'),
+    (ARRAY + b'(laid 0 0 n 1)\n(laid 0 0 n 2)\n', 3, 6, 'n of tile 0 0 is named twice'),
+    (ARRAY + b'(laid 0 0 w 1)\n(laid 0 0 s 1)\n', 3, 6, 's of tile 0 0 comes after w of tile 0 0: the group rises by row, then column, then as n, e, s, w'),
+    (ARRAY + b'(laid 1 0 e 1)\n(laid 0 3 e 1)\n', 3, 6, 'e of tile 0 3 comes after e of tile 1 0'),
     (ARRAY + b'(chosen 1 1)\n(missing 1 1)\n', 3, 9, 'chosen already'),
     (ARRAY + b'(picked 1 1)\n', 2, 0, 'a line here is'),
     (ARRAY + b'(chosen 1)\n', 2, 9, 'the form of this line is (chosen ROW COLUMN)'),
     (ARRAY + b'(chosen 1 1) \n', 2, 12, 'the form of this line'),
     (ARRAY + b'(chosen 1 \xff)\n', 2, 10, 'the form of this line'),
     (ARRAY + b'(chosen 99999999999999999999999 1)\n', 2, 8, 'no row 99999999999999999999999'),
+    (ARRAY + b'(chosen 1 ' + b'9' * 5000 + b')\n', 2, 10, 'a number of 5000 digits is too large'),
 ]
 
 
@@ -63,11 +82,13 @@ class Reasons(unittest.TestCase):
         for seed in range(40):
             text = random_job(seed, 5).write_text()
             for _ in range(100):
-                wrong = refused_line(self.changed(draw, text))
+                other = self.changed(draw, text)
+                wrong = refused_line(other)
                 if wrong:
                     refused += 1
                     self.assertLessEqual(wrong.column, len(wrong.content))
-                    self.assertTrue(wrong.reason)
+                    is_last = other.count(b'\n') < wrong.line
+                    self.assertTrue(wrong.reason and (is_last or 'not ended by a newline' not in wrong.reason), other)
         self.assertGreater(refused, 3000)
 
     def changed(self, draw, text):
