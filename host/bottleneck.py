@@ -52,7 +52,7 @@ class Bottleneck:
     def _sides(self):
         for u in self._near_sides():
             v = beyond(self.job, *u)
-            if v and not self.is_near(v):
+            if v and not self.is_near(v) and self.job.side_limit(*u):
                 yield self._cut('side', u, v, self.job.side_limit(*u))
 
     def _corners(self):

@@ -174,7 +174,8 @@ def check_picture(name, picture):
     if faults:
         raise Stop(FAILED, '\n'.join(f'{name}: {fault}' for fault in faults))
     cut = f'; {count(len(picture.bottleneck.cuts), "cut")}, all full, with the greatest number as their sum' if picture.bottleneck else ''
-    say(f'{name}: checked, no two of {count(len(picture.curves), "wire")} meet as drawn{cut}')
+    laid = ', and none meets a laid one' if picture.laid else ''
+    say(f'{name}: checked, no two of {count(len(picture.curves), "wire")} meet as drawn{laid}{cut}')
 
 
 def import_file(arguments):

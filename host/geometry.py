@@ -26,6 +26,7 @@ class Geometry:
     """Cells and gates of a job; `passed` has how many wires pass the centre of a tile."""
 
     def __init__(self, job, passed):
+        self.job = job
         self.pitch = (1 - 2 * CORNER) / (job.o + 1)                  # from lane to lane on a side
         self.diagonal_pitch = (math.sqrt(2) - 2 * CORNER) / (job.d + 1)
         self.passed = passed
@@ -52,6 +53,16 @@ class Geometry:
         cell = self.cell(place)
         return sum(x for x, _ in cell) / len(cell), sum(y for _, y in cell) / len(cell)
 
+    def along(self, side, start, end):
+        """The part of a side, as it lies on the side n, from one lane to another: they count from the side's western or northern end, whichever tile names it."""
+        places = (CORNER + lane * self.pitch for lane in (start, end))
+        return [(x if side in 'ne' else 1 - x, 0) for x in places]
+
+    def laid(self, row, column, side):
+        """The dashes (from, to) of the wires already laid on a side, at its western or northern end; the gate is what they leave."""
+        lanes = range(self.job.laid_on(row, column, side))
+        return [[(column + x, row + y) for x, y in turned(self.along(side, lane + .2, lane + .8), side)] for lane in lanes]
+
     def edge(self, u, v):
         """The tile, the side and the edge, as it lies on the side n, that two linked places share."""
         row, column, kind = v if u[2] == 'r' else u
@@ -60,7 +71,7 @@ class Geometry:
         if other[2] == 'r':
             return row, column, kind, [(a, 0), (b, b)]
         if other[2] in OUTWARD or other[:2] != (row, column):
-            return row, column, kind, [(a, 0), (1 - a, 0)]
+            return row, column, kind, self.along(kind, self.job.laid_on(row, column, kind), self.job.o + 1)
         if 'c' in (kind, other[2]):
             return row, column, other[2] if kind == 'c' else kind, [(.5 - h, .5 - h), (.5 + h, .5 - h)]
         return row, column, kind if CLOCKWISE[kind] == other[2] else other[2], [(1 - b, b), (.5 + h, .5 - h)]

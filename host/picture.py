@@ -45,6 +45,16 @@ def count(n, thing):
     return f'{n:,} {thing}' + ('' if n == 1 else 's')
 
 
+def line_name(row, column, side=None):
+    """A wire by its pin, or the wires already laid on a side of a tile."""
+    return f'what is laid on {side} of tile {row} {column}' if side else f'the wire of {ball_name(row, column)}'
+
+
+def length_of(word):
+    """How long the entry of a word in the legend is, in pixels."""
+    return 34 + round(6.7 * len(word))
+
+
 class Picture:
     """The picture of a layout, with a bottleneck where there is one, under a name."""
 
@@ -52,11 +62,12 @@ class Picture:
         self.name, self.layout, self.job, self.bottleneck = name, layout, layout.job, bottleneck
         self.scale = pixels_of(self.job)
         self.margin = max(.8, 40 / self.scale)
-        self.width = max(NARROWEST, self._along(self.job.columns - 1 + self.margin))
+        self.colours = self._colours()
+        self.laid = {side: layout.geometry.laid(*side) for side in self.job.laid_sides()}
+        self.width = max(NARROWEST, sum(length_of(word) for _, word in self._entries()), self._along(self.job.columns - 1 + self.margin))
         self.left = (self.width - self._along(self.job.columns - 1 + self.margin)) / 2
         self.height = HEAD + self._along(self.job.rows - 1 + self.margin) + FOOT
-        self.colours = self._colours()
-        rounding = radii(layout.lines, progress)
+        rounding = radii(layout.lines | {side: [dashes[0][0], dashes[-1][1]] for side, dashes in self.laid.items()}, progress)
         self.curves = {pin: self._curves(points, rounding[pin]) for pin, points in layout.lines.items()}
 
     def _along(self, pitches):
@@ -79,10 +90,11 @@ class Picture:
         return self.at(*points[0]), [curve[1:2] if is_flat(*curve) else curve for curve in curves], self.at(*points[-1])
 
     def faults(self, progress=lambda done, of: None):
-        """What is wrong with the picture, as reasons: wires that meet as drawn, and a bottleneck that is none."""
+        """What is wrong with the picture, as reasons: wires that meet as drawn, each other or laid ones, and a bottleneck that is none."""
         lines = {pin: drawn(*curves) for pin, curves in self.curves.items()}
+        lines |= {side: [self.at(*dashes[0][0]), self.at(*dashes[-1][1])] for side, dashes in self.laid.items()}
         for one, other in crossings(lines, self.scale / 4, progress):
-            yield f'the wires of {ball_name(*one)} and {ball_name(*other)} meet as drawn'
+            yield f'{line_name(*one)} and {line_name(*other)} meet as drawn'
         if self.bottleneck:
             yield from self.bottleneck.faults()
 
@@ -112,7 +124,10 @@ class Picture:
                  element('rect', width=self.width, height=self.height, fill=PAPER), self._head(), self._axes(), self._board()]
         if self.bottleneck:
             parts.append(self._shade())
-        parts += [self._missing(), self._wires(), self._pads()]
+        parts.append(self._missing())
+        if self.laid:
+            parts.append(self._laid())
+        parts += [self._wires(), self._pads()]
         if self.bottleneck:
             parts.append(self._cuts())
         parts.append(self._legend())
@@ -177,6 +192,14 @@ class Picture:
         cells = [self._polygon((*pin, 'r')) for pin in self.job.pins(MISSING)]
         return element('g', ''.join(cells), fill='none', stroke=LINE, stroke_dasharray='3 2')
 
+    def _laid(self):
+        """A dash along a side for each wire already laid across it."""
+        paths = []
+        for (row, column, side), dashes in self.laid.items():
+            path = ''.join(f'M{self._pair(self.at(*p))}L{self._pair(self.at(*q))}' for p, q in dashes)
+            paths.append(element('path', element('title', f'{count(len(dashes), "wire")} laid on {side} of tile {row} {column}'), d=path))
+        return element('g', ''.join(paths), stroke=FAINT, stroke_width=.06 * self.scale)
+
     def _wires(self):
         paths = []
         for pin, (start, bends, end) in self.curves.items():
@@ -232,8 +255,8 @@ class Picture:
         x, y = self.at(x, y)
         return mark, element('text', said, x=x, y=y, dy=MIDDLE)
 
-    def _legend(self):
-        """The marks of this picture in words, on one line."""
+    def _entries(self):
+        """The marks of this picture, each with its words."""
         job, chosen = self.job, self.job.pins(CHOSEN)
         entries = []
         if self.colours:
@@ -246,15 +269,18 @@ class Picture:
             entries.append((element('circle', r=6, cx=6, fill='none', stroke=LINE, stroke_dasharray='3 2'), 'missing'))
         if job.tiles(False):
             entries.append((element('rect', y=-6, width=12, height=12, rx=2, fill='url(#talus-closed)', stroke=LINE), 'closed tile'))
+        if self.laid:
+            entries.append((element('path', d='M0 0H5M8 0H13', stroke=FAINT, stroke_width=4), 'laid wires'))
         if self.bottleneck:
             entries.append((element('rect', y=-6, width=12, height=12, fill=SHADE, opacity=.45), 'shaded part'))
             entries.append((element('path', d='M0 0H12', stroke=ALARM, stroke_width=3, stroke_linecap='round'), 'way out, load/limit'))
-        return self._in_line(entries)
+        return entries
 
-    def _in_line(self, entries):
+    def _legend(self):
+        """The entries on one line."""
         x, placed = 14, []
-        for mark, word in entries:
+        for mark, word in self._entries():
             text = element('text', word, x=18, dy=MIDDLE, font_size=11, fill=FAINT)
             placed.append(element('g', mark + text, transform=f'translate({x} {number(self.height - FOOT / 2)})'))
-            x += 34 + round(6.7 * len(word))
+            x += length_of(word)
         return ''.join(placed)

@@ -52,12 +52,19 @@ class Status(Folder):
         self.assertEqual(talus('draw', example('short')).returncode, 1)
         self.assertEqual(talus('check', example('short')).returncode, 0)
 
+    def test_short_by_a_laid_wire(self):
+        near = '(near pin 1 1)\n(near pin 1 2)\n(near 0 1 n)\n(near 0 1 e)\n(near 0 1 s)\n(near 0 1 w)\n(near 0 1 ci)\n'
+        run = talus('route', example('laid'))
+        self.assertEqual((run.returncode, run.stdout), (1, f'(short 1)\n{near}'))
+        without = Path(example('laid')).read_text().replace('(laid 0 1 n 1)\n', '')
+        self.assertEqual(talus('route', '-', input=without).returncode, 0)
+
     def test_a_wrong_text_has_its_line_and_a_caret(self):
         path = self.file('x.job', WRONG)
         for part in ('route', 'check', 'draw'):
             self.assertEqual(talus(part, path).returncode, 2)
         self.assertEqual(talus('check', path).stderr,
-                         f'{path}:3: chosen stands after closed: the groups come as chosen, missing, closed\n    (chosen 0 0)\n     ^\n')
+                         f'{path}:3: chosen stands after closed: the groups come as chosen, missing, closed, laid\n    (chosen 0 0)\n     ^\n')
 
     def test_standard_input(self):
         self.assertEqual(talus('check', '-', input='(array (pins 2 2) (caps 1 2 0))\n(end)\n').returncode, 0)
@@ -151,6 +158,7 @@ class Check(Folder):
     def test_a_checked_picture_says_so(self):
         self.says(talus('draw', example('table2_1'), '--check', '-o', '/dev/null'), 0, 'meet as drawn')
         self.says(talus('draw', example('short'), '--check', '-o', '/dev/null'), 1, 'all full, with the greatest number as their sum')
+        self.says(talus('draw', example('laid'), '--check', '-o', '/dev/null'), 1, 'no two of 1 wire meet as drawn, and none meets a laid one; 1 cut, all full')
 
     def test_progress_is_said_after_a_second_and_then_every_two(self):
         said, times = [], iter((0, .5, 1.1, 1.1, 2, 3.2, 3.2))
