@@ -2,11 +2,12 @@
 import re
 from typing import NamedTuple
 
+from talusdish import SIDES
+
 RANGES = {'rows': (2, 40), 'columns': (2, 40), 'O': (1, 8), 'E': (0, 16)}
 GROUPS = ('chosen', 'missing', 'closed', 'laid')                    # in the order of a text
 FORMS = {'array': '(array (pins ROWS COLUMNS) (caps O D E))', 'end': '(end)', **{word: f'({word} ROW COLUMN)' for word in GROUPS},
          'laid': '(laid ROW COLUMN SIDE COUNT)'}
-SIDES = 'nesw'                                                      # in the order of a text
 LONGEST = 40                                                        # digits of a number that is told
 
 

@@ -18,7 +18,7 @@ RECORD, SCRATCH = 32768, 65536                                      # bytes of a
 TEXT, LISTING = 576240, 1 << 20                                     # an output that every text fits, and one to begin a listing with
 IDLE, CHOSEN, MISSING = 0, 1, 2
 ADDED, ALL_WIRED, SHORT = 0, 1, 2
-SIDES = 'nesw'                                                      # by their codes
+SIDES = 'nesw'                                                      # by their codes, which is the order of a text too
 
 # What each function takes: b a buffer and its length, n a number, r a pointer to a number that it gives. Every function returns 256 * value + code.
 SIGNATURES = {
