@@ -10,7 +10,7 @@ use Rattle.sums.specs.Counting.{only, each}
 use Rattle.model.specs.Job.{Job}
 use Rattle.model.specs.Links.{PlaceKind, Step}
 use Rattle.model.specs.Wires.{Part, unwired, to, out, pastTheEnd, isWired, wireCount, partAt}
-use Rattle.model.specs.Listing.{digit, tens, decimal, spaced, close, line, pairLine, spread, row, column, wiresWord, wireWord, toWord, outWord, letterOf, placeLane, partBytes, partsBytes, wireLine, cellWire, wiresListing}
+use Rattle.model.specs.Listing.{digit, tens, decimal, spaced, close, line, pairLine, spread, row, column, wiresWord, wireWord, toWord, outWord, placeLane, partBytes, partsBytes, wireLine, cellWire, wiresListing}
 
 only-short : (b : Bool) (l : List ℕ) → length (only b l) ≤ length l
 only-short true l = omega arith

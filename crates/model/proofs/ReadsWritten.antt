@@ -147,7 +147,6 @@ may-name J K p a f closedTiles r c d l =
     and-both (isTile K r c) (says closedTiles d (valueAt J closedTiles r c d))
     (subst₂ (λ (n m : ℕ). T (ltb (suc r) n && ltb (suc c) m)) (sym (a .rows)) (sym (a .columns)) (and-left (isTile J r c) (eqb (J .state r c) 1) t))
     (told d 1 (isClosed J r c) l)
-
 may-name J K p a f laidSides r c d l =
     let (ld, t, w) = side-written J r c d l in
     let v : ℕ = valueAt J laidSides r c d in

@@ -210,7 +210,6 @@ named-here K missingPins r c d v t =
     (and-left (isPin K r c) unchosen (and-left (isPin K r c && unchosen) (says missingPins d v) t))
 named-here K closedTiles r c d v t =
     put-value (K .state) (isTile K r c) r c d v 1 (names-says K closedTiles r c d v t) (and-left (isTile K r c) (says closedTiles d v) t)
-
 named-here K laidSides r c d v t =
     let (a, w, l) = names-laid K r c d v t in
     let (ld, some-v) = says-some laidSides d v (names-says K laidSides r c d v t) in

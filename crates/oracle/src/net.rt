@@ -185,10 +185,20 @@ fn sides(m: &mut Sheet, job: &Job, r: usize, c: usize)
         edge(m, w, place(job, r + 1, c, E), room(job, r, c, b'w'));
     }
     if r + 2 == number(job, ROWS) {
-        one_way(m, place(job, r + 1, c + 1, S), OUTSIDE, room(job, r, c, b's'));
+        one_way(
+            m,
+            place(job, r + 1, c + 1, S),
+            OUTSIDE,
+            room(job, r, c, b's'),
+        );
     }
     if c + 2 == number(job, COLUMNS) {
-        one_way(m, place(job, r + 1, c + 1, E), OUTSIDE, room(job, r, c, b'e'));
+        one_way(
+            m,
+            place(job, r + 1, c + 1, E),
+            OUTSIDE,
+            room(job, r, c, b'e'),
+        );
     }
 }
 

@@ -85,7 +85,14 @@ pub fn expect_close(job: &Job, n: usize, row: usize, column: usize, value: usize
     say(DONE, 0)
 }
 
-pub fn expect_lay(job: &Job, n: usize, row: usize, column: usize, side: usize, count: usize) -> Said {
+pub fn expect_lay(
+    job: &Job,
+    n: usize,
+    row: usize,
+    column: usize,
+    side: usize,
+    count: usize,
+) -> Said {
     if n < 32768 {
         return say(REFUSED, 1);
     }

@@ -1,4 +1,4 @@
-// The eight operations of document 01, and the listing of a record's wires. Each passes its buffers on and returns the word of an answer with which the operation did what it promises.
+// The operations as functions for hosts. Each passes its buffers on and returns the word of an answer with which the operation did what it promises.
 ghost use mathlib.Core.Path.{_≡_};
 ghost use mathlib.Core.List.{[]};
 ghost use Rattle.model.specs.Calls.{new as New, mark as Mark, close as Close, lay as Lay, step as Step, shortfall as Shortfall, part as Part, readText, writeText, listing as Listing};
@@ -53,7 +53,13 @@ pub extern "C" fn talusdish_lay(rec: &mut [u8], row: u64, column: u64, side: u64
     ensures { λ n. ⌜ ((a : Answer) × (n ≡ word a)
         × Did (Lay row column side count) (now (rec .entry)) (after a (now (rec .exit)) [] [])) ⌝ }
 {
-    word_of(service::lay(rec, row as usize, column as usize, side as usize, count as usize))
+    word_of(service::lay(
+        rec,
+        row as usize,
+        column as usize,
+        side as usize,
+        count as usize,
+    ))
 }
 
 // One wire more, or the greatest number.
