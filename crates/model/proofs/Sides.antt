@@ -1,5 +1,4 @@
--- K3: the counts of sides. A count that is set on a side is there and no other changes; both tiles at a side name the same one, and one of them alone
--- writes it; so the counts of a proper job are those that its text has. Assumes nothing.
+-- K3: the counts of sides. A count that is set on a side is there and no other changes; one tile alone writes a side; so the counts of a proper job are those that its text has. Assumes nothing.
 use mathlib.Core.Path.{_≡_, refl, sym, ap, subst, _∙_}
 use mathlib.Core.Logic.{_≢_}
 use mathlib.Core.Bool.{Bool, true, false, _&&_}
@@ -109,13 +108,6 @@ laid-proper J r c d n p t u = by (sideOf r c d) (counts-fit J (sideOf r c d) n (
     by s f = record { array = p .array; caps = p .caps; marks = p .marks; states = p .states; added = f }
 
 -- ---- names of sides
-
--- s is n of the tile to the south, e is w of the tile to the east
-pub south-north : (r c : ℕ) → sideOf r c 2 ≡ sideOf (suc r) c 0
-south-north r c = refl
-
-pub east-west : (r c : ℕ) → sideOf r c 1 ≡ sideOf r (suc c) 3
-east-west r c = refl
 
 abbrev sort : Side → ℕ
 sort (ofNorth r c) = 0
