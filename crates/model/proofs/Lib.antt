@@ -47,3 +47,6 @@ pub mod DirectExit
 pub mod LaneExamples
 pub mod Measures
 pub mod TextExamples
+-- K6: draws, and the job of a trial.
+pub mod Draws
+pub mod TrialProper

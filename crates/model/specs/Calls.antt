@@ -15,6 +15,7 @@ use Rattle.model.specs.Record.{recordSize, scratchSize, jobOf, load, Leg
 use Rattle.model.specs.Wires.{Part, partAt, isWired, wireCount}
 use Rattle.model.specs.Text.{Verdict, reads, wrongAt, Reading, textOf}
 use Rattle.model.specs.Listing.{wiresListing}
+use Rattle.model.specs.Trial.{Trial, seedFits, percentsFit, trialJob}
 
 -- ---- calls and answers
 
@@ -30,6 +31,7 @@ pub data Call : Type 0 where
   readText : (text : List ℕ) → Call
   writeText : (output : List ℕ) → Call
   listing : (output : List ℕ) → Call
+  trial : Trial → Call
 
 pub data Answer : Type 0 where
   refused : ℕ → Answer
@@ -91,6 +93,17 @@ abbrev pub newly : ℕ → ℕ → ℕ → ℕ → ℕ → List ℕ → After
 newly rows columns O D E rec =
     asked (test (leb recordSize (length rec)) 1 ∷ test (arrayFits rows columns) 2 ∷ test (capsAdmitted O D E) 3 ∷ []) rec []
     (after done (over (unwiredRecord (fresh rows columns O D E)) rec) [] [])
+
+-- K6: "Turned away, after 1, 2 and 3 of a new job: 12 a starting number of zero; 13 chosen plus missing above 100, or closed above 100."
+abbrev pub triedOn : Trial → List ℕ → After
+triedOn t rec =
+    asked
+    (test (leb recordSize (length rec)) 1
+    ∷ test (arrayFits (t .rows) (t .columns)) 2
+    ∷ test (capsAdmitted (t .O) (t .D) (t .E)) 3
+    ∷ test (seedFits t) 12
+    ∷ test (percentsFit t) 13
+    ∷ []) rec [] (after done (over (unwiredRecord (trialJob t)) rec) [] [])
 
 -- "A value already there changes nothing. Any other edit takes out all wires."
 abbrev pub edited : (already : Bool) → Job → List ℕ → After
@@ -210,3 +223,4 @@ Did (part r c i) rec a = On rec [] [] a (a ≡ listed r c i rec)
 Did (readText text) rec a = ReadIn text rec a
 Did (writeText output) rec a = On rec [] output a (a ≡ written output rec)
 Did (listing output) rec a = On rec [] output a (a ≡ listedOut output rec)
+Did (trial t) rec a = a ≡ triedOn t rec

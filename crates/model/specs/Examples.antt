@@ -233,3 +233,15 @@ exits J r c n = record { job = J; row = r; column = c; gives = n }
 -- A corner pin has one, "even where all its tiles are closed", and not two; an inner pin, a missing pin and an idle one have none.
 abbrev pub directs : List Exits
 directs = exits job64 0 0 1 ∷ exits job33 0 0 1 ∷ exits job33 1 0 1 ∷ exits job33 1 1 0 ∷ exits jobShut 1 1 0 ∷ exits jobMissing 0 1 0 ∷ exits job64 0 1 0 ∷ []
+
+-- ---- K6: the number after so many draws from 1; "From 1 the first draw is 270369"
+
+pub record FromOne : Type 0 where
+  pub draws : ℕ
+  pub number : ℕ
+
+abbrev pub fromOne : ℕ → ℕ → FromOne
+fromOne k x = record { draws = k; number = x }
+
+abbrev pub numbersFromOne : List FromOne
+numbersFromOne = fromOne 1 270369 ∷ fromOne 2 67634689 ∷ fromOne 3 2647435461 ∷ fromOne 4 307599695 ∷ fromOne 5 2398689233 ∷ []

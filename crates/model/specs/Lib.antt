@@ -10,6 +10,7 @@ pub mod Wires
 pub mod Record
 pub mod Text
 pub mod Listing
+pub mod Trial
 pub mod Calls
 pub mod Run
 -- The rows of the examples.

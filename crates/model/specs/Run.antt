@@ -13,7 +13,8 @@ use Rattle.model.specs.Near.{Smallest}
 use Rattle.model.specs.Record.{recordSize, scratchSize, jobOf, load, over}
 use Rattle.model.specs.Wires.{partAt, Holds}
 use Rattle.model.specs.Text.{reads, Reading}
-use Rattle.model.specs.Calls.{Call, new, mark, close, step, shortfall, part, readText, writeText, listing, Answer, added, allWired, short, lacks, lists, refusal, Accepted, After, Did, wiresIn, nearBytes, lay}
+use Rattle.model.specs.Trial.{Trial, trialJob}
+use Rattle.model.specs.Calls.{Call, new, mark, close, step, shortfall, part, readText, writeText, listing, Answer, added, allWired, short, lacks, lists, refusal, Accepted, After, Did, wiresIn, nearBytes, lay, trial}
 
 -- ---- what can be lent
 
@@ -37,6 +38,8 @@ Lent (part r c i) = Word r × Word c × Word i
 Lent (readText text) = Buffer text
 Lent (writeText output) = Buffer output
 Lent (listing output) = Buffer output
+Lent (trial t) =
+    Word (t .rows) × Word (t .columns) × Word (t .O) × Word (t .D) × Word (t .E) × Word (t .seed) × Word (t .chosen) × Word (t .missing) × Word (t .closed)
 
 -- The operations as they are promised: every call on a buffer ends and leaves what its paragraph states.
 pub record Service : Type 0 where
@@ -58,6 +61,7 @@ module _ (S : Service) where
   Sets (readText text) J K = Reading text (reads K)
   Sets (writeText output) J K = K ≡ J
   Sets (listing output) J K = K ≡ J
+  Sets (trial t) J K = K ≡ trialJob t
 
   -- "A refused call changes nothing in the job."
   abbrev pub Becomes : Answer → Call → Job → Job → Type 0
@@ -70,6 +74,9 @@ module _ (S : Service) where
         → Starts rec (fresh rows columns O D E)
     byText : {rec : List ℕ} {J : Job} (before text : List ℕ) → Buffer before → Lent (readText text) → Accepted (S .does (readText text) before .answer)
         → rec ≡ S .does (readText text) before .rec → Reading text (reads J) → Starts rec J
+    -- K6: "A run may also start with an accepted call of the generator."
+    byTrial : {rec : List ℕ} (before : List ℕ) (t : Trial) → Buffer before → Lent (trial t) → Accepted (S .does (trial t) before .answer)
+        → rec ≡ S .does (trial t) before .rec → Starts rec (trialJob t)
 
   -- "followed on it by any list .. Each is lent the record as the call before left it": from the record rec with the job J to rec′ with J′
   abbrev pub Follows : List ℕ → Job → List Call → List ℕ → Job → Type 0
