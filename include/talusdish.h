@@ -16,6 +16,8 @@
  *        9  a measure not 1 to 100,000
  *       10  pitch under pad diameter and spacing together, or O not 1 to 8
  *       11  a count of laid wires above O
+ *       12  a starting number of 0, or of more than 32 bits
+ *       13  percentages: chosen and missing together above 100, or closed above 100
  * value  as said below; 0 where nothing is said, and with every code but 0 and 6
  *
  * Where several codes fit, the one that stands first at the function is returned. A refused call changes no byte.
@@ -88,6 +90,12 @@ uint64_t talusdish_listing(const uint8_t *record, uint64_t record_len, uint8_t *
  * *diagonal the smaller of *k and 2 * *o
  * O and D of talusdish_new may be *o and *diagonal, with every E from 0 to 16. The five pointers are to different numbers; a refused call changes none. */
 uint64_t talusdish_rules(uint64_t p, uint64_t d, uint64_t w, uint64_t s, uint64_t *o, uint64_t *o_rest, uint64_t *k, uint64_t *k_rest, uint64_t *diagonal);
+
+/* The job of a load trial, without wires. 1 only for a short record; 2; 3; 12; 13. The number `seed` moves on with each draw by Marsaglia's xorshift on 32
+ * bits: left 13, right 17, left 5. Each pin by row and column takes one draw modulo 100: below `chosen` it is chosen, below `chosen` + `missing` it is
+ * missing, else idle; then each tile, in the same order: below `closed` it is closed. */
+uint64_t talusdish_trial(uint8_t *record, uint64_t record_len, uint64_t rows, uint64_t columns, uint64_t o, uint64_t d, uint64_t e, uint64_t seed,
+                         uint64_t chosen, uint64_t missing, uint64_t closed);
 
 #ifdef __cplusplus
 }

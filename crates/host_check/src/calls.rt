@@ -21,6 +21,7 @@ use talusdish::exports::talusdish_part;
 use talusdish::exports::talusdish_read_text;
 use talusdish::exports::talusdish_shortfall;
 use talusdish::exports::talusdish_step;
+use talusdish::exports::talusdish_trial;
 use talusdish::exports::talusdish_write_text;
 use verdict::bytes::Tally;
 use verdict::bytes::hold;
@@ -271,6 +272,30 @@ fn call_listing(tally: &mut Tally, rec: &[u8], twin: &[u8], seed: u32) -> Answer
     answer
 }
 
+fn call_trial(tally: &mut Tally, rec: &mut [u8], twin: &mut [u8], seed: u32) -> Answer {
+    let a = xorshift(seed);
+    let rows = pick(seed, 2, 7);
+    let columns = pick(a, 2, 7);
+    let number = pick(xorshift(a), 0, 100000);
+    let chosen = pick(a / 2, 0, 80);
+    let closed = pick(a / 4, 0, 102);
+    let answer = service::trial(rec, rows, columns, 2, 3, 1, number, chosen, 30, closed);
+    let word = talusdish_trial(
+        twin,
+        rows as u64,
+        columns as u64,
+        2,
+        3,
+        1,
+        number as u64,
+        chosen as u64,
+        30,
+        closed as u64,
+    );
+    hold(tally, says(word, answer), b"the word of trial");
+    answer
+}
+
 // A call of this kind.
 fn call(tally: &mut Tally, rec: &mut [u8], twin: &mut [u8], seed: u32, kind: usize) -> Answer {
     match kind {
@@ -283,6 +308,7 @@ fn call(tally: &mut Tally, rec: &mut [u8], twin: &mut [u8], seed: u32, kind: usi
         6 => call_part(tally, rec, twin, seed),
         7 => call_write(tally, rec, twin, seed),
         9 => call_lay(tally, rec, twin, seed),
+        10 => call_trial(tally, rec, twin, seed),
         _ => call_listing(tally, rec, twin, seed),
     }
 }
@@ -320,6 +346,9 @@ fn call_on(
 fn kind_of(n: usize, k: usize) -> usize {
     if k % 256 == 7 {
         return 1;
+    }
+    if k % 256 == 135 {
+        return 10;
     }
     if k % 256 < 7 {
         match n {

@@ -12,7 +12,7 @@ fn main() {
     examples::examples(&mut examples);
     tell(b"host examples", &examples);
     let mut calls = [0u64; 2];
-    let mut counts = [0u64; 21];
+    let mut counts = [0u64; 22];
     calls::calls(&mut calls, &mut counts);
     tell(b"host calls", &calls);
     words::tell_counts(&counts);

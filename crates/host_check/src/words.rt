@@ -81,7 +81,7 @@ pub fn says(w: u64, answer: Answer) -> bool {
 }
 
 // How often each kind of answer occurs.
-pub type Counts = [u64; 21];
+pub type Counts = [u64; 22];
 
 fn part_kind(part: Part) -> usize {
     match part {
@@ -97,10 +97,10 @@ fn part_kind(part: Part) -> usize {
     }
 }
 
-// Where an answer is counted: a refusal at its number.
+// Where an answer is counted: a refusal at its number, those from 9 on together.
 fn kind(answer: Answer) -> usize {
     match answer {
-        Answer::Refused(k) => k,
+        Answer::Refused(k) => { if k < 9 { k } else { 21 } }
         Answer::WrongText(_) => 6,
         Answer::Done => 9,
         Answer::Added => 10,
@@ -114,7 +114,7 @@ fn kind(answer: Answer) -> usize {
 
 pub fn count(counts: &mut Counts, answer: Answer) {
     let k = kind(answer);
-    if k < 21 {
+    if k < 22 {
         counts[k] = std::num::wrapping_add_u64(counts[k], 1);
     }
 }
@@ -140,4 +140,5 @@ pub fn tell_counts(counts: &Counts) {
     line(b"out in lane 0", counts[18]);
     line(b"out in another lane", counts[19]);
     line(b"text written", counts[20]);
+    line(b"refused 9 and above", counts[21]);
 }

@@ -101,8 +101,8 @@ triedOn t rec =
     (test (leb recordSize (length rec)) 1
     ∷ test (arrayFits (t .rows) (t .columns)) 2
     ∷ test (capsAdmitted (t .O) (t .D) (t .E)) 3
-    ∷ test (seedFits t) 12
-    ∷ test (percentsFit t) 13
+    ∷ test (seedFits (t .seed)) 12
+    ∷ test (percentsFit (t .chosen) (t .missing) (t .closed)) 13
     ∷ []) rec [] (after done (over (unwiredRecord (trialJob t)) rec) [] [])
 
 -- "A value already there changes nothing. Any other edit takes out all wires."

@@ -55,12 +55,12 @@ trialOf rows columns O D E seed chosen missing closed =
     record { rows = rows; columns = columns; O = O; D = D; E = E; seed = seed; chosen = chosen; missing = missing; closed = closed }
 
 -- "12 a starting number of zero", or one of more than 32 bits
-abbrev pub seedFits : Trial → Bool
-seedFits t = ltb 0 (t .seed) && ltb (t .seed) (2 ^ 32)
+abbrev pub seedFits : ℕ → Bool
+seedFits seed = ltb 0 seed && ltb seed (2 ^ 32)
 
 -- "13 chosen plus missing above 100, or closed above 100"
-abbrev pub percentsFit : Trial → Bool
-percentsFit t = leb (t .chosen + t .missing) 100 && leb (t .closed) 100
+abbrev pub percentsFit : (chosen missing closed : ℕ) → Bool
+percentsFit chosen missing closed = leb (chosen + missing) 100 && leb closed 100
 
 -- of an array of cells by row and column, the cell (r, c) takes this draw, counted from 0, after `before` others
 abbrev pub turn : (before width r c : ℕ) → ℕ

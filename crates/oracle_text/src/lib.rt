@@ -5,3 +5,4 @@ pub mod page; // bytes written one after the other
 pub mod scan; // a text held to a template
 pub mod text; // job text read and written
 pub mod random; // jobs drawn at random
+pub mod trial; // the jobs of load trials

@@ -1,4 +1,4 @@
--- Capping each number at 100,001 changes no answer. Assumes nothing.
+-- Capping each number at 10,000,000,000 changes no answer. Assumes nothing.
 use mathlib.Core.Path.{_≡_}
 use Prim.Native.Nat.{ℕ, _≤_}
 use native.Mathlib.Nat.{min-eq-left}

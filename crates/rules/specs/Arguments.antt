@@ -1,4 +1,4 @@
--- A measure as an argument of the program writes it: one or more decimal digits. Assumes nothing.
+-- A number as an argument of a program writes it: one or more decimal digits. Assumes nothing.
 use mathlib.Core.Path.{_≡_}
 use mathlib.Core.Bool.{Bool}
 use mathlib.Core.List.{List}
@@ -18,9 +18,9 @@ unfoldable pub decimal : List ℕ → ℕ → ℕ
 decimal text zero = 0
 decimal text (suc n) = 10 * decimal text n + (getD text n 0 - 48)
 
--- Every number above 100,000 is out of range, so one stands for all.
+-- Every number of more than ten digits is out of every range, so one stands for all.
 abbrev pub capped : ℕ → ℕ
-capped n = min n 100001
+capped n = min n 10000000000
 
 pub data Written (text : List ℕ) : Argument → Type 0 where
   empty : length text ≡ 0 → Written text NoNumber

@@ -1,8 +1,8 @@
-// A measure as an argument writes it.
+// A number as an argument writes it.
 ghost use Rattle.rules.specs.Arguments.{Written};
 use crate::smaller;
 
-// What an argument is: a number, 100,001 for every larger one, or none.
+// What an argument is: a number, 10,000,000,000 for every larger one, or none.
 pub enum Argument {
     NoNumber,
     Number(u64),
@@ -25,7 +25,7 @@ pub fn read_number(text: &[u8]) -> Argument
         if b'9' < b {
             return Argument::NoNumber;
         }
-        n = smaller(10 * n + (b - b'0') as u64, 100001);
+        n = smaller(10 * n + (b - b'0') as u64, 10000000000);
         i += 1;
     }
     Argument::Number(n)

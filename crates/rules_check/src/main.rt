@@ -113,8 +113,8 @@ fn arguments(counts: &mut [u64; 6]) {
     argument(counts, b"000075", 75);
     argument(counts, b"100000", 100000);
     argument(counts, b"100001", 100001);
-    argument(counts, b"100002", 100001);
-    argument(counts, b"18446744073709551617", 100001);
+    argument(counts, b"100002", 100002);
+    argument(counts, b"18446744073709551617", 10000000000);
     argument(counts, b"", 200000);
     argument(counts, b"-5", 200000);
     argument(counts, b"7.5", 200000);

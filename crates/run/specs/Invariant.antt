@@ -16,15 +16,17 @@ use Rattle.model.specs.Record.{recordSize, scratchSize, jobOf, load, Legal, noL
 use Rattle.model.specs.Wires.{partAt}
 use Rattle.model.specs.Text.{Verdict, reads, wrongAt, Reading, textOf}
 use Rattle.model.specs.Listing.{wiresListing}
-use Rattle.model.specs.Calls.{Call, new, mark, close, lay, step, shortfall, part, readText, writeText, listing}
+use Rattle.model.specs.Trial.{Trial, seedFits, percentsFit, trialJob}
+use Rattle.model.specs.Calls.{Call, new, mark, close, lay, step, shortfall, part, readText, writeText, listing, trial}
 use Rattle.model.specs.Calls.{Answer, refused, done, lists, wrote, refusal, Accepted, After, after}
-use Rattle.model.specs.Calls.{Test, test, asked, edited, newly, markedBy, closedBy, laidIn, listed, readIn, putOut, Stepped, adds, stays, lacking, Steps, Lacks, Did}
+use Rattle.model.specs.Calls.{Test, test, asked, edited, newly, triedOn, markedBy, closedBy, laidIn, listed, readIn, putOut, Stepped, adds, stays, lacking, Steps, Lacks, Did}
 use Rattle.model.specs.Run.{Buffer, Service, Sets}
 use Rattle.model.proofs.RecordOf.{length-record}
 use Rattle.model.proofs.Asked.{allHold, numbered, both-hold, asked-holds, asked-either}
 use Rattle.model.proofs.Over.{anew-legal, anew-job, legal-proper}
 use Rattle.model.proofs.Sides.{laid-proper}
 use Rattle.model.proofs.TextProper.{fresh-proper, marked-proper, closed-proper, reading-proper}
+use Rattle.model.proofs.TrialProper.{trial-proper}
 use Rattle.run.specs.Buffers.{over-buffer}
 
 -- a buffer that is a legal record of the job
@@ -72,6 +74,20 @@ module _ (S : Service) (rec : List ℕ) (J : Job) (b : Buffer rec) (long : recor
   pub read-leaves : (text : List ℕ) (v : Verdict) → Reading text v → Leaves S (readText text) rec J (readIn v rec)
   read-leaves text (reads K) r = accepts K refl r (anew K (reading-proper text K r))
   read-leaves text (wrongAt o) r = refuses 6 refl (omega arith) refl
+
+  pub trial-leaves : (t : Trial) → Leaves S (trial t) rec J (triedOn t rec)
+  trial-leaves t =
+      let K : Job = trialJob t in
+      let made : After = after done (over (unwiredRecord K) rec) [] [] in
+      let a : Bool = arrayFits (t .rows) (t .columns) in
+      let b : Bool = capsAdmitted (t .O) (t .D) (t .E) in
+      let rest : List Test = test (seedFits (t .seed)) 12 ∷ test (percentsFit (t .chosen) (t .missing) (t .closed)) 13 ∷ [] in
+      let ts : List Test = test a 2 ∷ test b 3 ∷ rest in
+      subst (Leaves S (trial t) rec J) (sym (asked-holds rec [] made (leb recordSize (length rec)) 1 ts (le-leb recordSize (length rec) long)))
+      (asked-either rec [] made (Leaves S (trial t) rec J) notOne ts tt (refused-leaves S (trial t) rec J [])
+      (λ h.
+      accepts K refl refl
+      (anew K (trial-proper t (and-left a (b && allHold rest) h) (and-left b (allHold rest) (and-right a (b && allHold rest) h))))))
 
 -- ---- the others, on a legal record
 
@@ -231,3 +247,4 @@ module _ (S : Service) (rec : List ℕ) (J : Job) (k : Kept rec J) where
   call-leaves (writeText output) a d = subst (Leaves S (writeText output) rec J) (sym (d .legal (k .legal))) (put-leaves (writeText output) refl (textOf (jobOf rec)) output)
   call-leaves (listing output) a d =
       subst (Leaves S (listing output) rec J) (sym (d .legal (k .legal))) (put-leaves (listing output) refl (wiresListing (jobOf rec) (load rec)) output)
+  call-leaves (trial t) a d = subst (Leaves S (trial t) rec J) (sym d) (trial-leaves S rec J (k .buffer) (k .legal .long) t)

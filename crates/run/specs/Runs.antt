@@ -14,12 +14,13 @@ use Rattle.sums.specs.Entries.{none-some, some-one}
 use Rattle.model.specs.Job.{Job, arrayFits, capsAdmitted, fresh}
 use Rattle.model.specs.Record.{recordSize, unwiredRecord, over}
 use Rattle.model.specs.Text.{reads, Reading}
-use Rattle.model.specs.Calls.{Call, new, mark, close, lay, step, shortfall, part, readText, writeText, listing}
-use Rattle.model.specs.Calls.{Answer, refused, done, refusal, Accepted, After, after, test, newly, ReadIn}
-use Rattle.model.specs.Run.{Buffer, Service, Sets, Becomes, Lent, Starts, byNew, byText, Follows, NeverOne}
+use Rattle.model.specs.Trial.{Trial, seedFits, percentsFit, trialJob}
+use Rattle.model.specs.Calls.{Call, new, mark, close, lay, step, shortfall, part, readText, writeText, listing, trial}
+use Rattle.model.specs.Calls.{Answer, refused, done, refusal, Accepted, After, after, test, newly, triedOn, ReadIn}
+use Rattle.model.specs.Run.{Buffer, Service, Sets, Becomes, Lent, Starts, byNew, byText, byTrial, Follows, NeverOne}
 use Rattle.model.proofs.Asked.{asked-fails}
 use Rattle.model.proofs.TextUnique.{reads-unique}
-use Rattle.run.specs.Invariant.{Kept, Leaves, accepts, refuses, new-leaves, read-leaves, call-leaves}
+use Rattle.run.specs.Invariant.{Kept, Leaves, accepts, refuses, new-leaves, read-leaves, trial-leaves, call-leaves}
 
 reads-same : (A B : Job) → reads A ≡ reads B → A ≡ B
 reads-same A B e = cc
@@ -36,6 +37,7 @@ module _ (S : Service) where
   sets-one (readText text) J K L a b = reads-same K L (reads-unique a b)
   sets-one (writeText output) J K L a b = a ∙ sym b
   sets-one (listing output) J K L a b = a ∙ sym b
+  sets-one (trial t) J K L a b = a ∙ sym b
 
   -- the job after a call, by what it answered
   abbrev After? : Option ℕ → Call → Job → Job → Type 0
@@ -89,6 +91,18 @@ module _ (S : Service) where
       let (v, s, e) = d .long l in
       accepted-kept (readText text) before J J a (subst (Leaves S (readText text) before J) (sym e) (read-leaves S before J b l text v s)) x r
 
+  tried-brief : (t : Trial) (rec : List ℕ) → length rec < recordSize → triedOn t rec ≡ after (refused 1) rec [] []
+  tried-brief t rec l =
+      asked-fails rec [] (after done (over (unwiredRecord (trialJob t)) rec) [] []) (leb recordSize (length rec)) 1
+      (test (arrayFits (t .rows) (t .columns)) 2 ∷ test (capsAdmitted (t .O) (t .D) (t .E)) 3 ∷ test (seedFits (t .seed)) 12 ∷ test (percentsFit (t .chosen) (t .missing) (t .closed)) 13 ∷ [])
+      (lt-leb recordSize (length rec) l)
+
+  trial-kept : (before : List ℕ) (t : Trial) (a : After) → Buffer before → a ≡ triedOn t before → Accepted (a .answer) → Kept (a .rec) (trialJob t)
+  trial-kept before t a b e x =
+      let l : recordSize ≤ length before = if-long before a (λ h. e ∙ tried-brief t before h) x in
+      let J : Job = trialJob t in
+      accepted-kept (trial t) before J J a (subst (Leaves S (trial t) before J) (sym e) (trial-leaves S before J b l t)) x refl
+
   pub start-kept : {rec : List ℕ} {J : Job} → Starts S rec J → Kept rec J
   start-kept (byNew before rows columns O D E b w x e) =
       subst (λ (y : List ℕ). Kept y (fresh rows columns O D E)) (sym e)
@@ -96,6 +110,8 @@ module _ (S : Service) where
   start-kept (byText {J = J} before text b w x e r) =
       subst (λ (y : List ℕ). Kept y J) (sym e)
       (text-kept before text J (S .does (readText text) before) b (S .did (readText text) before w b) x r)
+  start-kept (byTrial before t b w x e) =
+      subst (λ (y : List ℕ). Kept y (trialJob t)) (sym e) (trial-kept before t (S .does (trial t) before) b (S .did (trial t) before w b) x)
 
   pub run-kept : (calls : List Call) (begun rec : List ℕ) (K J : Job) → Kept begun K → Follows S begun K calls rec J → NeverOne S begun calls × Kept rec J
   run-kept [] begun rec K J k f = (tt, subst (Kept rec) (sym (f .1)) (subst (λ (x : List ℕ). Kept x K) (sym (f .0)) k))

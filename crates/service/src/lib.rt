@@ -11,3 +11,4 @@ pub use routing::list_wires;
 pub use routing::part;
 pub use routing::shortfall;
 pub use routing::step;
+pub use trials::trial;

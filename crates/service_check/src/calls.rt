@@ -8,6 +8,7 @@ use crate::edits::call_lay;
 use crate::edits::call_mark;
 use crate::edits::call_new;
 use crate::edits::call_read;
+use crate::edits::call_trial;
 use crate::edits::hold_answer;
 use crate::edits::hold_same;
 use crate::expect::cell;
@@ -204,6 +205,7 @@ fn call(
         6 => call_part(tally, rec, job, page, seed),
         7 => call_write(tally, rec, job, seed),
         9 => call_lay(tally, rec, job, seed),
+        10 => call_trial(tally, rec, job, seed),
         _ => call_listing(tally, rec, page, seed),
     }
 }
@@ -241,6 +243,9 @@ fn asking(n: usize) -> usize {
 // The kind of the k-th call.
 fn kind_of(x: u32, k: usize) -> usize {
     let n = below(x, 32);
+    if k % 256 == 60 {
+        return 10;
+    }
     if k % 128 < 56 { editing(n) } else { asking(n) }
 }
 

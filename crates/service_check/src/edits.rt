@@ -6,11 +6,13 @@ use crate::draws::pick_mark;
 use crate::draws::pick_spot;
 use crate::draws::pick_state;
 use crate::expect::cell;
+use crate::expect::cut;
 use crate::expect::expect_close;
 use crate::expect::expect_lay;
 use crate::expect::expect_mark;
 use crate::expect::expect_new;
 use crate::expect::expect_read;
+use crate::expect::expect_trial;
 use crate::expect::letter_of;
 use crate::expect::mark_at;
 use crate::expect::state_at;
@@ -36,6 +38,8 @@ use oracle_text::random::random_job;
 use oracle_text::random::xorshift;
 use oracle_text::text::read_text;
 use oracle_text::text::write_text;
+use oracle_text::trial::Percents;
+use oracle_text::trial::fill;
 use service::Answer;
 use verdict::bytes::Tally;
 use verdict::bytes::hold;
@@ -167,4 +171,45 @@ pub fn call_lay(tally: &mut Tally, rec: &mut Record, job: &mut Job, seed: u32) -
     }
     hold_edit(tally, &before, rec, job, changes);
     x
+}
+
+// The percentages that are lent: such as fit, and now and then others.
+fn pick_percents(x: u32) -> Percents {
+    let a = xorshift(x);
+    let b = xorshift(a);
+    Percents {
+        chosen: pick(x, 0, 80),
+        missing: pick(a, 0, 30),
+        closed: pick(b, 0, 102),
+    }
+}
+
+pub fn call_trial(tally: &mut Tally, rec: &mut Record, job: &mut Job, seed: u32) -> u32 {
+    let a = xorshift(seed);
+    let b = xorshift(a);
+    let c = xorshift(b);
+    let rows = pick(seed, 2, 7);
+    let columns = pick(a, 2, 7);
+    let side = pick(b, 1, 4);
+    let number = pick(c, 1, 4294967295);
+    let p = pick_percents(xorshift(c));
+    let before = *rec;
+    let answer = service::trial(
+        rec,
+        rows,
+        columns,
+        side,
+        side,
+        1,
+        number,
+        p.chosen,
+        p.missing,
+        p.closed,
+    );
+    let expected = expect_trial(rows, columns, side, number, p);
+    let mut other = fresh(rows, columns, side, side, 1);
+    fill(&mut other, cut(number), p);
+    hold_answer(tally, answer, expected, b"trial answers");
+    hold_anew(tally, &before, rec, job, &other, expected.kind == DONE);
+    xorshift(c)
 }

@@ -21,6 +21,7 @@ use oracle_text::job::number;
 use oracle_text::job::state;
 use oracle_text::text::ACCEPTED;
 use oracle_text::text::Reading;
+use oracle_text::trial::Percents;
 
 fn in_range(x: usize, least: usize, most: usize) -> bool {
     x >= least && x <= most
@@ -186,4 +187,31 @@ pub fn expect_write(n: usize, m: usize, length: usize) -> Said {
         return say(REFUSED, 7);
     }
     say(WROTE, length)
+}
+
+// The number, where it has 32 bits.
+pub fn cut(number: usize) -> u32 {
+    if number < 4294967296 {
+        number as u32
+    } else {
+        0
+    }
+}
+
+// Of a trial with D the same as O and an E that fits, on a record that is long enough.
+pub fn expect_trial(rows: usize, columns: usize, side: usize, number: usize, p: Percents) -> Said {
+    let anew = expect_new(32768, rows, columns, side, side, 1);
+    if anew.kind == REFUSED {
+        return anew;
+    }
+    if cut(number) == 0 {
+        return say(REFUSED, 12);
+    }
+    if p.chosen > 100 || p.missing > 100 || p.closed > 100 {
+        return say(REFUSED, 13);
+    }
+    if p.missing > 100 - p.chosen {
+        return say(REFUSED, 13);
+    }
+    say(DONE, 0)
 }

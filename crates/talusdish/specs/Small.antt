@@ -17,8 +17,9 @@ use Rattle.model.specs.Record.{recordSize, scratchSize, jobOf, load, Legal, unw
 use Rattle.model.specs.Wires.{Part, partAt}
 use Rattle.model.specs.Text.{Verdict, reads, wrongAt, Reading, textOf}
 use Rattle.model.specs.Listing.{wiresListing}
-use Rattle.model.specs.Calls.{Call, new, mark, close, lay, step, shortfall, part, readText, writeText, listing, Answer, refused, wrongText, done, lacks, lists, wrote}
-use Rattle.model.specs.Calls.{After, after, Test, test, asked, edited, newly, listed, readIn, putOut, Stepped, adds, stays, lacking, On, Steps, Lacks, ReadIn, Did}
+use Rattle.model.specs.Trial.{Trial, seedFits, percentsFit, trialJob}
+use Rattle.model.specs.Calls.{Call, new, mark, close, lay, step, shortfall, part, readText, writeText, listing, trial, Answer, refused, wrongText, done, lacks, lists, wrote}
+use Rattle.model.specs.Calls.{After, after, Test, test, asked, edited, newly, triedOn, listed, readIn, putOut, Stepped, adds, stays, lacking, On, Steps, Lacks, ReadIn, Did}
 use Rattle.model.proofs.Asked.{allHold, numbered, asked-either}
 use Rattle.model.proofs.Over.{legal-proper}
 use Rattle.model.proofs.ListingLength.{listing-short}
@@ -124,6 +125,16 @@ newly-fits rows columns O D E rec =
     (test (leb recordSize (length rec)) 1 ∷ test (arrayFits rows columns) 2 ∷ test (capsAdmitted O D E) 3 ∷ []) rec []
     (after done (over (unwiredRecord (fresh rows columns O D E)) rec) [] []) tt (λ t. tt)
 
+tried-fits : (t : Trial) (rec : List ℕ) → Fits (trial t) (triedOn t rec)
+tried-fits t rec =
+    asked-fits (trial t)
+    (test (leb recordSize (length rec)) 1
+    ∷ test (arrayFits (t .rows) (t .columns)) 2
+    ∷ test (capsAdmitted (t .O) (t .D) (t .E)) 3
+    ∷ test (seedFits (t .seed)) 12
+    ∷ test (percentsFit (t .chosen) (t .missing) (t .closed)) 13
+    ∷ []) rec [] (after done (over (unwiredRecord (trialJob t)) rec) [] []) tt (λ u. tt)
+
 -- ---- every operation
 
 pub did-fits : (c : Call) (rec : List ℕ) (a : After) → Did c rec a → Fits c a
@@ -163,6 +174,7 @@ did-fits (writeText output) rec a d =
 did-fits (listing output) rec a d =
     on-fits (listing output) rec [] output a d
     (λ g e. as-fits (listing output) e (put-fits (listing output) (wiresListing (jobOf rec) (load rec)) output rec (listing-fits output rec)))
+did-fits (trial t) rec a d = as-fits (trial t) d (tried-fits t rec)
 
 pub did-small : (c : Call) (rec : List ℕ) (a : After) → Did c rec a → word (a .answer) < 2 ^ 64
 did-small c rec a d = word-small c (a .answer) (did-fits c rec a d)

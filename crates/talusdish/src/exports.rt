@@ -1,7 +1,8 @@
 // The operations as functions for hosts. Each passes its buffers on and returns the word of an answer with which the operation did what it promises.
 ghost use mathlib.Core.Path.{_≡_};
 ghost use mathlib.Core.List.{[]};
-ghost use Rattle.model.specs.Calls.{new as New, mark as Mark, close as Close, lay as Lay, step as Step, shortfall as Shortfall, part as Part, readText, writeText, listing as Listing};
+ghost use Rattle.model.specs.Calls.{new as New, mark as Mark, close as Close, lay as Lay, step as Step, shortfall as Shortfall, part as Part, readText, writeText, listing as Listing, trial as Trial};
+ghost use Rattle.model.specs.Trial.{trialOf};
 ghost use Rattle.model.specs.Calls.{Answer, after, Did};
 ghost use Rattle.talusdish.specs.Words.{word};
 use crate::word::word_of;
@@ -115,4 +116,35 @@ pub extern "C" fn talusdish_listing(rec: &[u8], output: &mut [u8]) -> u64
         × Did (Listing (now (output .entry))) (now (rec .entry)) (after a (now (rec .entry)) [] (now (output .exit)))) ⌝ }
 {
     word_of(service::list_wires(rec, output))
+}
+
+// The job of a trial.
+#[no_mangle]
+pub extern "C" fn talusdish_trial(
+    rec: &mut [u8],
+    rows: u64,
+    columns: u64,
+    o: u64,
+    d: u64,
+    e: u64,
+    seed: u64,
+    chosen: u64,
+    missing: u64,
+    closed: u64,
+) -> u64
+    ensures { λ n. ⌜ ((a : Answer) × (n ≡ word a)
+        × Did (Trial (trialOf rows columns o d e seed chosen missing closed)) (now (rec .entry)) (after a (now (rec .exit)) [] [])) ⌝ }
+{
+    word_of(service::trial(
+        rec,
+        rows as usize,
+        columns as usize,
+        o as usize,
+        d as usize,
+        e as usize,
+        seed as usize,
+        chosen as usize,
+        missing as usize,
+        closed as usize,
+    ))
 }

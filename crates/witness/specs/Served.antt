@@ -11,9 +11,9 @@ use lib.ListN.{length}
 use Rattle.model.specs.Route.{chosenCount}
 use Rattle.model.specs.Record.{recordSize, scratchSize, jobOf, load, Legal, over}
 use Rattle.model.specs.Text.{Verdict, Reading}
-use Rattle.model.specs.Calls.{Call, new, mark, close, lay, step, shortfall, part, readText, writeText, listing}
+use Rattle.model.specs.Calls.{Call, new, mark, close, lay, step, shortfall, part, readText, writeText, listing, trial}
 use Rattle.model.specs.Calls.{Answer, refused, added, allWired, short, lacks, After, after, cleared}
-use Rattle.model.specs.Calls.{newly, markedBy, closedBy, laidIn, listed, readIn, written, listedOut, OneMore, Stepped, adds, stays, lacking, wiresIn, nearBytes}
+use Rattle.model.specs.Calls.{newly, triedOn, markedBy, closedBy, laidIn, listed, readIn, written, listedOut, OneMore, Stepped, adds, stays, lacking, wiresIn, nearBytes}
 use Rattle.model.specs.Calls.{Shown, none-short, side, On, Steps, Lacks, ReadIn, Did}
 use Rattle.model.specs.Run.{Service}
 use Rattle.witness.specs.Damage.{legal?}
@@ -103,6 +103,7 @@ serve (part r c i) rec = on rec [] [] (λ a. a ≡ listed r c i rec) (λ g. (lis
 serve (readText text) rec = read-in rec text
 serve (writeText output) rec = on rec [] output (λ a. a ≡ written output rec) (λ g. (written output rec, refl))
 serve (listing output) rec = on rec [] output (λ a. a ≡ listedOut output rec) (λ g. (listedOut output rec, refl))
+serve (trial t) rec = (triedOn t rec, refl)
 
 pub service : Service
 service = record { does = λ c rec. serve c rec .0; did = λ c rec lent buffer. serve c rec .1 }
