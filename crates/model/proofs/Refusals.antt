@@ -1,4 +1,4 @@
--- Document 01, "Settled by hand" and "Record and operations": with which number New, Mark, Close and Lay are refused, on rows with one fault and with more; that
+-- Document 01, "Settled by hand" and "Record and operations": with which number New, Mark, Close, Lay and a trial are refused, on rows with one fault and with more; that
 -- a side named from either tile is the same call; that a value already there changes nothing; that Shortfall tests the scratch before the output; and how far the scratch is cleared. Assumes nothing.
 use mathlib.Core.Path.{_≡_, refl, sym, ap, _∙_}
 use mathlib.Core.Bool.{Bool, true, false, _&&_}
@@ -13,8 +13,9 @@ use lib.Seq.{getD-append-add, getD-drop}
 use Rattle.sums.specs.Tests.{and-left, and-right, and-both, every, every-at}
 use Rattle.model.specs.Job.{Job, arrayFits, capsAdmitted, fresh, marked, closed, Side, sideOf, laidOn, laidBy, isPin, isTile}
 use Rattle.model.specs.Record.{recordSize, scratchSize, jobOf, unwiredRecord, over}
-use Rattle.model.specs.Calls.{Answer, refused, done, refusal, After, after, cleared, Test, test, asked, newly, edited, markedBy, closedBy, laidIn, Lacks}
-use Rattle.model.specs.Examples.{Opening, openings, Edit, markings, closings, Laying, layings}
+use Rattle.model.specs.Calls.{Answer, refused, done, refusal, After, after, cleared, Test, test, asked, newly, edited, markedBy, closedBy, laidIn, triedOn, Lacks}
+use Rattle.model.specs.Trial.{Trial, seedFits, percentsFit, trialJob}
+use Rattle.model.specs.Examples.{Opening, openings, Edit, markings, closings, Laying, layings, Trying, tryings}
 use Rattle.model.proofs.Asked.{hold-both, asked-holds, asked-all}
 
 -- the number of the first of two tests that fails
@@ -110,6 +111,40 @@ layings-hold x m rec e =
     ∙ (ap (λ (J : Job). firstOfThree (isTile J (x .row) (x .column)) 4 (leb (x .side) 3) 5 (leb (x .count) (J .O)) 11) e
     ∙ same-number _ _
     (every-at layings (λ y. sameNumber (firstOfThree (isTile wider (y .row) (y .column)) 4 (leb (y .side) 3) 5 (leb (y .count) 2) 11) (y .number)) tt m))
+
+-- ---- a trial
+
+-- the number of the first of four tests that fails
+abbrev firstOfFour : Bool → ℕ → Bool → ℕ → Bool → ℕ → Bool → ℕ → Option ℕ
+firstOfFour a h b i c j d k = elim a [ true ↦ firstOfThree b i c j d k | false ↦ some h ]
+
+four-tests : (a : Bool) (h : ℕ) (b : Bool) (i : ℕ) (c : Bool) (j : ℕ) (d : Bool) (k : ℕ) (rec : List ℕ) (x : After) → refusal (x .answer) ≡ none
+    → refusal (asked (test a h ∷ test b i ∷ test c j ∷ test d k ∷ []) rec [] x .answer) ≡ firstOfFour a h b i c j d k
+four-tests true h b i c j d k rec x e = three-tests b i c j d k rec x e
+four-tests false h b i c j d k rec x e = refl
+
+-- what the numbers of a trial are refused with
+abbrev triedWith : Trial → Option ℕ
+triedWith t =
+    firstOfFour (arrayFits (t .rows) (t .columns)) 2 (capsAdmitted (t .O) (t .D) (t .E)) 3 (seedFits (t .seed)) 12 (percentsFit (t .chosen) (t .missing) (t .closed)) 13
+
+pub tryings-hold : (x : Trying) → List·Memᴰ x tryings → (rec : List ℕ) → recordSize ≤ length rec → refusal (triedOn (x .trial) rec .answer) ≡ x .number
+unfolding every
+tryings-hold x m rec long =
+    let t : Trial = x .trial in
+    let made : After = after done (over (unwiredRecord (trialJob t)) rec) [] [] in
+    let ts : List Test =
+    test (arrayFits (t .rows) (t .columns)) 2
+    ∷ test (capsAdmitted (t .O) (t .D) (t .E)) 3
+    ∷ test (seedFits (t .seed)) 12
+    ∷ test (percentsFit (t .chosen) (t .missing) (t .closed)) 13
+    ∷ [] in
+    ap (λ (a : After). refusal (a .answer)) (asked-holds rec [] made (leb recordSize (length rec)) 1 ts (le-leb recordSize (length rec) long))
+    ∙ (four-tests (arrayFits (t .rows) (t .columns)) 2 (capsAdmitted (t .O) (t .D) (t .E)) 3 (seedFits (t .seed)) 12
+    (percentsFit (t .chosen) (t .missing) (t .closed)) 13 rec made refl
+    ∙ same-number _ _ (every-at tryings (λ y. sameNumber (triedWith (y .trial)) (y .number)) tt m))
+
+-- ---- sides
 
 -- "An inner side has one count whichever tile names it": from either tile it is the same call.
 pub laid-south : (rec : List ℕ) (r c n : ℕ) → T (isTile (jobOf rec) (suc r) c) → laidIn r c 2 n rec ≡ laidIn (suc r) c 0 n rec

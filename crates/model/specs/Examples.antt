@@ -8,6 +8,7 @@ use lib.Dec.{eqb}
 use Rattle.model.specs.Job.{Job, fresh, marked, closed, sideOf, laidBy}
 use Rattle.model.specs.Near.{spot}
 use Rattle.model.specs.Pairing.{Pair}
+use Rattle.model.specs.Trial.{Trial, trialOf}
 
 -- ---- centre limits
 
@@ -233,6 +234,21 @@ exits J r c n = record { job = J; row = r; column = c; gives = n }
 -- A corner pin has one, "even where all its tiles are closed", and not two; an inner pin, a missing pin and an idle one have none.
 abbrev pub directs : List Exits
 directs = exits job64 0 0 1 ∷ exits job33 0 0 1 ∷ exits job33 1 0 1 ∷ exits job33 1 1 0 ∷ exits jobShut 1 1 0 ∷ exits jobMissing 0 1 0 ∷ exits job64 0 1 0 ∷ []
+
+-- ---- K6: with which number a trial is refused, on a record that is long enough: 2 before 3 before 12 before 13
+
+pub record Trying : Type 0 where
+  pub trial : Trial
+  pub number : Option ℕ
+
+abbrev pub trying : Trial → Option ℕ → Trying
+trying t n = record { trial = t; number = n }
+
+abbrev pub tryings : List Trying
+tryings =
+    trying (trialOf 2 2 1 2 0 1 40 60 100) none ∷ trying (trialOf 40 40 8 16 16 4294967295 100 0 0) none ∷ trying (trialOf 2 2 1 2 0 0 40 60 100) (some 12)
+    ∷ trying (trialOf 2 2 1 2 0 4294967296 40 60 100) (some 12) ∷ trying (trialOf 2 2 1 2 0 1 41 60 100) (some 13) ∷ trying (trialOf 2 2 1 2 0 1 0 0 101) (some 13)
+    ∷ trying (trialOf 2 2 1 2 0 0 41 60 100) (some 12) ∷ trying (trialOf 2 2 2 5 0 0 41 60 100) (some 3) ∷ trying (trialOf 41 2 2 5 0 0 41 60 100) (some 2) ∷ []
 
 -- ---- K6: the number after so many draws from 1; "From 1 the first draw is 270369"
 

@@ -1,14 +1,14 @@
--- Document 01, "Record and operations": New, Read text and every edit leave no wires, for the record that they write has no loads; and a buffer that is long
--- enough is accepted by New and Read text. So every service starts a run from every such job, with nothing wired. Assumes nothing.
+-- Document 01, "Record and operations": New, Read text, a trial and every edit leave no wires, for the record that they write has no loads; and a buffer that is
+-- long enough is accepted by New, Read text and a trial. So every service starts a run from every such job, with nothing wired. Assumes nothing.
 use mathlib.Core.Path.{_≡_, refl, ap, _∙_}
 use mathlib.Core.Bool.{Bool, true, false, _&&_}
-use mathlib.Core.List.{List, []}
+use mathlib.Core.List.{List, [], _∷_}
 use Prim.Native.Nat.{ℕ, _≤_}
 use native.Mathlib.Omega.{arith}
 use lib.Dec.{T, leb, le→leb}
 use lib.ListN.{length, drop}
 use Rattle.sums.specs.Counting.{total}
-use Rattle.sums.specs.Tests.{and-right}
+use Rattle.sums.specs.Tests.{and-right, and-both}
 use Rattle.sums.specs.Sums.{when-none}
 use Rattle.sums.specs.Totals.{total-none}
 use Rattle.model.specs.Job.{Job, arrayFits, capsAdmitted, fresh, isChosen}
@@ -17,8 +17,10 @@ use Rattle.model.specs.Loads.{departures}
 use Rattle.model.specs.Record.{recordSize, jobOf, load, noLoads, unwiredRecord, over}
 use Rattle.model.specs.Wires.{isWired, wireCount}
 use Rattle.model.specs.Text.{Verdict, reads, Reading}
-use Rattle.model.specs.Calls.{new, readText, refused, done, refusal, Accepted, After, after, newly, readIn, wiresIn}
-use Rattle.model.specs.Run.{Buffer, Lent, Service, Starts, byNew, byText}
+use Rattle.model.specs.Calls.{new, readText, trial, refused, done, refusal, Accepted, After, after, test, newly, readIn, wiresIn}
+use Rattle.model.specs.Trial.{Trial, seedFits, percentsFit, trialJob}
+use Rattle.model.specs.Run.{Buffer, Lent, Service, Starts, byNew, byText, byTrial}
+use Rattle.model.proofs.Asked.{hold-both, asked-all}
 use Rattle.model.proofs.RecordOf.{Storable, length-record, load-back}
 use Rattle.model.proofs.Over.{load-over}
 use Rattle.model.proofs.TextUnique.{reads-unique}
@@ -92,3 +94,18 @@ module _ (S : Service) (before : List ℕ) (b : Buffer before) (long : recordSiz
       let (v, q, e) = S .did (readText text) before w b .long long in
       done-begins (S .does (readText text) before) J (e ∙ ap (λ (x : Verdict). readIn x before) (reads-unique q r))
       (λ x. byText before text b w x refl r)
+
+  pub trial-begins : (t : Trial) → Lent (trial t) → T (arrayFits (t .rows) (t .columns)) → T (capsAdmitted (t .O) (t .D) (t .E)) → T (seedFits (t .seed))
+      → T (percentsFit (t .chosen) (t .missing) (t .closed)) → Begins (S .does (trial t) before .rec) (trialJob t)
+  trial-begins t w f g h k =
+      let a : Bool = arrayFits (t .rows) (t .columns) in
+      let c : Bool = capsAdmitted (t .O) (t .D) (t .E) in
+      let d : Bool = seedFits (t .seed) in
+      let e : Bool = percentsFit (t .chosen) (t .missing) (t .closed) in
+      let l : Bool = leb recordSize (length before) in
+      let made : After = after done (over (unwiredRecord (trialJob t)) before) [] [] in
+      let all : T (l && (a && (c && (d && (e && true))))) =
+      and-both l _ (le→leb recordSize (length before) long) (and-both a _ f (and-both c _ g (hold-both d e h k))) in
+      done-begins (S .does (trial t) before) (trialJob t)
+      (S .did (trial t) before w b ∙ asked-all before [] made (test l 1 ∷ test a 2 ∷ test c 3 ∷ test d 12 ∷ test e 13 ∷ []) all)
+      (λ x. byTrial before t b w x refl)

@@ -13,14 +13,15 @@ use Rattle.sums.specs.Tests.{and-left, and-right, every}
 use Rattle.model.specs.Job.{Job, fresh, marked, isPin, isChosen}
 use Rattle.model.specs.Record.{recordSize}
 use Rattle.model.specs.Examples.{job64, job33, jobShut, shortShut, jobLaid, shortLaid}
-use Rattle.model.specs.Calls.{Call, new, mark, close, lay, step, readText, Answer, allWired, Accepted}
+use Rattle.model.specs.Trial.{Trial, trialOf, trialJob}
+use Rattle.model.specs.Calls.{Call, new, mark, close, lay, step, readText, trial, Answer, allWired, Accepted}
 use Rattle.model.specs.Run.{Buffer, Service, Starts, Follows, NeverOne, Stepping, Demand}
 use Rattle.model.proofs.TextExamples.{text64, reads64}
 use Rattle.run.specs.Buffers.{zeros-buffer, zeroScratch, scratch-buffer, scratch-long}
 use Rattle.run.specs.Runs.{becomes-set, start-kept, AllLent, recAfter, follows-all}
 use Rattle.run.specs.Says.{enough-accepted}
 use Rattle.run.specs.Demand3.{demand3}
-use Rattle.run.specs.Blank.{Blank, new-begins, text-begins}
+use Rattle.run.specs.Blank.{Blank, new-begins, text-begins, trial-begins}
 use Rattle.run.specs.Edits.{Edits, end, marks, closes, lays, edits-blank, edits-follow}
 use Rattle.run.specs.Settled.{Answers, shorts-answers, WholeAnswers, wireds-answers, none-answers}
 
@@ -182,3 +183,16 @@ module _ (S : Service) where
       shorts-answers shortLaid
       (List·Memᴰ·tail (List·Memᴰ·tail (List·Memᴰ·tail (List·Memᴰ·tail (List·Memᴰ·tail (List·Memᴰ·head refl)))))) S begunLaid (fresh 3 4 2 2 0) s editsLaid
       rec (edits-follow S toLaid begunLaid b [] rec jobLaid (refl, refl)) (edits-blank S toLaid begunLaid b .unwired)
+
+  -- ---- a run that a trial starts
+
+  abbrev pub tried : Trial
+  tried = trialOf 2 2 1 2 0 1 50 10 25
+
+  abbrev pub begunTrial : List ℕ
+  begunTrial = S .does (trial tried) zeroRecord .rec
+
+  pub demand-trial : NeverOne S begunTrial [] × Demand S begunTrial (trialJob tried)
+  demand-trial =
+      let (s, b) = trial-begins S zeroRecord zero-buffer zero-long tried (omega arith) tt tt tt tt in
+      demand3 S begunTrial (trialJob tried) s [] begunTrial (trialJob tried) (refl, refl)
