@@ -16,7 +16,18 @@ from talusdish import CHOSEN, MISSING, SHORT, Failed, Job, Refused, rules
 WIRED, STOPPED_SHORT, REFUSED, FAILED = 0, 1, 2, 3
 LARGEST_TEXT, LARGEST_IMPORT = 1 << 20, 1 << 22                     # what is read of a job text, far above the longest; and of an import
 WIDEST = 100                                                        # characters of a wrong line that are shown
-STATUS = 'Exit status: 0 {}, 2 refused (a wrong text or file), 3 failed.'
+STATUS = 'Exit status: 0 {}, 2 refused (a wrong text, file or number), 3 failed.'
+TRIAL = {                                                           # the numbers of a trial, in their order
+    'rows': 'rows of pins, 2 to 40',
+    'columns': 'columns of pins, 2 to 40',
+    'o': 'wires that fit between two pads, 1 to 8',
+    'd': 'wires that fit across the diagonal of a tile, O to 2×O',
+    'e': 'wires that a missing ball lets through, 0 to 16',
+    'seed': 'the starting number, 1 to 4294967295',
+    'chosen': 'percentage of chosen pins',
+    'missing': 'percentage of missing pins; both together at most 100',
+    'closed': 'percentage of closed tiles, at most 100',
+}
 
 
 class Stop(Exception):
@@ -247,6 +258,17 @@ def capacities_of(arguments, pitch, pad):
     return given.o, given.diagonal, arguments.extra
 
 
+def trial(arguments):
+    """Makes the job of a load trial."""
+    job = Job()
+    try:
+        job.trial(*(getattr(arguments, name) for name in TRIAL))
+    except Refused as refused:
+        raise Stop(REFUSED, f'talus trial: {refused}') from None
+    write_out(job.write_text(), arguments.output)
+    return WIRED
+
+
 # Arguments
 
 class Parser(argparse.ArgumentParser):
@@ -318,12 +340,22 @@ def describe_import(parts):
     balls.add_argument('--unlisted', choices=('idle', 'missing'), default='idle', help='of a CSV: what a ball is that no row names (idle)')
 
 
+def describe_trial(parts):
+    part = part_of(parts, 'trial', trial, 'make the job text of a load trial',
+                   'Pins and tiles are drawn by a generator: the same numbers give the same job on every machine.\n\n'
+                   'Examples: host/talus trial 20 20 2 3 1 1 30 5 10 | host/talus route -\n'
+                   '          host/talus trial 12 12 1 2 0 7 40 10 5 -o trial.job', zero='made')
+    for name, says in TRIAL.items():
+        part.add_argument(name, type=whole, metavar=name.upper(), help=says)
+    part.add_argument('-o', '--output', metavar='JOB', help='the job text; standard output if not given')
+
+
 def parser():
     """The arguments of the command."""
     top = Parser(prog='talus', description='Escape routing of a ball grid, by a library that is proved.', epilog=f'`talus PART --help` has an example.\n\n{STATUS.format("wired, 1 short")}',
                  formatter_class=argparse.RawDescriptionHelpFormatter)
     parts = top.add_subparsers(metavar='PART', required=True)
-    for describe in (describe_route, describe_check, describe_draw, describe_import):
+    for describe in (describe_route, describe_check, describe_draw, describe_import, describe_trial):
         describe(parts)
     return top
 

@@ -33,6 +33,7 @@ SIGNATURES = {
     'talusdish_write_text': 'bb',
     'talusdish_listing': 'bb',
     'talusdish_rules': 'nnnnrrrrr',
+    'talusdish_trial': 'bnnnnnnnnn',
 }
 
 REFUSALS = {
@@ -47,6 +48,8 @@ REFUSALS = {
     9: 'a measure is not 1 to 100,000 micrometres',
     10: 'the pitch is under pad and spacing together, or the wires that fit between two pads (O) are not 1 to 8',
     11: 'more wires are laid on a side than fit there (O)',
+    12: 'the starting number is not 1 to 4,294,967,295',
+    13: 'the percentages are out of range: chosen and missing together are 0 to 100, closed is 0 to 100',
 }
 
 
@@ -241,6 +244,10 @@ class Job:
         job = cls()
         job.read_text(text)
         return job
+
+    def trial(self, rows, columns, o, d, e, seed, chosen, missing, closed):
+        """Makes this the job of a load trial: a starting number of 32 bits, and percentages of chosen pins, missing pins and closed tiles."""
+        call('talusdish_trial', self._record, rows, columns, o, d, e, seed, chosen, missing, closed)
 
     def mark(self, row, column, mark):
         call('talusdish_mark', self._record, row, column, mark)

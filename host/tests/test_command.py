@@ -88,7 +88,7 @@ class Status(Folder):
         self.says(talus('check', ''), 3, 'No such file')
 
     def test_usage(self):
-        for words in ((), ('none',), ('route',), ('import', 'x', '--width', '-1'), ('import', 'x', '--caps', '1', '2'), ('draw', 'x', '--none')):
+        for words in ((), ('none',), ('route',), ('import', 'x', '--width', '-1'), ('import', 'x', '--caps', '1', '2'), ('draw', 'x', '--none'), ('trial', '2')):
             self.says(talus(*words), 3, 'usage: talus')
         path = self.file('x.csv', b'A1,chosen\nB2,idle\n')
         self.says(talus('import', path), 3, 'capacities are needed')
@@ -97,7 +97,7 @@ class Status(Folder):
 
     def test_help_of_every_part(self):
         self.assertIn('Exit status', talus('--help').stdout)
-        for part in ('route', 'check', 'draw', 'import'):
+        for part in ('route', 'check', 'draw', 'import', 'trial'):
             run = talus(part, '--help')
             self.assertEqual((run.returncode, run.stderr), (0, ''))
             self.assertIn('Example', run.stdout)
@@ -107,7 +107,7 @@ class Status(Folder):
 class Output(Folder):
     def test_full_disk(self):
         for words in (('route', example('four_pins')), ('route', example('short')), ('draw', example('four_pins')), ('--help',), ('draw', '--help'),
-                      ('import', self.file('x.csv', b'A1,chosen\nB2,idle\n'), '--caps', '1', '2', '0')):
+                      ('import', self.file('x.csv', b'A1,chosen\nB2,idle\n'), '--caps', '1', '2', '0'), ('trial', *'221201500')):
             with open('/dev/full', 'w') as full:
                 self.says(talus(*words, stdout=full), 3, 'standard output: No space left on device')
         self.says(talus('draw', example('four_pins'), '-o', '/dev/full'), 3, '/dev/full: No space left on device')
