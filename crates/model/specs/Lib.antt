@@ -7,6 +7,7 @@ pub mod Length
 pub mod Loads
 pub mod Pairing
 pub mod Wires
+pub mod Left
 pub mod Record
 pub mod Text
 pub mod Listing

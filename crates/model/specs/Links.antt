@@ -1,7 +1,7 @@
 -- Document 01, "The array and its channels": places, and the links between them. A link is named by its kind and a cell (r, c), and has a positive way.
 -- Everything else (what is linked, limits, one-way links, the clockwise order) is read off `behindOf`, `aheadOf`, `limitOf`, `passOf`, `enters` and
 -- `aroundOf`. Assumes nothing.
-use mathlib.Core.Bool.{Bool, true, false, not, _&&_}
+use mathlib.Core.Bool.{Bool, true, false, not, _&&_, Bool·beq}
 use mathlib.Core.List.{List, [], _∷_}
 use mathlib.Core.Option.{Option, none, some}
 use Prim.Native.Nat.{ℕ, zero, suc, _+_, _/_}
@@ -234,3 +234,6 @@ linkCode direct = 14
 
 abbrev pub sameLink : Link → Link → Bool
 sameLink a b = eqb (linkCode (a .kind)) (linkCode (b .kind)) && (eqb (a .row) (b .row) && eqb (a .column) (b .column))
+
+abbrev pub sameStep : Step → Step → Bool
+sameStep s t = sameLink (s .link) (t .link) && Bool·beq (s .forth) (t .forth)

@@ -15,7 +15,7 @@ use Rattle.sums.specs.Sums.{when-so, sum-le, sum-none, sum-pick, sum-ones}
 use Rattle.sums.specs.Totals.{total-add, total-le, total-cong, total-has, total-le-in, total-swap, total-sum}
 use Rattle.sums.specs.Entries.{none-some}
 use Rattle.model.specs.Job.{Job}
-use Rattle.model.specs.Links.{PlaceKind, pin, missing, centre, outside, nowhere, side, Place, isPlace, isEntered, samePlace, holds, enters, Link, sameLink, Step, head, turn, around, limit, passOf, pass}
+use Rattle.model.specs.Links.{PlaceKind, pin, missing, centre, outside, nowhere, side, Place, isPlace, isEntered, samePlace, holds, enters, Link, sameLink, sameStep, Step, head, turn, around, limit, passOf, pass}
 use Rattle.model.specs.Loads.{arrivals, Feasible}
 use Rattle.model.specs.Wires.{Hop}
 use Rattle.model.proofs.Listed.{may-enters}
@@ -25,9 +25,6 @@ use Rattle.wire.specs.Next.{Loaded, hop-may}
 use Rattle.wire.specs.Places.{sum-one}
 
 -- ---- sameness of steps and hops
-
-abbrev pub sameStep : Step → Step → Bool
-sameStep s t = sameLink (s .link) (t .link) && Bool·beq (s .forth) (t .forth)
 
 abbrev pub sameHop : Hop → Hop → Bool
 sameHop h k = sameStep (h .step) (k .step) && eqb (k .lane) (h .lane)
@@ -42,10 +39,10 @@ beq-eq true false t = absurd t
 beq-eq false true t = absurd t
 beq-eq false false t = refl
 
-same-step : (s : Step) → T (sameStep s s)
+pub same-step : (s : Step) → T (sameStep s s)
 same-step s = and-both (sameLink (s .link) (s .link)) (Bool·beq (s .forth) (s .forth)) (same-link (s .link)) (beq-refl (s .forth))
 
-same-step-eq : (s t : Step) → T (sameStep s t) → s ≡ t
+pub same-step-eq : (s t : Step) → T (sameStep s t) → s ≡ t
 same-step-eq s t e =
     let l : s .link ≡ t .link = same-link-eq (s .link) (t .link) (and-left (sameLink (s .link) (t .link)) (Bool·beq (s .forth) (t .forth)) e) in
     let w : s .forth ≡ t .forth = beq-eq (s .forth) (t .forth) (and-right (sameLink (s .link) (t .link)) (Bool·beq (s .forth) (t .forth)) e) in
@@ -57,12 +54,12 @@ same-hop-eq h k e =
     let n : k .lane ≡ h .lane = eqb→eq (k .lane) (h .lane) (and-right (sameStep (h .step) (k .step)) (eqb (k .lane) (h .lane)) e) in
     λ i. record { step = s i; lane = sym n i }
 
-same-hop : (h : Hop) → T (sameHop h h)
+pub same-hop : (h : Hop) → T (sameHop h h)
 same-hop h = and-both (sameStep (h .step) (h .step)) (eqb (h .lane) (h .lane)) (same-step (h .step)) (eqb-refl (h .lane))
 
 -- ---- hops
 
-abbrev on : Step → ℕ → Hop
+abbrev pub on : Step → ℕ → Hop
 on s i = record { step = s; lane = i }
 
 -- one test or the other
@@ -72,7 +69,7 @@ way-or true false = refl
 way-or false w = refl
 
 -- a hop by the step s has one of its lanes
-one-lane : (f : Step → ℕ) (s : Step) (h : Hop) → Loaded f h → when (sameStep s (h .step)) 1 ≤ sum (f s) (λ i. when (sameHop (on s i) h) 1)
+pub one-lane : (f : Step → ℕ) (s : Step) (h : Hop) → Loaded f h → when (sameStep s (h .step)) 1 ≤ sum (f s) (λ i. when (sameHop (on s i) h) 1)
 one-lane f s h l = by (sameStep s (h .step)) refl
   where
     by : (b : Bool) → sameStep s (h .step) ≡ b → when b 1 ≤ sum (f s) (λ i. when (b && eqb (h .lane) i) 1)
@@ -80,7 +77,7 @@ one-lane f s h l = by (sameStep s (h .step)) refl
     by false e = omega arith
 
 -- and only one
-lane-once : (f : Step → ℕ) (s : Step) (h : Hop) → sum (f s) (λ i. when (sameHop (on s i) h) 1) ≤ when (sameStep s (h .step)) 1
+pub lane-once : (f : Step → ℕ) (s : Step) (h : Hop) → sum (f s) (λ i. when (sameHop (on s i) h) 1) ≤ when (sameStep s (h .step)) 1
 lane-once f s h = by (sameStep s (h .step))
   where
     by : (b : Bool) → sum (f s) (λ i. when (b && eqb (h .lane) i) 1) ≤ when b 1
