@@ -130,43 +130,52 @@ store-over K L f rec p r c v long lp lr lc h e o =
             getD-set-other old (offset p r c) (offset q i j) v 0 n
             ∙ (over-cell K f rec long q i j a b d ∙ o q i j (λ x y z. n (λ k. offset (x k) (y k) (z k))))
 
-pub marked-over : (K : Job) (rec : List ℕ) (r c m : ℕ) → recordSize ≤ length rec → r < 40 → c < 40
-    → set (over (unwiredRecord K) rec) (offset markPlane r c) m ≡ over (unwiredRecord (marked K r c m)) rec
-marked-over K rec r c m long lr lc =
-    store-over K (marked K r c m) noLoads rec 0 r c m long (omega arith) lr lc (λ i. refl) (sym (put-at (K .mark) r c m)) (λ q i j n. by q i j n)
+pub marked-with : (K : Job) (f : Step → ℕ) (rec : List ℕ) (r c m : ℕ) → recordSize ≤ length rec → r < 40 → c < 40
+    → set (over (recordOf K f) rec) (offset markPlane r c) m ≡ over (recordOf (marked K r c m) f) rec
+marked-with K f rec r c m long lr lc =
+    store-over K (marked K r c m) f rec 0 r c m long (omega arith) lr lc (λ i. refl) (sym (put-at (K .mark) r c m)) (λ q i j n. by q i j n)
   where
-    by : (q i j : ℕ) → (q ≡ 0 → i ≡ r → j ≡ c → ⊥) → planeByte K noLoads q i j ≡ planeByte (marked K r c m) noLoads q i j
+    by : (q i j : ℕ) → (q ≡ 0 → i ≡ r → j ≡ c → ⊥) → planeByte K f q i j ≡ planeByte (marked K r c m) f q i j
     by zero i j n = sym (put-else (K .mark) r c m i j (n refl))
     by (suc zero) i j n = refl
     by (suc (suc q)) i j n = refl
 
-pub closed-over : (K : Job) (rec : List ℕ) (r c v : ℕ) → recordSize ≤ length rec → r < 40 → c < 40
-    → set (over (unwiredRecord K) rec) (offset statePlane r c) v ≡ over (unwiredRecord (closed K r c v)) rec
-closed-over K rec r c v long lr lc =
-    store-over K (closed K r c v) noLoads rec 1 r c v long (omega arith) lr lc (λ i. refl) (sym (put-at (K .state) r c v)) (λ q i j n. by q i j n)
+pub closed-with : (K : Job) (f : Step → ℕ) (rec : List ℕ) (r c v : ℕ) → recordSize ≤ length rec → r < 40 → c < 40
+    → set (over (recordOf K f) rec) (offset statePlane r c) v ≡ over (recordOf (closed K r c v) f) rec
+closed-with K f rec r c v long lr lc =
+    store-over K (closed K r c v) f rec 1 r c v long (omega arith) lr lc (λ i. refl) (sym (put-at (K .state) r c v)) (λ q i j n. by q i j n)
   where
-    by : (q i j : ℕ) → (q ≡ 1 → i ≡ r → j ≡ c → ⊥) → planeByte K noLoads q i j ≡ planeByte (closed K r c v) noLoads q i j
+    by : (q i j : ℕ) → (q ≡ 1 → i ≡ r → j ≡ c → ⊥) → planeByte K f q i j ≡ planeByte (closed K r c v) f q i j
     by zero i j n = refl
     by (suc zero) i j n = sym (put-else (K .state) r c v i j (n refl))
     by (suc (suc q)) i j n = refl
 
+-- without wires
+pub marked-over : (K : Job) (rec : List ℕ) (r c m : ℕ) → recordSize ≤ length rec → r < 40 → c < 40
+    → set (over (unwiredRecord K) rec) (offset markPlane r c) m ≡ over (unwiredRecord (marked K r c m)) rec
+marked-over K = marked-with K noLoads
+
+pub closed-over : (K : Job) (rec : List ℕ) (r c v : ℕ) → recordSize ≤ length rec → r < 40 → c < 40
+    → set (over (unwiredRecord K) rec) (offset statePlane r c) v ≡ over (unwiredRecord (closed K r c v)) rec
+closed-over K = closed-with K noLoads
+
 -- ---- a count of laid wires
 
 -- the planes behind those of marks and states, with something else added
-added-planes : (K : Job) (A : Added) (p r c : ℕ) → (15 ≤ p → addedByte (K .added) p r c ≡ addedByte A p r c)
-    → planeByte K noLoads (suc (suc p)) r c ≡ planeByte (withAdded K A) noLoads (suc (suc p)) r c
-added-planes K A p r c f = by (below-or p 15)
+added-planes : (K : Job) (f : Step → ℕ) (A : Added) (p r c : ℕ) → (15 ≤ p → addedByte (K .added) p r c ≡ addedByte A p r c)
+    → planeByte K f (suc (suc p)) r c ≡ planeByte (withAdded K A) f (suc (suc p)) r c
+added-planes K f A p r c h = by (below-or p 15)
   where
-    by : (p < 15) ⊎ (15 ≤ p) → planeByte K noLoads (suc (suc p)) r c ≡ planeByte (withAdded K A) noLoads (suc (suc p)) r c
+    by : (p < 15) ⊎ (15 ≤ p) → planeByte K f (suc (suc p)) r c ≡ planeByte (withAdded K A) f (suc (suc p)) r c
     by (inl l) =
         let (k, e, q) = kind-at kinds 0 p tt l in
-        ap (λ (o : Option LinkKind). kindByte (K .added) noLoads p o r c) e ∙ sym (ap (λ (o : Option LinkKind). kindByte A noLoads p o r c) e)
-    by (inr l) = plane-added K noLoads p r c l ∙ (f l ∙ sym (plane-added (withAdded K A) noLoads p r c l))
+        ap (λ (o : Option LinkKind). kindByte (K .added) f p o r c) e ∙ sym (ap (λ (o : Option LinkKind). kindByte A f p o r c) e)
+    by (inr l) = plane-added K f p r c l ∙ (h l ∙ sym (plane-added (withAdded K A) f p r c l))
 
-pub laid-over : (K : Job) (rec : List ℕ) (s : Side) (n : ℕ) → recordSize ≤ length rec → sideRow s < 40 → sideColumn s < 40
-    → set (over (unwiredRecord K) rec) (sideOffset s) n ≡ over (unwiredRecord (laidBy K s n)) rec
-laid-over K rec (ofNorth r c) n long lr lc =
-    store-over K (laidBy K (ofNorth r c) n) noLoads rec 17 r c n long (omega arith) lr lc (λ i. refl) (sym (put-at (K .added .laidNorth) r c n)) by
+pub laid-with : (K : Job) (f : Step → ℕ) (rec : List ℕ) (s : Side) (n : ℕ) → recordSize ≤ length rec → sideRow s < 40 → sideColumn s < 40
+    → set (over (recordOf K f) rec) (sideOffset s) n ≡ over (recordOf (laidBy K s n) f) rec
+laid-with K f rec (ofNorth r c) n long lr lc =
+    store-over K (laidBy K (ofNorth r c) n) f rec 17 r c n long (omega arith) lr lc (λ i. refl) (sym (put-at (K .added .laidNorth) r c n)) by
   where
     added : (m p i j : ℕ) → p ≡ 15 + m → (p ≡ 15 → i ≡ r → j ≡ c → ⊥)
         → getD (K .added .laidNorth i j ∷ K .added .laidWest i j ∷ K .added .ownD i j ∷ []) m 0
@@ -176,12 +185,12 @@ laid-over K rec (ofNorth r c) n long lr lc =
     added (suc (suc zero)) p i j e h = refl
     added (suc (suc (suc m))) p i j e h = refl
 
-    by : (q i j : ℕ) → (q ≡ 17 → i ≡ r → j ≡ c → ⊥) → planeByte K noLoads q i j ≡ planeByte (laidBy K (ofNorth r c) n) noLoads q i j
+    by : (q i j : ℕ) → (q ≡ 17 → i ≡ r → j ≡ c → ⊥) → planeByte K f q i j ≡ planeByte (laidBy K (ofNorth r c) n) f q i j
     by zero i j h = refl
     by (suc zero) i j h = refl
-    by (suc (suc p)) i j h = added-planes K (laidBy K (ofNorth r c) n .added) p i j (λ l. added (p - 15) p i j (omega arith) (λ e. h (omega arith)))
-laid-over K rec (ofWest r c) n long lr lc =
-    store-over K (laidBy K (ofWest r c) n) noLoads rec 18 r c n long (omega arith) lr lc (λ i. refl) (sym (put-at (K .added .laidWest) r c n)) by
+    by (suc (suc p)) i j h = added-planes K f (laidBy K (ofNorth r c) n .added) p i j (λ l. added (p - 15) p i j (omega arith) (λ e. h (omega arith)))
+laid-with K f rec (ofWest r c) n long lr lc =
+    store-over K (laidBy K (ofWest r c) n) f rec 18 r c n long (omega arith) lr lc (λ i. refl) (sym (put-at (K .added .laidWest) r c n)) by
   where
     added : (m p i j : ℕ) → p ≡ 15 + m → (p ≡ 16 → i ≡ r → j ≡ c → ⊥)
         → getD (K .added .laidNorth i j ∷ K .added .laidWest i j ∷ K .added .ownD i j ∷ []) m 0
@@ -191,10 +200,14 @@ laid-over K rec (ofWest r c) n long lr lc =
     added (suc (suc zero)) p i j e h = refl
     added (suc (suc (suc m))) p i j e h = refl
 
-    by : (q i j : ℕ) → (q ≡ 18 → i ≡ r → j ≡ c → ⊥) → planeByte K noLoads q i j ≡ planeByte (laidBy K (ofWest r c) n) noLoads q i j
+    by : (q i j : ℕ) → (q ≡ 18 → i ≡ r → j ≡ c → ⊥) → planeByte K f q i j ≡ planeByte (laidBy K (ofWest r c) n) f q i j
     by zero i j h = refl
     by (suc zero) i j h = refl
-    by (suc (suc p)) i j h = added-planes K (laidBy K (ofWest r c) n .added) p i j (λ l. added (p - 15) p i j (omega arith) (λ e. h (omega arith)))
+    by (suc (suc p)) i j h = added-planes K f (laidBy K (ofWest r c) n .added) p i j (λ l. added (p - 15) p i j (omega arith) (λ e. h (omega arith)))
+
+pub laid-over : (K : Job) (rec : List ℕ) (s : Side) (n : ℕ) → recordSize ≤ length rec → sideRow s < 40 → sideColumn s < 40
+    → set (over (unwiredRecord K) rec) (sideOffset s) n ≡ over (unwiredRecord (laidBy K s n)) rec
+laid-over K = laid-with K noLoads
 
 -- ---- a new job
 

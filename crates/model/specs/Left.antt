@@ -1,6 +1,6 @@
 -- Document 02, K5: which wires an edit takes out, and the loads of those that stay. f gives each step how many wires go along its link that way. Assumes
 -- nothing.
-use mathlib.Core.Bool.{Bool, true, false, not, _&&_, _||_}
+use mathlib.Core.Bool.{Bool, false, not, _&&_, _||_}
 use mathlib.Core.List.{List, [], _∷_}
 use mathlib.Core.Option.{Option, none, some}
 use Prim.Native.Nat.{ℕ, suc, _-_}
