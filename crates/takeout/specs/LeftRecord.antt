@@ -157,3 +157,15 @@ same-lessened was rec g e =
     way : (l : Link) (b : Bool) → load rec (record { link = l; forth = b }) ≡ load was (record { link = l; forth = b })
     way l true = ap forthPart (same (l .kind) (l .row) (l .column))
     way l false = ap backPart (same (l .kind) (l .row) (l .column))
+
+-- a copy of a legal record is legal, with the same job and the same loads
+module _ (was rec : List ℕ) (g : Legal was) (e : SameRecord was rec) where
+  pub copy-job : jobOf rec ≡ jobOf was
+  copy-job = job-kept was rec g (λ s. 0) (same-lessened was rec g e)
+
+  pub copy-loads : load rec ≡ load was
+  copy-loads = fun-ext (λ s. omega (arith, same-lessened was rec g e .loads s))
+
+  pub copy-legal : recordSize ≤ length rec → Legal rec
+  copy-legal long =
+      lessened-legal was rec g (λ s. 0) (same-lessened was rec g e) long (subst (λ (h : Step → ℕ). Sound (jobOf was) h) (sym copy-loads) (g .sound))
