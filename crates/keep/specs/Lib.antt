@@ -14,3 +14,5 @@ pub mod Staying
 pub mod Edited
 pub mod Highest
 pub mod Laid
+-- The record after an edit is legal.
+pub mod Legality

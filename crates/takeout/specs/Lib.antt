@@ -10,4 +10,3 @@ pub mod AllTaken
 -- In the words of request K5, and the record after an edit.
 pub mod Edited
 pub mod Stored
-pub mod Legality
