@@ -7,7 +7,7 @@ use Prim.Native.Nat.{ℕ, _≤_, _<_}
 use native.Mathlib.Omega.{arith}
 use lib.Dec.{T}
 use lib.ListN.{length, getD, set, length-set}
-use lib.Seq.{getD-set-same, getD-set-other}
+use lib.Seq.{getD-set-same, getD-set-other, set-getD}
 use Rattle.sums.specs.Tests.{below-or}
 use Rattle.model.specs.Job.{Job}
 use Rattle.channel.specs.Map.{spots, outside}
@@ -18,6 +18,10 @@ use Rattle.augment.specs.Steps.{Front}
 -- the h-th and the i-th entry change places
 abbrev pub swapped : List ℕ → ℕ → ℕ → List ℕ
 swapped a h i = set (set a h (getD a i 0)) i (getD a h 0)
+
+pub swapped-same : (a : List ℕ) (h i : ℕ) → i ≡ h → a ≡ swapped a h i
+swapped-same a h i e =
+    sym (ap (swapped a h) e ∙ (ap (λ (b : List ℕ). set b h (getD a h 0)) (set-getD a h 0) ∙ set-getD a h 0))
 
 -- what stands at x stood at y
 data Turn (h i x y : ℕ) : Type 0 where

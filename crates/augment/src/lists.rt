@@ -165,7 +165,7 @@ pub fn take(lists: &mut [u16], l: usize, h: usize, n: usize) -> usize
 }
 
 // The h-th and the i-th in the queue change places.
-pub fn exchange(
+fn swap(
     queue: &mut [u16],
     parent: &mut [u16],
     slot: &mut [u8],
@@ -189,6 +189,27 @@ pub fn exchange(
     slot[h] = slot[i];
     slot[i] = k;
     lists[257 + 2 * wide(u)] = i as u16;
+}
+
+// The same, and nothing where they are one.
+pub fn exchange(
+    queue: &mut [u16],
+    parent: &mut [u16],
+    slot: &mut [u8],
+    lists: &mut [u16],
+    h: usize,
+    i: usize,
+)
+    requires { ⌜ (h < length (now queue)) × (h < length (now parent)) × (h < length (now slot))
+        × (i < length (now queue)) × (i < length (now parent)) × (i < length (now slot))
+        × (26513 ≤ length (now lists)) × (getD (now queue) h 0 < 13128) × (i < 13128) ⌝ }
+    ensures { λ _. ⌜ (now (queue .exit) ≡ swapped (now (queue .entry)) h i) × (now (parent .exit) ≡ swapped (now (parent .entry)) h i)
+        × (now (slot .exit) ≡ swapped (now (slot .entry)) h i) ⌝ }
+{
+    if i == h {
+        return;
+    }
+    swap(queue, parent, slot, lists, h, i);
 }
 
 // The line from which the last wire was laid, or n if that is less.
