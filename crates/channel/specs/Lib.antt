@@ -4,3 +4,5 @@ pub mod Map
 pub mod Laid
 -- what the writers store, and its laws
 pub mod Written
+-- the first bytes of a buffer, which a record is read from
+pub mod Copies

@@ -7,6 +7,7 @@ pub mod limits; // how many wires a dart takes
 pub mod places; // the places that darts lead to
 pub mod moves; // the moves of the search, and what a move stores
 pub mod write; // a new job, one mark, state or count, no wires
+pub mod copy; // the bytes of a record
 
 pub use bits::lowest;
 pub use header::chosen_at;

@@ -22,13 +22,14 @@ use Rattle.model.specs.Calls.{wiredIn, wiresIn}
 use Rattle.wire.specs.Held.{sound-holds}
 use Rattle.channel.specs.Map.{spots}
 use Rattle.channel.specs.Map.Starts.{wanted-pin}
+use Rattle.channel.specs.Copies.{front, front-load}
 use Rattle.augment.specs.OneMore.{OneMore, wires-more, pin-gains, pin-keeps}
 use Rattle.augment.specs.Pins.{Held, Unwired}
 use Rattle.augment.specs.Passing.{array-size, chosen-within}
 use Rattle.search.specs.Loose.{Loosened}
 use Rattle.search.specs.Fill.{Cleared, Saturated}
 use Rattle.search.specs.Filling.{saturated-greatest}
-use Rattle.search.specs.Copies.{front, front-load, front-held, new-length, put-job, put-wired, put-wires, put-legal}
+use Rattle.search.specs.Copies.{front-held, new-length, put-job, put-wired, put-wires, put-legal}
 
 zeros-at : (n u : ℕ) → _≡_ {A = ℕ} (getD (replicate n 0) u 0) 0
 zeros-at zero u = refl

@@ -23,13 +23,14 @@ use Rattle.wire.specs.Held.{sound-holds}
 use Rattle.channel.specs.Map.{spots, isStart, want, starts}
 use Rattle.channel.specs.Map.Starts.{pin-spot, want-start}
 use Rattle.channel.specs.Map.Network.Flows.{pin-starts, starts-wanted, starts-count, want-count}
+use Rattle.channel.specs.Copies.{front, over-whole, front-whole, front-length, front-load}
 use Rattle.augment.specs.Marks.{marked, is-marked}
 use Rattle.augment.specs.Pins.{Held}
 use Rattle.search.specs.Loose.{Loosened, Freed}
 use Rattle.search.specs.Rings.{loose-held, loose-wires}
 use Rattle.search.specs.Fill.{More, Filled, unwiredCount}
 use Rattle.search.specs.Filling.{saturated-smallest, saturated-greatest}
-use Rattle.search.specs.Copies.{front, over-whole, front-whole, front-length, front-load, front-held, new-length, put-job, put-wired, put-wires, put-legal}
+use Rattle.search.specs.Copies.{front-held, new-length, put-job, put-wired, put-wires, put-legal}
 use Rattle.search.specs.Outcome.{RoutedAll}
 
 -- ---- the bytes of a near side

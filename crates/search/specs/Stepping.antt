@@ -5,13 +5,14 @@ use Prim.Native.Nat.{ℕ}
 use lib.ListN.{replicate, length-replicate}
 use Rattle.model.specs.Record.{recordSize, jobOf, Legal, over}
 use Rattle.model.specs.Calls as calls
+use Rattle.channel.specs.Copies.{front, over-whole, front-whole, front-length}
 use Rattle.augment.specs.OneMore.{OneMore}
 use Rattle.augment.specs.Pins.{Held, Unwired, AnySpot, Answered}
 use Rattle.augment.specs.Passing.{was-laid, was-nothing}
 use Rattle.search.specs.Loose.{Freed}
 use Rattle.search.specs.Fill.{Cleared, Saturated}
 use Rattle.search.specs.Filling.{cleared-none, held-more}
-use Rattle.search.specs.Copies.{front, over-whole, front-whole, front-length, front-held, new-length}
+use Rattle.search.specs.Copies.{front-held, new-length}
 use Rattle.search.specs.Outcome.{StepDid, more, full}
 use Rattle.search.specs.Added.{loose-one, wire-added, none-fits}
 use Rattle.augment.specs.declared.next.Next.{Next}

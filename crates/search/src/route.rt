@@ -11,9 +11,9 @@ ghost use Rattle.augment.specs.Marks.{marked};
 ghost use Rattle.augment.specs.Steps.{Whole};
 ghost use Rattle.search.specs.Fill.{unwiredCount};
 ghost use Rattle.search.specs.Outcome.{RoutedAll, Lacks};
-use crate::copy::copy;
 use crate::fill::fill;
 use crate::untangle::untangle;
+use channel::copy::copy;
 use channel::is_start;
 use channel::wire_starts;
 

@@ -1,10 +1,10 @@
 // Step: one wire more, if one fits. It works on a copy of the record, so that a record that takes no wire more is not touched.
 ghost use Rattle.model.specs.Record.{Legal};
 ghost use Rattle.search.specs.Outcome.{StepDid};
-use crate::copy::copy;
 use crate::untangle::untangle;
 use augment::next::Next;
 use augment::next::next_wire;
+use channel::copy::copy;
 
 // One wire more is laid; or no wire more fits.
 pub enum Progress {

@@ -9,8 +9,8 @@ use lib.ListN.{length, set, drop, length-set}
 use Rattle.sums.specs.Counting.{when, each}
 use Rattle.model.specs.Record.{recordSize, bytes}
 use Rattle.model.proofs.RecordOf.{length-bytes}
+use Rattle.channel.specs.Copies.{store-more}
 use Rattle.augment.specs.Marks.{marked}
-use Rattle.search.specs.Copies.{store-more}
 use Rattle.search.specs.Routing.{bytes-next}
 use Rattle.search.proofs.route.show.Statement.{statement}
 use Rattle.search.proofs.route.show.Tie as tie

@@ -9,9 +9,9 @@ use denote.Ref.{now}
 use lib.ListN.{length, getD, set, take, drop, length-set}
 use lib.Seq.{length-take-le, take-suc}
 use Rattle.model.specs.Record.{recordSize}
-use Rattle.search.specs.Copies.{store-more}
-use Rattle.search.proofs.copy.copy.Statement.{statement}
-use Rattle.search.proofs.copy.copy.Tie as tie
+use Rattle.channel.specs.Copies.{store-more}
+use Rattle.channel.proofs.copy.copy.Statement.{statement}
+use Rattle.channel.proofs.copy.copy.Tie as tie
 
 abbrev Inv-loop : tie.InvT-loop
 Inv-loop from to₀ i₀ to i = (i ≤ recordSize) × (length to ≡ length to₀) × (to ≡ take i from ++ drop i to₀)
