@@ -1,4 +1,4 @@
--- K3, "Wires already laid": the answer of setting a count by its tests, and the record that it leaves. Assumes nothing.
+-- K3, "Wires already laid", with K5: the answer of setting a count by its tests, and the record that it leaves. Assumes nothing.
 use mathlib.Core.Path.{_≡_, sym, ap, subst, _∙_}
 use mathlib.Core.Logic.{_≢_}
 use mathlib.Core.Bool.{Bool, true, false, not}
@@ -6,23 +6,29 @@ use mathlib.Core.List.{List, [], _∷_}
 use Prim.Native.Nat.{ℕ, suc, _≤_, _<_}
 use native.Mathlib.Omega.{arith}
 use lib.Dec.{T, eqb, leb}
-use lib.ListN.{set}
 use borrow.Author.Tests.{not-true, not-false, le-leb, lt-leb, eq-eqb, ne-eqb}
 use Rattle.model.specs.Job.{Job, sideOf, laidOn, laidBy, isTile}
-use Rattle.model.specs.Record.{jobOf, Legal, unwiredRecord, over}
+use Rattle.model.specs.Links.{Step}
+use Rattle.model.specs.Record.{jobOf, load, Legal, recordOf, over}
+use Rattle.model.specs.Left.{laidLeft}
 use Rattle.model.specs.Calls.{refused, done, After, after, Test, test, asked, edited, laidIn}
 use Rattle.model.proofs.Asked.{asked-fails, asked-holds}
 use Rattle.channel.specs.Map.Places.{pin-cell}
-use Rattle.channel.specs.Laid.{sideOffset, side-inside}
-use Rattle.channel.specs.Written.{unwired, unwired-over, laid-over}
+
+-- the record of the job with the count, with the wires that stay
+abbrev pub countIn : ℕ → ℕ → ℕ → ℕ → List ℕ → List ℕ
+countIn r c d n rec = over (recordOf (laidBy (jobOf rec) (sideOf r c d) n) (laidLeft (jobOf rec) (load rec) (sideOf r c d) n)) rec
 
 module _ (rec : List ℕ) (r c d n : ℕ) where
   abbrev J : Job
   J = jobOf rec
 
+  abbrev left : Step → ℕ
+  left = laidLeft J (load rec) (sideOf r c d) n
+
   -- what is left when no test fails, and the tests
   abbrev laid : After
-  laid = edited (eqb (laidOn J (sideOf r c d)) n) (laidBy J (sideOf r c d) n) rec
+  laid = edited (eqb (laidOn J (sideOf r c d)) n) (laidBy J (sideOf r c d) n) left rec
 
   abbrev counted : List Test
   counted = test (leb n (J .O)) 11 ∷ []
@@ -55,21 +61,13 @@ module _ (rec : List ℕ) (r c d n : ℕ) where
         lay-above h = sym (is-named ∙ asked-fails rec [] laid (leb n (J .O)) 11 [] (lt-leb n (J .O) (omega arith)))
 
         module _ (h : n ≤ o) (w : ℕ) (q : w ≡ laidOn J (sideOf r c d)) where
-          laid-as : (z : Bool) → eqb w n ≡ z → edited z (laidBy J (sideOf r c d) n) rec ≡ laidIn r c d n rec
+          laid-as : (z : Bool) → eqb w n ≡ z → edited z (laidBy J (sideOf r c d) n) left rec ≡ laidIn r c d n rec
           laid-as z s =
-              ap (λ (y : Bool). edited y (laidBy J (sideOf r c d) n) rec) (sym s ∙ ap (λ (m : ℕ). eqb m n) q)
+              ap (λ (y : Bool). edited y (laidBy J (sideOf r c d) n) left rec) (sym s ∙ ap (λ (m : ℕ). eqb m n) q)
               ∙ sym (is-named ∙ asked-holds rec [] laid (leb n (J .O)) 11 [] (le-leb n (J .O) (omega arith)))
 
           pub lay-same : w ≡ n → after done rec [] [] ≡ laidIn r c d n rec
           lay-same s = laid-as true (eq-eqb w n s)
 
-          pub lay-anew : Legal rec → (rec′ : List ℕ) → w ≢ n → rec′ ≡ set (unwired rec) (sideOffset (sideOf r c d)) n
-              → after done rec′ [] [] ≡ laidIn r c d n rec
-          lay-anew g rec′ s y =
-              let (lr, lc) = lay-cell g in
-              let (a, b) = side-inside r c d lr lc in
-              ap (λ z. after done z [] [])
-              (y
-              ∙ (ap (λ z. set z (sideOffset (sideOf r c d)) n) (unwired-over rec g)
-              ∙ laid-over J rec (sideOf r c d) n (g .long) a b))
-              ∙ laid-as false (ne-eqb w n s)
+          pub lay-anew : (rec′ : List ℕ) → w ≢ n → rec′ ≡ countIn r c d n rec → after done rec′ [] [] ≡ laidIn r c d n rec
+          lay-anew rec′ s y = ap (λ z. after done z [] []) y ∙ laid-as false (ne-eqb w n s)

@@ -1,34 +1,36 @@
-// Mark, Close and the counts of wires already laid.
+// Mark, Close and the counts of wires already laid. Each takes out only the wires that it has to.
 use answers::Answer;
 use audit::sound;
+use channel::copy::copy;
 use channel::is_tile;
 use channel::laid_on;
 use channel::mark_of;
 use channel::orthogonal;
 use channel::pin_at;
-use channel::set_laid;
-use channel::set_mark;
-use channel::set_state;
 use channel::state_of;
-use channel::unwire;
+use takeout::close_keeping;
+use takeout::lay_keeping;
+use takeout::mark_keeping;
 ghost use mathlib.Core.Path.{_≡_};
 ghost use mathlib.Core.List.{[]};
 ghost use Prim.Native.Nat.{_≤_, _<_};
-ghost use lib.ListN.{length, set as Set};
-ghost use Rattle.model.specs.Record.{recordSize, offset, jobOf, Legal};
+ghost use Rattle.model.specs.Record.{jobOf, Legal};
 ghost use Rattle.model.specs.Calls.{mark as Mark, close as Close, lay as Lay, after, laidIn, Did};
 ghost use Rattle.answers.specs.Answers.{asAnswer};
-ghost use Rattle.editing.specs.Edits.{isThere, most, valueIn, planeOf, editedBy};
+ghost use Rattle.editing.specs.Edits.{isThere, most, valueIn, setIn, editedBy};
+ghost use Rattle.editing.specs.Laying.{countIn};
 
-// The mark of a pin, or the state of a tile.
+// The mark of a pin, or the state of a tile. The wires that it takes out are followed in a copy of the record.
 fn set(rec: &mut [u8], tiles: bool, row: usize, column: usize, value: usize)
-    requires { ⌜ (recordSize ≤ length (now rec)) × (row < 40) × (column < 40) × (value < 256) ⌝ }
-    ensures { λ _. ⌜ now (rec .exit) ≡ Set (now (rec .entry)) (offset (planeOf tiles) row column) value ⌝ }
+    requires { ⌜ Legal (now rec) × (row < 40) × (column < 40) × (value ≤ most tiles) ⌝ }
+    ensures { λ _. ⌜ now (rec .exit) ≡ setIn tiles row column value (now (rec .entry)) ⌝ }
 {
+    let mut was = [0u8; 32768];
+    copy(rec, &mut was);
     if tiles {
-        set_state(rec, row, column, value);
+        close_keeping(&was, rec, row, column, value);
     } else {
-        set_mark(rec, row, column, value);
+        mark_keeping(&was, rec, row, column, value);
     }
 }
 
@@ -56,7 +58,6 @@ fn edit(
     if old == value {
         return Answer::Done;
     }
-    unwire(rec);
     set(rec, tiles, row, column, value);
     Answer::Done
 }
@@ -85,6 +86,16 @@ pub fn close(rec: &mut [u8], row: usize, column: usize, state: usize) -> Answer
     edit(rec, true, row, column, state, there, 1, old)
 }
 
+// The count of a side, as `set` does.
+fn set_count(rec: &mut [u8], row: usize, column: usize, side: usize, count: usize)
+    requires { ⌜ Legal (now rec) × (row < 39) × (column < 39) × (side ≤ 3) × (count ≤ jobOf (now rec) .O) ⌝ }
+    ensures { λ _. ⌜ now (rec .exit) ≡ countIn row column side count (now (rec .entry)) ⌝ }
+{
+    let mut was = [0u8; 32768];
+    copy(rec, &mut was);
+    lay_keeping(&was, rec, row, column, side, count);
+}
+
 // The count of wires already laid on a side of a tile, in a legal record.
 fn lay_on(rec: &mut [u8], row: usize, column: usize, side: usize, count: usize) -> Answer
     requires { ⌜ Legal (now rec) ⌝ }
@@ -102,8 +113,7 @@ fn lay_on(rec: &mut [u8], row: usize, column: usize, side: usize, count: usize) 
     if laid_on(rec, row, column, side) == count {
         return Answer::Done;
     }
-    unwire(rec);
-    set_laid(rec, row, column, side, count);
+    set_count(rec, row, column, side, count);
     Answer::Done
 }
 

@@ -45,10 +45,10 @@ parting-at-missing = (refl, refl)
 -- ---- side by side
 
 -- 2 by 2, caps 2 2 0, the two northern pins chosen: the eastern one's wire goes by e to n, and both leave by the north side
-abbrev jobPair : Job
+abbrev pub jobPair : Job
 jobPair = marked (marked (fresh 2 2 2 2 0) 0 0 1) 0 1 1
 
-abbrev loadsPair : Step → ℕ
+abbrev pub loadsPair : Step → ℕ
 loadsPair = wiresAlong (go (leg east) 0 0 ∷ go northSide 0 0 ∷ go (leg south) 0 1 ∷ come (corner north) 0 0 ∷ go northSide 0 0 ∷ [])
 
 abbrev listedPair : ℕ → List Part

@@ -45,6 +45,7 @@ pub mod BothWays
 pub mod FourPins
 pub mod DirectExit
 pub mod LaneExamples
+pub mod LeftExamples
 pub mod Measures
 pub mod TextExamples
 -- K6: draws, and the job of a trial.

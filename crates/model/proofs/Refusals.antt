@@ -12,7 +12,9 @@ use lib.ListN.{length, getD, replicate, drop, length-replicate, getD-replicate, 
 use lib.Seq.{getD-append-add, getD-drop}
 use Rattle.sums.specs.Tests.{and-left, and-right, and-both, every, every-at}
 use Rattle.model.specs.Job.{Job, arrayFits, capsAdmitted, fresh, marked, closed, Side, sideOf, laidOn, laidBy, isPin, isTile}
-use Rattle.model.specs.Record.{recordSize, scratchSize, jobOf, unwiredRecord, over}
+use Rattle.model.specs.Links.{Step}
+use Rattle.model.specs.Record.{recordSize, scratchSize, jobOf, load, unwiredRecord, over}
+use Rattle.model.specs.Left.{markLeft, closeLeft, laidLeft}
 use Rattle.model.specs.Calls.{Answer, refused, done, refusal, After, after, cleared, Test, test, asked, newly, edited, markedBy, closedBy, laidIn, triedOn, Lacks}
 use Rattle.model.specs.Trial.{Trial, seedFits, percentsFit, trialJob}
 use Rattle.model.specs.Examples.{Opening, openings, Edit, markings, closings, Laying, layings, Trying, tryings}
@@ -59,16 +61,16 @@ openings-hold x m rec long =
 abbrev small : Job
 small = fresh 2 2 1 2 0
 
-edited-accepted : (b : Bool) (K : Job) (rec : List ℕ) → refusal (edited b K rec .answer) ≡ none
-edited-accepted true K rec = refl
-edited-accepted false K rec = refl
+edited-accepted : (b : Bool) (K : Job) (left : Step → ℕ) (rec : List ℕ) → refusal (edited b K left rec .answer) ≡ none
+edited-accepted true K left rec = refl
+edited-accepted false K left rec = refl
 
 pub markings-hold : (x : Edit) → List·Memᴰ x markings → (rec : List ℕ) → jobOf rec ≡ small
     → refusal (markedBy (x .row) (x .column) (x .value) rec .answer) ≡ x .number
 unfolding every
 markings-hold x m rec e =
     two-tests (isPin (jobOf rec) (x .row) (x .column)) 4 (leb (x .value) 2) 5 rec _
-    (edited-accepted (eqb (jobOf rec .mark (x .row) (x .column)) (x .value)) (marked (jobOf rec) (x .row) (x .column) (x .value)) rec)
+    (edited-accepted (eqb (jobOf rec .mark (x .row) (x .column)) (x .value)) (marked (jobOf rec) (x .row) (x .column) (x .value)) _ rec)
     ∙ (ap (λ (J : Job). firstOf (isPin J (x .row) (x .column)) 4 (leb (x .value) 2) 5) e
     ∙ same-number _ _ (every-at markings (λ y. sameNumber (firstOf (isPin small (y .row) (y .column)) 4 (leb (y .value) 2) 5) (y .number)) tt m))
 
@@ -77,7 +79,7 @@ pub closings-hold : (x : Edit) → List·Memᴰ x closings → (rec : List ℕ) 
 unfolding every
 closings-hold x m rec e =
     two-tests (isTile (jobOf rec) (x .row) (x .column)) 4 (leb (x .value) 1) 5 rec _
-    (edited-accepted (eqb (jobOf rec .state (x .row) (x .column)) (x .value)) (closed (jobOf rec) (x .row) (x .column) (x .value)) rec)
+    (edited-accepted (eqb (jobOf rec .state (x .row) (x .column)) (x .value)) (closed (jobOf rec) (x .row) (x .column) (x .value)) _ rec)
     ∙ (ap (λ (J : Job). firstOf (isTile J (x .row) (x .column)) 4 (leb (x .value) 1) 5) e
     ∙ same-number _ _ (every-at closings (λ y. sameNumber (firstOf (isTile small (y .row) (y .column)) 4 (leb (y .value) 1) 5) (y .number)) tt m))
 
@@ -107,7 +109,7 @@ unfolding every
 layings-hold x m rec e =
     let s : Side = sideOf (x .row) (x .column) (x .side) in
     three-tests (isTile (jobOf rec) (x .row) (x .column)) 4 (leb (x .side) 3) 5 (leb (x .count) (jobOf rec .O)) 11 rec _
-    (edited-accepted (eqb (laidOn (jobOf rec) s) (x .count)) (laidBy (jobOf rec) s (x .count)) rec)
+    (edited-accepted (eqb (laidOn (jobOf rec) s) (x .count)) (laidBy (jobOf rec) s (x .count)) _ rec)
     ∙ (ap (λ (J : Job). firstOfThree (isTile J (x .row) (x .column)) 4 (leb (x .side) 3) 5 (leb (x .count) (J .O)) 11) e
     ∙ same-number _ _
     (every-at layings (λ y. sameNumber (firstOfThree (isTile wider (y .row) (y .column)) 4 (leb (y .side) 3) 5 (leb (y .count) 2) 11) (y .number)) tt m))
@@ -155,7 +157,7 @@ laid-south rec r c n t =
     let above : T (isTile J r c) = and-both (ltb (suc r) (J .rows)) b
     (lt→ltb (suc r) (J .rows) (omega (arith, ltb→lt (suc (suc r)) (J .rows) (and-left a b t)))) (and-right a b t) in
     one-call (isTile J r c) (isTile J (suc r) c) above t rec (test true 5 ∷ test (leb n (J .O)) 11 ∷ [])
-    (edited (eqb (laidOn J (sideOf r c 2)) n) (laidBy J (sideOf r c 2) n) rec)
+    (edited (eqb (laidOn J (sideOf r c 2)) n) (laidBy J (sideOf r c 2) n) (laidLeft J (load rec) (sideOf r c 2) n) rec)
 
 pub laid-east : (rec : List ℕ) (r c n : ℕ) → T (isTile (jobOf rec) r (suc c)) → laidIn r c 1 n rec ≡ laidIn r (suc c) 3 n rec
 laid-east rec r c n t =
@@ -165,11 +167,12 @@ laid-east rec r c n t =
     let before : T (isTile J r c) = and-both a (ltb (suc c) (J .columns)) (and-left a b t)
     (lt→ltb (suc c) (J .columns) (omega (arith, ltb→lt (suc (suc c)) (J .columns) (and-right a b t)))) in
     one-call (isTile J r c) (isTile J r (suc c)) before t rec (test true 5 ∷ test (leb n (J .O)) 11 ∷ [])
-    (edited (eqb (laidOn J (sideOf r c 1)) n) (laidBy J (sideOf r c 1) n) rec)
+    (edited (eqb (laidOn J (sideOf r c 1)) n) (laidBy J (sideOf r c 1) n) (laidLeft J (load rec) (sideOf r c 1) n) rec)
 
 -- "A value already there changes nothing."
-already : (ts : List Test) (rec : List ℕ) (v m : ℕ) (K : Job) → v ≡ m → asked ts rec [] (edited (eqb v m) K rec) ≡ asked ts rec [] (after done rec [] [])
-already ts rec v m K e = ap (λ (b : Bool). asked ts rec [] (edited b K rec)) (ap (λ (n : ℕ). eqb n m) e ∙ is-true (eqb m m) (eqb-refl m))
+already : (ts : List Test) (rec : List ℕ) (v m : ℕ) (K : Job) (left : Step → ℕ) → v ≡ m
+    → asked ts rec [] (edited (eqb v m) K left rec) ≡ asked ts rec [] (after done rec [] [])
+already ts rec v m K left e = ap (λ (b : Bool). asked ts rec [] (edited b K left rec)) (ap (λ (n : ℕ). eqb n m) e ∙ is-true (eqb m m) (eqb-refl m))
   where
     is-true : (b : Bool) → T b → b ≡ true
     is-true true t = refl
@@ -178,13 +181,15 @@ already ts rec v m K e = ap (λ (b : Bool). asked ts rec [] (edited b K rec)) (a
 pub already-marked : (rec : List ℕ) (r c m : ℕ) → T (isPin (jobOf rec) r c) → T (leb m 2) → jobOf rec .mark r c ≡ m → markedBy r c m rec ≡ after done rec [] []
 already-marked rec r c m t u e =
     let ts : List Test = test (isPin (jobOf rec) r c) 4 ∷ test (leb m 2) 5 ∷ [] in
-    already ts rec (jobOf rec .mark r c) m (marked (jobOf rec) r c m) e ∙ asked-all rec [] (after done rec [] []) ts (hold-both (isPin (jobOf rec) r c) (leb m 2) t u)
+    already ts rec (jobOf rec .mark r c) m (marked (jobOf rec) r c m) (markLeft (jobOf rec) (load rec) r c) e
+    ∙ asked-all rec [] (after done rec [] []) ts (hold-both (isPin (jobOf rec) r c) (leb m 2) t u)
 
 pub already-closed : (rec : List ℕ) (r c v : ℕ) → T (isTile (jobOf rec) r c) → T (leb v 1) → jobOf rec .state r c ≡ v
     → closedBy r c v rec ≡ after done rec [] []
 already-closed rec r c v t u e =
     let ts : List Test = test (isTile (jobOf rec) r c) 4 ∷ test (leb v 1) 5 ∷ [] in
-    already ts rec (jobOf rec .state r c) v (closed (jobOf rec) r c v) e ∙ asked-all rec [] (after done rec [] []) ts (hold-both (isTile (jobOf rec) r c) (leb v 1) t u)
+    already ts rec (jobOf rec .state r c) v (closed (jobOf rec) r c v) (closeLeft (jobOf rec) (load rec) r c) e
+    ∙ asked-all rec [] (after done rec [] []) ts (hold-both (isTile (jobOf rec) r c) (leb v 1) t u)
 
 -- ---- Shortfall
 

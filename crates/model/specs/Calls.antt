@@ -9,10 +9,12 @@ use lib.Dec.{T, eqb, leb}
 use lib.ListN.{length, replicate}
 use Rattle.sums.specs.Counting.{when}
 use Rattle.model.specs.Job.{Job, arrayFits, capsAdmitted, fresh, marked, closed, sideOf, laidOn, laidBy, isPin, isTile, isChosen}
+use Rattle.model.specs.Links.{Step}
 use Rattle.model.specs.Route.{Greatest, chosenCount}
 use Rattle.model.specs.Near.{Smallest}
-use Rattle.model.specs.Record.{recordSize, scratchSize, jobOf, load, Legal, bytes, unwiredRecord, over}
+use Rattle.model.specs.Record.{recordSize, scratchSize, jobOf, load, Legal, bytes, recordOf, unwiredRecord, over}
 use Rattle.model.specs.Wires.{Part, partAt, isWired, wireCount}
+use Rattle.model.specs.Left.{markLeft, closeLeft, laidLeft}
 use Rattle.model.specs.Text.{Verdict, reads, wrongAt, Reading, textOf}
 use Rattle.model.specs.Listing.{wiresListing}
 use Rattle.model.specs.Trial.{Trial, seedFits, percentsFit, trialJob}
@@ -105,29 +107,32 @@ triedOn t rec =
     ∷ test (percentsFit (t .chosen) (t .missing) (t .closed)) 13
     ∷ []) rec [] (after done (over (unwiredRecord (trialJob t)) rec) [] [])
 
--- "A value already there changes nothing. Any other edit takes out all wires."
-abbrev pub edited : (already : Bool) → Job → List ℕ → After
-edited already K rec = elim already [ true ↦ after done rec [] [] | false ↦ after done (over (unwiredRecord K) rec) [] [] ]
+-- "A value already there changes nothing." K5: any other edit "takes out only the wires" that it has to; "every other wire keeps its places, though its lane
+-- numbers may shrink". K is the edited job, `left` has the loads of the wires that stay (Left.antt).
+abbrev pub edited : (already : Bool) → Job → (left : Step → ℕ) → List ℕ → After
+edited already K left rec = elim already [ true ↦ after done rec [] [] | false ↦ after done (over (recordOf K left) rec) [] [] ]
 
 -- "4 no such pin or tile; 5 unknown mark or state."
 
+-- K5: "the wires that start at the edited pin, pass the edited missing pin, .."
 abbrev pub markedBy : ℕ → ℕ → ℕ → List ℕ → After
 markedBy r c m rec =
     let J : Job = jobOf rec in
-    asked (test (isPin J r c) 4 ∷ test (leb m 2) 5 ∷ []) rec [] (edited (eqb (J .mark r c) m) (marked J r c m) rec)
+    asked (test (isPin J r c) 4 ∷ test (leb m 2) 5 ∷ []) rec [] (edited (eqb (J .mark r c) m) (marked J r c m) (markLeft J (load rec) r c) rec)
 
+-- K5: ".. or meet a place of the tile being closed." No wire meets a place of a closed tile, so opening one takes out none.
 abbrev pub closedBy : ℕ → ℕ → ℕ → List ℕ → After
 closedBy r c v rec =
     let J : Job = jobOf rec in
-    asked (test (isTile J r c) 4 ∷ test (leb v 1) 5 ∷ []) rec [] (edited (eqb (J .state r c) v) (closed J r c v) rec)
+    asked (test (isTile J r c) 4 ∷ test (leb v 1) 5 ∷ []) rec [] (edited (eqb (J .state r c) v) (closed J r c v) (closeLeft J (load rec) r c) rec)
 
--- K3: "Setting a count takes row, column and side code; an edit that changes it takes out all wires." "4 no such tile; 5 unknown side code; then 11 a count
--- above O."
+-- K3: "Setting a count takes row, column and side code." "4 no such tile; 5 unknown side code; then 11 a count above O." K5: "Lowering a side's limit takes out
+-- the highest lanes, just enough."
 abbrev pub laidIn : ℕ → ℕ → ℕ → ℕ → List ℕ → After
 laidIn r c d n rec =
     let J : Job = jobOf rec in
     asked (test (isTile J r c) 4 ∷ test (leb d 3) 5 ∷ test (leb n (J .O)) 11 ∷ []) rec []
-    (edited (eqb (laidOn J (sideOf r c d)) n) (laidBy J (sideOf r c d) n) rec)
+    (edited (eqb (laidOn J (sideOf r c d)) n) (laidBy J (sideOf r c d) n) (laidLeft J (load rec) (sideOf r c d) n) rec)
 
 -- "4 no such pin, or it is not chosen."
 abbrev pub listed : ℕ → ℕ → ℕ → List ℕ → After

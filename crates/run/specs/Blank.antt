@@ -37,7 +37,7 @@ none-wired J =
     let chosen : Bool = isChosen J (x .row) (x .column) in
     when-none (isPinKind x && (chosen && false)) 1 (λ t. absurd (and-right chosen false (and-right (isPinKind x) (chosen && false) t))))
 
-pub anew-unwired : (K : Job) (rec : List ℕ) → wiresIn (over (unwiredRecord K) rec) ≡ 0
+anew-unwired : (K : Job) (rec : List ℕ) → wiresIn (over (unwiredRecord K) rec) ≡ 0
 anew-unwired K rec = ap (wireCount (jobOf (over (unwiredRecord K) rec))) loads ∙ none-wired (jobOf (over (unwiredRecord K) rec))
   where
     storable : Storable noLoads

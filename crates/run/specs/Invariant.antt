@@ -12,7 +12,9 @@ use lib.Dec.{T, eqb, leb, eqb→eq, leb→le, nleb→lt}
 use lib.ListN.{length}
 use Rattle.sums.specs.Tests.{and-left, and-right}
 use Rattle.model.specs.Job.{Job, arrayFits, capsAdmitted, fresh, put, withAdded, marked, closed, Side, ofNorth, ofWest, sideOf, laidOn, laidBy, isPin, isTile, isChosen, Proper}
-use Rattle.model.specs.Record.{recordSize, scratchSize, jobOf, load, Legal, noLoads, unwiredRecord, over}
+use Rattle.model.specs.Links.{Step}
+use Rattle.model.specs.Record.{recordSize, scratchSize, jobOf, load, Legal, recordOf, noLoads, unwiredRecord, over}
+use Rattle.model.specs.Left.{markLeft, closeLeft, laidLeft}
 use Rattle.model.specs.Wires.{partAt}
 use Rattle.model.specs.Text.{Verdict, reads, wrongAt, Reading, textOf}
 use Rattle.model.specs.Listing.{wiresListing}
@@ -23,11 +25,14 @@ use Rattle.model.specs.Calls.{Test, test, asked, edited, newly, triedOn, marked
 use Rattle.model.specs.Run.{Buffer, Service, Sets}
 use Rattle.model.proofs.RecordOf.{length-record}
 use Rattle.model.proofs.Asked.{allHold, numbered, both-hold, asked-holds, asked-either}
-use Rattle.model.proofs.Over.{anew-legal, anew-job, legal-proper}
+use Rattle.model.proofs.Unwired.{unwired-legal}
+use Rattle.model.proofs.Over.{legal-proper}
 use Rattle.model.proofs.Sides.{laid-proper}
 use Rattle.model.proofs.TextProper.{fresh-proper, marked-proper, closed-proper, reading-proper}
 use Rattle.model.proofs.TrialProper.{trial-proper}
+use Rattle.keep.specs.Legality.{mark-legal, close-legal, laid-legal}
 use Rattle.run.specs.Buffers.{over-buffer}
+use Rattle.run.specs.OthersStay.{left-legal, left-job}
 
 -- a buffer that is a legal record of the job
 pub record Kept (rec : List ℕ) (J : Job) : Type 0 where
@@ -50,13 +55,17 @@ refused-leaves S c rec J output k t = refuses k refl (λ e. subst (λ (n : ℕ).
 -- ---- the calls that begin anew, on any buffer that is long enough
 
 module _ (S : Service) (rec : List ℕ) (J : Job) (b : Buffer rec) (long : recordSize ≤ length rec) where
-  anew : (K : Job) → Proper K → Kept (over (unwiredRecord K) rec) K
-  anew K p =
+  -- the record of a proper job over the buffer
+  pub left-kept : (K : Job) (left : Step → ℕ) → Proper K → Legal (recordOf K left) → Kept (over (recordOf K left) rec) K
+  left-kept K left p g =
       record {
-        buffer = over-buffer (unwiredRecord K) rec (length-record K noLoads) long (anew-legal K p rec) b;
-        legal = anew-legal K p rec;
-        job = anew-job K p rec;
+        buffer = over-buffer (recordOf K left) rec (length-record K left) long (left-legal rec K left p g) b;
+        legal = left-legal rec K left p g;
+        job = left-job rec K left p g;
       }
+
+  anew : (K : Job) → Proper K → Kept (over (unwiredRecord K) rec) K
+  anew K p = left-kept K noLoads p (unwired-legal K p)
 
   pub new-leaves : (rows columns O D E : ℕ) → Leaves S (new rows columns O D E) rec J (newly rows columns O D E rec)
   new-leaves rows columns O D E =
@@ -146,29 +155,33 @@ laid-same J (ofWest r c) n e =
     })
 
 module _ (S : Service) (rec : List ℕ) (J : Job) (k : Kept rec J) where
-  -- K is the edited job
-  edit-leaves : (c : Call) (ts : List Test) (already : Bool) (K : Job) → T (numbered notOne ts) → (T (allHold ts) → Proper K) → (T already → K ≡ J)
-      → Sets S c J K → Leaves S c rec J (asked ts rec [] (edited already K rec))
-  edit-leaves c ts already K n p q s =
-      asked-either rec [] (edited already K rec) (Leaves S c rec J) notOne ts n (refused-leaves S c rec J []) (λ t. by already q (p t))
+  -- K is the edited job, `left` the loads of the wires that stay
+  edit-leaves : (c : Call) (ts : List Test) (already : Bool) (K : Job) (left : Step → ℕ) → T (numbered notOne ts)
+      → (T (allHold ts) → Proper K × Legal (recordOf K left)) → (T already → K ≡ J) → Sets S c J K
+      → Leaves S c rec J (asked ts rec [] (edited already K left rec))
+  edit-leaves c ts already K left n p q s =
+      asked-either rec [] (edited already K left rec) (Leaves S c rec J) notOne ts n (refused-leaves S c rec J []) (λ t. by already q (p t))
     where
-      by : (b : Bool) → (T b → K ≡ J) → Proper K → Leaves S c rec J (edited b K rec)
+      by : (b : Bool) → (T b → K ≡ J) → Proper K × Legal (recordOf K left) → Leaves S c rec J (edited b K left rec)
       by true q p = accepts J refl (subst (Sets S c J) (q tt) s) k
-      by false q p = accepts K refl s (anew S rec J (k .buffer) (k .legal .long) K p)
+      by false q p = accepts K refl s (left-kept S rec J (k .buffer) (k .legal .long) K left (p .0) (p .1))
+
+  proper : Proper (jobOf rec)
+  proper = legal-proper rec (k .legal)
 
   mark-leaves : (r c m : ℕ) → Leaves S (mark r c m) rec J (markedBy r c m rec)
   mark-leaves r c m =
       let I : Job = jobOf rec in
-      edit-leaves (mark r c m) (test (isPin I r c) 4 ∷ test (leb m 2) 5 ∷ []) (eqb (I .mark r c) m) (marked I r c m) tt
-      (λ t. let (u, v) = both-hold (isPin I r c) (leb m 2) t in marked-proper I r c m (legal-proper rec (k .legal)) u v)
+      edit-leaves (mark r c m) (test (isPin I r c) 4 ∷ test (leb m 2) 5 ∷ []) (eqb (I .mark r c) m) (marked I r c m) (markLeft I (load rec) r c) tt
+      (λ t. let (u, v) = both-hold (isPin I r c) (leb m 2) t in (marked-proper I r c m proper u v, mark-legal rec (k .legal) proper r c m u v))
       (λ t. marked-same I r c m (eqb→eq (I .mark r c) m t) ∙ k .job)
       (ap (λ (X : Job). marked X r c m) (k .job))
 
   close-leaves : (r c v : ℕ) → Leaves S (close r c v) rec J (closedBy r c v rec)
   close-leaves r c v =
       let I : Job = jobOf rec in
-      edit-leaves (close r c v) (test (isTile I r c) 4 ∷ test (leb v 1) 5 ∷ []) (eqb (I .state r c) v) (closed I r c v) tt
-      (λ t. let (u, w) = both-hold (isTile I r c) (leb v 1) t in closed-proper I r c v (legal-proper rec (k .legal)) u w)
+      edit-leaves (close r c v) (test (isTile I r c) 4 ∷ test (leb v 1) 5 ∷ []) (eqb (I .state r c) v) (closed I r c v) (closeLeft I (load rec) r c) tt
+      (λ t. let (u, w) = both-hold (isTile I r c) (leb v 1) t in (closed-proper I r c v proper u w, close-legal rec (k .legal) proper r c v u w))
       (λ t. closed-same I r c v (eqb→eq (I .state r c) v t) ∙ k .job)
       (ap (λ (X : Job). closed X r c v) (k .job))
 
@@ -178,8 +191,12 @@ module _ (S : Service) (rec : List ℕ) (J : Job) (k : Kept rec J) where
       let a : Bool = isTile I r c in
       let b : Bool = leb d 3 in
       let l : Bool = leb n (I .O) in
-      edit-leaves (lay r c d n) (test a 4 ∷ test b 5 ∷ test l 11 ∷ []) (eqb (laidOn I (sideOf r c d)) n) (laidBy I (sideOf r c d) n) tt
-      (λ t. laid-proper I r c d n (legal-proper rec (k .legal)) (and-left a (b && (l && true)) t) (both-hold b l (and-right a (b && (l && true)) t) .1))
+      edit-leaves (lay r c d n) (test a 4 ∷ test b 5 ∷ test l 11 ∷ []) (eqb (laidOn I (sideOf r c d)) n) (laidBy I (sideOf r c d) n)
+      (laidLeft I (load rec) (sideOf r c d) n) tt
+      (λ t.
+      let u : T a = and-left a (b && (l && true)) t in
+      let w : T l = both-hold b l (and-right a (b && (l && true)) t) .1 in
+      (laid-proper I r c d n proper u w, laid-legal rec (k .legal) proper r c d n u w))
       (λ t. laid-same I (sideOf r c d) n (eqb→eq (laidOn I (sideOf r c d)) n t) ∙ k .job)
       (ap (λ (X : Job). laidBy X (sideOf r c d) n) (k .job))
 

@@ -1,5 +1,6 @@
 -- The record along a run: it stays a buffer, legal, with the job that the calls give.
 pub mod Buffers
+pub mod OthersStay
 pub mod Invariant
 pub mod Runs
 pub mod Families

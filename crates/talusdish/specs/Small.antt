@@ -11,10 +11,11 @@ use lib.ListN.{length}
 use Rattle.sums.specs.Counting.{when}
 use Rattle.sums.specs.Totals.{total-le, length-total}
 use Rattle.model.specs.Job.{Job, arrayFits, capsAdmitted, fresh, marked, closed, sideOf, laidOn, laidBy, isPin, isTile, isChosen}
-use Rattle.model.specs.Links.{places, isPinKind}
+use Rattle.model.specs.Links.{places, isPinKind, Step}
 use Rattle.model.specs.Route.{chosenCount}
 use Rattle.model.specs.Record.{recordSize, scratchSize, jobOf, load, Legal, unwiredRecord, over}
 use Rattle.model.specs.Wires.{Part, partAt}
+use Rattle.model.specs.Left.{markLeft, closeLeft, laidLeft}
 use Rattle.model.specs.Text.{Verdict, reads, wrongAt, Reading, textOf}
 use Rattle.model.specs.Listing.{wiresListing}
 use Rattle.model.specs.Trial.{Trial, seedFits, percentsFit, trialJob}
@@ -50,9 +51,9 @@ asked-fits : (c : Call) (ts : List Test) (rec output : List ℕ) (a : After) →
     → Fits c (asked ts rec output a)
 asked-fits c ts rec output a n f = asked-either rec output a (Fits c) refusalFits ts n (λ k t. t) f
 
-edited-fits : (c : Call) → T (fits c done) → (already : Bool) (K : Job) (rec : List ℕ) → Fits c (edited already K rec)
-edited-fits c t true K rec = t
-edited-fits c t false K rec = t
+edited-fits : (c : Call) → T (fits c done) → (already : Bool) (K : Job) (left : Step → ℕ) (rec : List ℕ) → Fits c (edited already K left rec)
+edited-fits c t true K left rec = t
+edited-fits c t false K left rec = t
 
 stepped-fits : (scratch : List ℕ) {rec rec′ : List ℕ} {x : Answer} → Stepped rec x rec′ → T (fits (step scratch) x)
 stepped-fits scratch (adds o) = tt
@@ -141,29 +142,32 @@ pub did-fits : (c : Call) (rec : List ℕ) (a : After) → Did c rec a → Fits 
 did-fits (new rows columns O D E) rec a d = as-fits (new rows columns O D E) d (newly-fits rows columns O D E rec)
 did-fits (mark r c m) rec a d =
     let J : Job = jobOf rec in
-    let leaves : After = edited (eqb (J .mark r c) m) (marked J r c m) rec in
+    let left : Step → ℕ = markLeft J (load rec) r c in
+    let leaves : After = edited (eqb (J .mark r c) m) (marked J r c m) left rec in
     on-fits (mark r c m) rec [] [] a d
     (λ g e.
     as-fits (mark r c m) e
     (asked-fits (mark r c m) (test (isPin J r c) 4 ∷ test (leb m 2) 5 ∷ []) rec [] leaves tt
-    (λ t. edited-fits (mark r c m) tt (eqb (J .mark r c) m) (marked J r c m) rec)))
+    (λ t. edited-fits (mark r c m) tt (eqb (J .mark r c) m) (marked J r c m) left rec)))
 did-fits (close r c v) rec a d =
     let J : Job = jobOf rec in
-    let leaves : After = edited (eqb (J .state r c) v) (closed J r c v) rec in
+    let left : Step → ℕ = closeLeft J (load rec) r c in
+    let leaves : After = edited (eqb (J .state r c) v) (closed J r c v) left rec in
     on-fits (close r c v) rec [] [] a d
     (λ g e.
     as-fits (close r c v) e
     (asked-fits (close r c v) (test (isTile J r c) 4 ∷ test (leb v 1) 5 ∷ []) rec [] leaves tt
-    (λ t. edited-fits (close r c v) tt (eqb (J .state r c) v) (closed J r c v) rec)))
+    (λ t. edited-fits (close r c v) tt (eqb (J .state r c) v) (closed J r c v) left rec)))
 did-fits (lay r c n m) rec a d =
     let J : Job = jobOf rec in
     let there : Bool = eqb (laidOn J (sideOf r c n)) m in
-    let leaves : After = edited there (laidBy J (sideOf r c n) m) rec in
+    let left : Step → ℕ = laidLeft J (load rec) (sideOf r c n) m in
+    let leaves : After = edited there (laidBy J (sideOf r c n) m) left rec in
     on-fits (lay r c n m) rec [] [] a d
     (λ g e.
     as-fits (lay r c n m) e
     (asked-fits (lay r c n m) (test (isTile J r c) 4 ∷ test (leb n 3) 5 ∷ test (leb m (J .O)) 11 ∷ []) rec [] leaves tt
-    (λ t. edited-fits (lay r c n m) tt there (laidBy J (sideOf r c n) m) rec)))
+    (λ t. edited-fits (lay r c n m) tt there (laidBy J (sideOf r c n) m) left rec)))
 did-fits (step scratch) rec a d = on-fits (step scratch) rec scratch [] a d (λ g s. step-fits scratch rec a s)
 did-fits (shortfall scratch output) rec a d = on-fits (shortfall scratch output) rec scratch output a d (λ g s. lacks-fits scratch output rec g a s)
 did-fits (part r c i) rec a d = on-fits (part r c i) rec [] [] a d (λ g e. as-fits (part r c i) e (listed-fits rec g r c i))

@@ -1,14 +1,8 @@
 -- `lay_on` meets its contract: refused by the first test that fails; else the record of the job with the count, or the record as it was. Assumes nothing.
-use mathlib.Core.Path.{sym, ap, subst, _∙_}
-use Prim.Native.Nat.{_≤_}
+use mathlib.Core.Path.{subst}
+use Prim.Native.Nat.{ℕ, _≤_}
 use denote.Ref.{now}
-use native.Mathlib.Omega.{arith}
 use borrow.Author.Needs.{needs}
-use lib.ListN.{length, set}
-use Rattle.model.specs.Job.{sideOf}
-use Rattle.model.specs.Record.{recordSize}
-use Rattle.channel.specs.Laid.{sideOffset}
-use Rattle.editing.specs.Edits.{unwired-long}
 use Rattle.editing.specs.Laying.{lay-nowhere, lay-unknown, lay-cell, lay-above, lay-same, lay-anew}
 use Rattle.editing.proofs.lay_on.Statement.{statement}
 use Rattle.editing.proofs.lay_on.Tie as tie
@@ -64,35 +58,27 @@ returns-4 c =
     lay-same (now (a .rec)) (a .row) (a .column) (a .side) (a .count) _ (c6 .before .before .is-tile .ensures) (c6 .before .if1 .left) (c6 .if2 .left)
     _ (c3 .before .orthogonal .ensures .0) (c3 .if3 .left) _ (c .before .laid-on .ensures .0) (c .if4 .taken)
 
-unwire-requires : tie.Need-unwire-requires
-unwire-requires c κs = c .before .before .before .before .before .before .before .before .before .before .before .before .pre .long
-
-set-laid-requires : tie.Need-set-laid-requires
-set-laid-requires c κs =
-    let c3 = c .before .before .before in
-    let c8 = c3 .before .before .before .before .before in
-    let c11 = c8 .before .before .before in
-    let s = c11 .before .before .before .before .before in
+set-count-requires : tie.Need-set-count-requires
+set-count-requires c κs =
+    let c4 = c .before .before .before .before in
+    let c7 = c4 .before .before .before in
+    let s = c7 .before .before .before .before .before in
     let a = s .args in
-    let (lr, lc) = lay-cell (now (a .rec)) (a .row) (a .column) (a .side) (a .count) _ (c11 .before .before .is-tile .ensures) (c11 .before .if1 .left) (s .pre) in (
-      subst (λ x. recordSize ≤ length x) (sym (c3 .unwire .ensures)) (unwired-long (now (a .rec)) (s .pre)),
-      (lr, lc, omega (arith, c8 .if3 .left, c8 .before .orthogonal .ensures .1)),
-    )
+    let (lr, lc) = lay-cell (now (a .rec)) (a .row) (a .column) (a .side) (a .count) _ (c7 .before .before .is-tile .ensures) (c7 .before .if1 .left) (s .pre) in
+    (s .pre, lr, lc, c7 .if2 .left, subst (λ (o : ℕ). a .count ≤ o) (c4 .before .orthogonal .ensures .0) (c4 .if3 .left))
 
 same-length-5 : tie.Need-same-length-5
 same-length-5 c = search needs
 
 returns-5 : tie.Need-returns-5
 returns-5 c =
-    let c6 = c .before .before .before .before .before .before in
-    let c8 = c6 .before .before in
-    let c11 = c8 .before .before .before in
-    let c14 = c11 .before .before .before in
-    let s = c14 .before .before .before .before .before in
+    let c4 = c .before .before .before .before in
+    let c7 = c4 .before .before .before in
+    let c10 = c7 .before .before .before in
+    let s = c10 .before .before .before .before .before in
     let a = s .args in
-    lay-anew (now (a .rec)) (a .row) (a .column) (a .side) (a .count) _ (c14 .before .before .is-tile .ensures) (c14 .before .if1 .left) (c14 .if2 .left)
-    _ (c11 .before .orthogonal .ensures .0) (c11 .if3 .left) _ (c8 .before .laid-on .ensures .0) (s .pre) _ (c8 .if4 .left)
-    (c .before .before .set-laid .ensures ∙ ap (λ x. set x (sideOffset (sideOf (a .row) (a .column) (a .side))) (a .count)) (c6 .unwire .ensures))
+    lay-anew (now (a .rec)) (a .row) (a .column) (a .side) (a .count) _ (c10 .before .before .is-tile .ensures) (c10 .before .if1 .left) (c10 .if2 .left)
+    _ (c7 .before .orthogonal .ensures .0) (c7 .if3 .left) _ (c4 .before .laid-on .ensures .0) _ (c4 .if4 .left) (c .before .before .set-count .ensures)
 
 pub lay-on-spec : {M : Type 1} → statement M
 lay-on-spec =
@@ -109,7 +95,6 @@ lay-on-spec =
     laid-on-requires
     same-length-4
     returns-4
-    unwire-requires
-    set-laid-requires
+    set-count-requires
     same-length-5
     returns-5)
