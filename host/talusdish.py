@@ -250,13 +250,16 @@ class Job:
         call('talusdish_trial', self._record, rows, columns, o, d, e, seed, chosen, missing, closed)
 
     def mark(self, row, column, mark):
+        """Sets a pin's mark; another mark takes out the wires that start at the pin or pass it, and no others."""
         call('talusdish_mark', self._record, row, column, mark)
 
     def close(self, row, column, state):
+        """Sets a tile's state; closing it takes out the wires that meet one of its places, and no others."""
         call('talusdish_close', self._record, row, column, state)
 
     def lay(self, row, column, side, count):
-        """Sets how many wires are already laid on the side n, e, s or w of a tile; the library refuses any other side."""
+        """Sets how many wires are already laid on the side n, e, s or w of a tile, which takes out the wires in the side's highest lanes, as many
+        as exceed the new limit, and no others; the library refuses any other side."""
         call('talusdish_lay', self._record, row, column, (*SIDES, side).index(side), count)
 
     def step(self):

@@ -47,14 +47,17 @@ extern "C" {
 /* A new job: every pin idle, every tile open, no wires. 1 only for a short record; 2; 3. */
 uint64_t talusdish_new(uint8_t *record, uint64_t record_len, uint64_t rows, uint64_t columns, uint64_t o, uint64_t d, uint64_t e);
 
-/* The mark of a pin: 0 idle, 1 chosen, 2 missing. 1; 4; 5. A mark already there changes nothing, another takes out all wires. */
+/* The mark of a pin: 0 idle, 1 chosen, 2 missing. 1; 4; 5. A mark already there changes nothing. Another takes out the wires that start at the pin or pass
+ * it, so none where it was idle. Every other wire keeps its places; its lane numbers may shrink. */
 uint64_t talusdish_mark(uint8_t *record, uint64_t record_len, uint64_t row, uint64_t column, uint64_t mark);
 
-/* The state of a tile: 0 open, 1 closed. 1; 4; 5. A state already there changes nothing, another takes out all wires. */
+/* The state of a tile: 0 open, 1 closed. 1; 4; 5. A state already there changes nothing. Closing a tile takes out the wires that meet one of its places, opening
+ * one takes out none. Every other wire keeps its places; its lane numbers may shrink. */
 uint64_t talusdish_close(uint8_t *record, uint64_t record_len, uint64_t row, uint64_t column, uint64_t state);
 
 /* How many wires are already laid on a side of a tile, 0 to O: the side takes O less that. Side 0 n, 1 e, 2 s, 3 w; an inner side has one count, whichever of its
- * tiles names it. 1; 4 no such tile; 5; 11. A count already there changes nothing, another takes out all wires. */
+ * tiles names it. 1; 4 no such tile; 5; 11. A count already there changes nothing, a lower one takes out no wire. A higher one takes out the wires in the side's
+ * highest lanes, as many as exceed the new limit. Every other wire keeps its places; its lane numbers may shrink. */
 uint64_t talusdish_lay(uint8_t *record, uint64_t record_len, uint64_t row, uint64_t column, uint64_t side, uint64_t count);
 
 /* One wire more. 1; 8. Value 0 added: one more chosen pin is wired and those wired stay wired; 1 all wired; 2 short: no more wires fit.
