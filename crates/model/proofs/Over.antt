@@ -1,5 +1,5 @@
 -- Only the first 32,768 bytes of a buffer matter: its job, its loads and whether it is legal are those of these bytes, since every byte that is read has
--- an offset below 32,768. So what New, Read text and an edit leave is legal and holds the new job. Assumes nothing.
+-- an offset below 32,768. So what New and Read text leave is legal and holds the new job. Assumes nothing.
 use mathlib.Core.Path.{_≡_, sym, ap, subst, _∙_}
 use mathlib.Core.Logic.{_≢_}
 use mathlib.Core.Bool.{Bool, true, false, not}
@@ -63,7 +63,7 @@ module _ (new rest : List ℕ) (e : length new ≡ recordSize) where
       to : (P : Job → Type 0) → P (jobOf new) → P (jobOf (new ++ rest))
       to P p = subst P (sym job-over) p
 
--- ---- the record that New, Read text and an edit leave
+-- ---- the record that New and Read text leave
 
 module _ (K : Job) (proper : Proper K) (rec : List ℕ) where
   abbrev rest : List ℕ

@@ -217,8 +217,12 @@ job64 = closed (marked (fresh 2 2 1 2 0) 0 0 1) 0 0 1
 abbrev pub job33 : Job
 job33 = closed (closed (closed (marked (marked (marked (fresh 3 3 1 1 0) 0 0 1) 1 0 1) 1 1 1) 0 1 1) 1 0 1) 1 1 1
 
+-- the same before the inner pin is chosen, where a run goes on with the wires that it has (K5)
+abbrev pub jobEarlier : Job
+jobEarlier = closed (closed (closed (marked (marked (fresh 3 3 1 1 0) 0 0 1) 1 0 1) 0 1 1) 1 0 1) 1 1 1
+
 abbrev pub wireds : List Job
-wireds = job64 ∷ job33 ∷ jobTwo ∷ []
+wireds = job64 ∷ job33 ∷ jobTwo ∷ jobEarlier ∷ []
 
 -- ---- direct exits: how many links lead from the pin straight to the outside
 
