@@ -1,6 +1,6 @@
--- the copy in which the wires are followed
-pub mod Copied
 -- what Mark and Close answer and store
 pub mod Edits
 -- what setting a count does
 pub mod Laying
+-- the copy in which the wires are followed
+pub mod Copied

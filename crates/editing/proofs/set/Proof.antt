@@ -1,16 +1,10 @@
 -- `set` meets its contract: the wires are followed in a copy, which is legal, of the same job and with the same loads. Assumes nothing.
 use mathlib.Core.Path.{sym, ap, subst, _∙_}
 use mathlib.Core.Bool.{Bool}
-use mathlib.Core.List.{List}
-use Prim.Native.Nat.{ℕ, _≤_}
+use Prim.Native.Nat.{_≤_}
 use denote.Ref.{now}
-use native.Mathlib.Omega.{arith}
 use borrow.Author.Needs.{needs}
-use Rattle.model.specs.Job.{Job, marked, closed}
-use Rattle.model.specs.Links.{Step}
-use Rattle.model.specs.Record.{recordOf, over}
-use Rattle.model.specs.Left.{markLeft, closeLeft}
-use Rattle.editing.specs.Copied.{copied-same, copied-legal, as-copied}
+use Rattle.editing.specs.Copied.{copied-same, copied-legal, mark-copied, close-copied}
 use Rattle.editing.specs.Edits.{most, setIn}
 use Rattle.editing.proofs.set.Statement.{statement}
 use Rattle.editing.proofs.set.Tie as tie
@@ -62,8 +56,7 @@ returns c =
     let s = c5 .before .before .before .before .before .before in
     let a = s .args in
     c .before .before .close-keeping .ensures
-    ∙ (as-copied (s .pre .0) (c5 .before .before .copy .ensures)
-    (λ (J : Job) (f : Step → ℕ). over (recordOf (closed J (a .row) (a .column) (a .value)) (closeLeft J f (a .row) (a .column))) (now (a .rec)))
+    ∙ (close-copied (s .pre .0) (c5 .before .before .copy .ensures) (a .row) (a .column) (a .value)
     ∙ ap (λ (k : Bool). setIn k (a .row) (a .column) (a .value) (now (a .rec))) (sym (c5 .if1 .taken)))
 
 same-length-2 : tie.Need-same-length-2
@@ -75,8 +68,7 @@ returns-2 c =
     let s = c5 .before .before .before .before .before .before in
     let a = s .args in
     c .before .before .mark-keeping .ensures
-    ∙ (as-copied (s .pre .0) (c5 .before .before .copy .ensures)
-    (λ (J : Job) (f : Step → ℕ). over (recordOf (marked J (a .row) (a .column) (a .value)) (markLeft J f (a .row) (a .column))) (now (a .rec)))
+    ∙ (mark-copied (s .pre .0) (c5 .before .before .copy .ensures) (a .row) (a .column) (a .value)
     ∙ ap (λ (k : Bool). setIn k (a .row) (a .column) (a .value) (now (a .rec))) (sym (c5 .if1 .left)))
 
 pub set-spec : {M : Type 1} → statement M

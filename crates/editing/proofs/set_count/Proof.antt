@@ -1,13 +1,9 @@
 -- `set_count` meets its contract: the wires are followed in a copy, which is legal, of the same job and with the same loads. Assumes nothing.
 use mathlib.Core.Path.{sym, subst, _∙_}
-use Prim.Native.Nat.{ℕ, _≤_}
-use denote.Ref.{now}
+use Prim.Native.Nat.{_≤_}
 use borrow.Author.Needs.{needs}
-use Rattle.model.specs.Job.{Job, sideOf, laidBy}
-use Rattle.model.specs.Links.{Step}
-use Rattle.model.specs.Record.{recordOf, over}
-use Rattle.model.specs.Left.{laidLeft}
-use Rattle.editing.specs.Copied.{copied-same, copied-legal, copied-job, as-copied}
+use Rattle.model.specs.Job.{Job}
+use Rattle.editing.specs.Copied.{copied-same, copied-legal, copied-job, lay-copied}
 use Rattle.editing.proofs.set_count.Statement.{statement}
 use Rattle.editing.proofs.set_count.Tie as tie
 
@@ -43,9 +39,7 @@ returns c =
     let s = c6 .before .before .before .before in
     let a = s .args in
     c .before .before .lay-keeping .ensures
-    ∙ as-copied (s .pre .0) (c6 .copy .ensures)
-    (λ (J : Job) (f : Step → ℕ). over
-    (recordOf (laidBy J (sideOf (a .row) (a .column) (a .side)) (a .count)) (laidLeft J f (sideOf (a .row) (a .column) (a .side)) (a .count))) (now (a .rec)))
+    ∙ lay-copied (s .pre .0) (c6 .copy .ensures) (a .row) (a .column) (a .side) (a .count)
 
 pub set-count-spec : {M : Type 1} → statement M
 set-count-spec =
