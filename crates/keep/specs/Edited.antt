@@ -131,9 +131,9 @@ module _ (J : Job) (f : Step → ℕ) (S : Sound J f) where
   not-outside x n p (inr t) = p t
 
   -- "Choosing an idle pin and making an idle pin missing take out none."
-  pub idle-keeps : (r c : ℕ) → J .mark r c ≡ 0 → (s : Step) → markLeft J f r c s ≡ f s
-  unfolding markLeft isChosen
-  idle-keeps r c e s = left-all J f S (avoids J f (pinAt J r c ∷ [])) (avoids-none (pinAt J r c ∷ []) (none, tt)) s
+  pub idle-stays : (r c : ℕ) → J .mark r c ≡ 0 → (q d : ℕ) → T (isWired J f q d) → avoids J f (pinAt J r c ∷ []) q d ≡ true
+  unfolding isChosen
+  idle-stays r c e = avoids-none (pinAt J r c ∷ []) (none, tt)
     where
       same : at pin r c ≡ pinAt J r c
       same = ap (λ (n : ℕ). elim (eqb n 2) as (λ _. Place) [ true ↦ at missing r c | false ↦ at pin r c ]) (sym e)
@@ -144,12 +144,15 @@ module _ (J : Job) (f : Step → ℕ) (S : Sound J f) where
           (not-outside (at pin r c) (λ z. omega arith)
           (λ t. omega (arith, e, eqb→eq (J .mark r c) 1 (and-right (isPin J r c) (eqb (J .mark r c) 1) t))))
 
+  pub idle-keeps : (r c : ℕ) → J .mark r c ≡ 0 → (s : Step) → markLeft J f r c s ≡ f s
+  unfolding markLeft
+  idle-keeps r c e = left-all J f S (avoids J f (pinAt J r c ∷ [])) (idle-stays r c e)
+
   -- "Opening a tile takes out none."
-  pub open-keeps : (r c : ℕ) → J .state r c ≡ 1 → (s : Step) → closeLeft J f r c s ≡ f s
-  unfolding closeLeft isOpen
-  open-keeps r c e s =
-      left-all J f S (avoids J f (tilePlaces r c))
-      (avoids-none (tilePlaces r c) (
+  pub open-stays : (r c : ℕ) → J .state r c ≡ 1 → (q d : ℕ) → T (isWired J f q d) → avoids J f (tilePlaces r c) q d ≡ true
+  unfolding isOpen
+  open-stays r c e =
+      avoids-none (tilePlaces r c) (
         not-outside (at (side north) r c) (λ z. omega arith) shut,
         (
           not-outside (at (side east) r c) (λ z. omega arith) shut,
@@ -161,7 +164,11 @@ module _ (J : Job) (f : Step → ℕ) (S : Sound J f) where
             ),
           ),
         ),
-      )) s
+      )
     where
       shut : T (isTile J r c && eqb (J .state r c) 0) → ⊥
       shut t = omega (arith, e, eqb→eq (J .state r c) 0 (and-right (isTile J r c) (eqb (J .state r c) 0) t))
+
+  pub open-keeps : (r c : ℕ) → J .state r c ≡ 1 → (s : Step) → closeLeft J f r c s ≡ f s
+  unfolding closeLeft
+  open-keeps r c e = left-all J f S (avoids J f (tilePlaces r c)) (open-stays r c e)

@@ -163,9 +163,11 @@ module _ (J : Job) (f : Step → ℕ) (S : Sound J f) (s : Side) (n : ℕ) where
       lane = low-lanes J f (linkOf s) k S (h .step) here (h .lane) below loaded
 
   -- a count that is no higher takes out none
+  pub lower-stays : n ≤ laidOn J s → (q d : ℕ) → T (isWired J f q d) → laidStays q d ≡ true
+  lower-stays h =
+      none-high J f (linkOf s) k S (record { link = linkOf s; forth = true }) refl
+      (omega (arith, S .feasible .limits (record { link = linkOf s; forth = true }) (J .O - laidOn J s) (side-limit J s)))
+
   pub lower-keeps : n ≤ laidOn J s → (t : Step) → laidLeft J f s n t ≡ f t
   unfolding laidLeft
-  lower-keeps h t =
-      left-all J f S laidStays
-      (none-high J f (linkOf s) k S (record { link = linkOf s; forth = true }) refl
-      (omega (arith, S .feasible .limits (record { link = linkOf s; forth = true }) (J .O - laidOn J s) (side-limit J s)))) t
+  lower-keeps h = left-all J f S laidStays (lower-stays h)

@@ -30,11 +30,11 @@ use Rattle.run.specs.Settled.{Answers, shorts-answers, WholeAnswers, wir
 unfoldable pub zeroRecord : List ℕ
 zeroRecord = replicate recordSize 0
 
-zero-buffer : Buffer zeroRecord
+pub zero-buffer : Buffer zeroRecord
 unfolding zeroRecord
 zero-buffer = zeros-buffer recordSize (omega arith)
 
-zero-long : recordSize ≤ length zeroRecord
+pub zero-long : recordSize ≤ length zeroRecord
 unfolding zeroRecord
 zero-long = omega (arith, length-replicate {A = ℕ} recordSize 0)
 

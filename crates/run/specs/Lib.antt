@@ -1,6 +1,7 @@
 -- The record along a run: it stays a buffer, legal, with the job that the calls give.
 pub mod Buffers
 pub mod OthersStay
+pub mod AfterEdit
 pub mod Invariant
 pub mod Runs
 pub mod Families
@@ -16,3 +17,4 @@ pub mod Blank
 pub mod Edits
 pub mod Settled
 pub mod Example
+pub mod WiredRun

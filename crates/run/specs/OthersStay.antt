@@ -1,6 +1,6 @@
 -- Document 02, K5: the record that an edit leaves. It is legal, of the edited job, and the wires that it holds are those of the record before that stay: each on
 -- its places, with lanes no higher; so there are no more than before. Assumes nothing.
-use mathlib.Core.Path.{_≡_, sym, subst, _∙_}
+use mathlib.Core.Path.{_≡_, refl, sym, ap, subst, _∙_}
 use mathlib.Core.Bool.{Bool, true, false, _&&_}
 use mathlib.Core.List.{List, [], _∷_}
 use Prim.Native.Nat.{ℕ, _≤_}
@@ -8,13 +8,13 @@ use native.Mathlib.Omega.{arith}
 use lib.Dec.{T, leb}
 use lib.ListN.{length, drop}
 use Rattle.sums.specs.Counting.{when}
-use Rattle.sums.specs.Totals.{total-le}
+use Rattle.sums.specs.Totals.{total-le, total-cong}
 use Rattle.model.specs.Job.{Job, Proper, isPin, isTile, marked, closed, sideOf, laidBy}
 use Rattle.model.specs.Links.{isPinKind, places, pinAt, Step}
-use Rattle.model.specs.Record.{recordSize, jobOf, load, Legal, recordOf, over}
+use Rattle.model.specs.Record.{jobOf, load, Legal, recordOf, over}
 use Rattle.model.specs.Wires.{isWired, wireCount}
 use Rattle.model.specs.Left.{avoids, tilePlaces, markLeft, closeLeft, laidLeft}
-use Rattle.model.specs.Calls.{wiresIn}
+use Rattle.model.specs.Calls.{wiredIn, wiresIn}
 use Rattle.model.proofs.RecordOf.{Storable, length-record, job-back, load-back}
 use Rattle.model.proofs.Over.{job-over, load-over, legal-over, legal-proper}
 use Rattle.model.proofs.Sides.{laid-proper}
@@ -82,6 +82,21 @@ module _ (rec : List ℕ) (g : Legal rec) (r c : ℕ) where
       left-stays rec (laidBy J (sideOf r c d) n) (laidLeft J f (sideOf r c d) n) (laid-proper J r c d n proper t u) (laid-legal rec g proper r c d n t u)
       (laidStays J f (g .sound) (sideOf r c d) n) (laid-storable rec g (sideOf r c d) n) (laid-edit J f (g .sound) (sideOf r c d) n)
 
+  -- the loads
+  pub mark-loads : (m : ℕ) → T (isPin J r c) → T (leb m 2) → load (over (recordOf (marked J r c m) (markLeft J f r c)) rec) ≡ markLeft J f r c
+  mark-loads m t u =
+      left-load rec (marked J r c m) (markLeft J f r c) (marked-proper J r c m proper t u) (mark-legal rec g proper r c m t u) (mark-storable rec g r c)
+
+  pub close-loads : (v : ℕ) → T (isTile J r c) → T (leb v 1) → load (over (recordOf (closed J r c v) (closeLeft J f r c)) rec) ≡ closeLeft J f r c
+  close-loads v t u =
+      left-load rec (closed J r c v) (closeLeft J f r c) (closed-proper J r c v proper t u) (close-legal rec g proper r c v t u) (close-storable rec g r c)
+
+  pub lay-loads : (d n : ℕ) → T (isTile J r c) → T (leb n (J .O))
+      → load (over (recordOf (laidBy J (sideOf r c d) n) (laidLeft J f (sideOf r c d) n)) rec) ≡ laidLeft J f (sideOf r c d) n
+  lay-loads d n t u =
+      left-load rec (laidBy J (sideOf r c d) n) (laidLeft J f (sideOf r c d) n) (laid-proper J r c d n proper t u) (laid-legal rec g proper r c d n t u)
+      (laid-storable rec g (sideOf r c d) n)
+
 -- no wire is new
 pub stays-fewer : (rec rec′ : List ℕ) (K : Job) (stays : ℕ → ℕ → Bool) → OthersStay rec rec′ K stays → wiresIn rec′ ≤ wiresIn rec
 unfolding wireCount
@@ -98,3 +113,18 @@ stays-fewer rec rec′ K stays e =
     some-stay true true false = omega arith
     some-stay true false c = omega arith
     some-stay false b c = omega arith
+
+-- where every wire stays, there are as many
+pub stays-as-many : (rec rec′ : List ℕ) (K : Job) (stays : ℕ → ℕ → Bool) → OthersStay rec rec′ K stays → ((q d : ℕ) → T (wiredIn rec q d) → stays q d ≡ true)
+    → wiresIn rec′ ≡ wiresIn rec
+unfolding wireCount
+stays-as-many rec rec′ K stays e h =
+    let J : Job = jobOf rec in
+    e .keeps .number
+    ∙ total-cong (places J) _ _
+    (λ x. all-stay (isPinKind x) (isWired J (load rec) (x .row) (x .column)) (stays (x .row) (x .column)) (h (x .row) (x .column)))
+  where
+    all-stay : (a b c : Bool) → (T b → c ≡ true) → when (a && (b && c)) 1 ≡ when (a && b) 1
+    all-stay true true c k = ap (λ (x : Bool). when x 1) (k tt)
+    all-stay true false c k = refl
+    all-stay false b c k = refl

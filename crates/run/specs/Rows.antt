@@ -34,6 +34,19 @@ module _ (S : Service) (J : Job) (g : ℕ) (G : Greatest J g) where
       → Grows rec (S .does (step scratch) rec .rec)
   step-grows rec scratch k b e = grows rec (step-says S J g G rec scratch k b (ap refusal e)) e
 
+  -- a step that is lent enough says "added" while fewer than g wires are held
+  pub step-adds : (rec scratch : List ℕ) → Kept rec J → Buffer scratch → scratchSize ≤ length scratch → wiresIn rec < g
+      → (S .does (step scratch) rec .answer ≡ added) × Kept (S .does (step scratch) rec .rec) J × (wiresIn (S .does (step scratch) rec .rec) ≡ suc (wiresIn rec))
+  step-adds rec scratch k b long l =
+      by
+      (step-says S J g G rec scratch k b
+      (enough-accepted S rec scratch J (S .does (step scratch) rec) k (S .did (step scratch) rec b (k .buffer) .legal (k .legal)) long))
+    where
+      by : {a : Answer} {rec′ : List ℕ} → Says J g rec a rec′ → (a ≡ added) × Kept rec′ J × (wiresIn rec′ ≡ suc (wiresIn rec))
+      by (one m k′ n) = (refl, k′, n)
+      by (all w c q) = absurd (omega arith)
+      by (few w c q) = absurd (omega arith)
+
   pub adding-le : {rec : List ℕ} {n : ℕ} → Adding S rec n → Kept rec J → n + wiresIn rec ≤ g
   adding-le (begin {rec = rec}) k = omega (arith, held-le S J g G rec k)
   adding-le (again {rec = rec} scratch b e r) k =
