@@ -1,4 +1,5 @@
--- What the code answers: the slot and the lane of the partner of an arriving lane, for a place of five slots. Assumes nothing.
+-- What the code answers: the slot and the lane of the partner of an arriving lane, or of the lane whose partner a departing one is, for a place of five slots.
+-- Assumes nothing.
 use mathlib.Core.Path.{_≡_}
 use mathlib.Core.List.{List}
 use Prim.Native.Nat.{ℕ, _≤_, _<_}
@@ -25,8 +26,19 @@ lanes-past l k h = rw (le-ltb k 5 h)
 abbrev pub partnerOf : (ℕ → ℕ) → (ℕ → ℕ) → ℕ → ℕ → ℕ
 partnerOf a d m = partnerIn (pairsOf (arrivesAt a d m) (start a d m))
 
+-- the position p is the lane i of slot k
+pub data LaneAt (a d : ℕ → ℕ) (p k i : ℕ) : Type 0 where
+  comes : k < 5 → i < a k → p ≡ arrivalPos a d k i → LaneAt a d p k i
+  leaves : k < 5 → i < d k → p ≡ departurePos a d k i → LaneAt a d p k i
+
 -- the departing lane q of slot j is the partner, by document 01's rounds, of the arriving lane i of slot k
 pub record Partner (a d : ℕ → ℕ) (k i j q : ℕ) : Type 0 where
   pub slot : j < 5
   pub lane : q < d j
   pub place : partnerOf a d 5 (arrivalPos a d k i) ≡ departurePos a d j q
+
+-- the arriving lane q of slot j is the one whose partner is the departing lane i of slot k
+pub record Arrival (a d : ℕ → ℕ) (k i j q : ℕ) : Type 0 where
+  pub slot : j < 5
+  pub lane : q < a j
+  pub partner : Partner a d j q k i

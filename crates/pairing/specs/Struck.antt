@@ -16,8 +16,8 @@ use Rattle.model.specs.Pairing.{Pair, Struck, keep, strike, rounds, range, pair
 use Rattle.pairing.specs.Rounds.{strike-same, strike-differ, keep-none, rounds-none, rounds-some}
 use Rattle.pairing.specs.Levels.{partner-fst, partner-snd, partner-next}
 use Rattle.pairing.specs.Perfect.{Even, Perfect, pairs-all, pairs-perfect}
-use Rattle.pairing.specs.Slots.{start, arrivalPos, departurePos, arrivesAt, start-later, arrival-kind, slots-even}
-use Rattle.pairing.specs.Answer.{partnerOf, Partner}
+use Rattle.pairing.specs.Slots.{start, arrivalPos, departurePos, arrivesAt, start-later, arrival-kind, departure-kind, slots-even}
+use Rattle.pairing.specs.Answer.{partnerOf, LaneAt, comes, leaves, Partner, Arrival}
 use Rattle.pairing.specs.Sequence.{slotOf, laneOf, arriving, zipped, EndAt, arrives, departs, Laid, laid-kinds}
 use Rattle.pairing.specs.declared.Join.{Join}
 use Rattle.pairing.specs.declared.Join.the-variants.{Pair as Joined, Nothing}
@@ -249,33 +249,51 @@ pub partner-joined : (a d : ℕ → ℕ) (n p q at : ℕ) (l : List ℕ) (z : Li
     → p ≡ at → q ≡ partnerIn z p → q ≡ partnerOf a d 5 at
 partner-joined a d n p q at l z e g j h o = o ∙ ap₂ partnerIn (j ∙ ap₂ pairsOf (laid-kinds a d n l e g) e) h
 
-module _ (a d : ℕ → ℕ) (k i : ℕ) (here : k < 5) (lane : i < a k) where
-  -- the partner's end says its slot and lane
-  pub end-partner : (n q j t : ℕ) (l : List ℕ) → n ≡ start a d 5 → Laid a d n l → q ≡ partnerOf a d 5 (arrivalPos a d k i) → j ≡ slotOf (getD l q 0)
-      → t ≡ laneOf (getD l q 0) → sum 5 a ≡ sum 5 d → Partner a d k i j t
-  end-partner n q j t l size g e x y even = by (g .0 q (omega (arith, e, size, all .within (arrivalPos a d k i) inside)))
-    where
-      all : Perfect (arrivesAt a d 5) (start a d 5) (partnerOf a d 5)
-      all = pairs-perfect (arrivesAt a d 5) (start a d 5) (slots-even a d 5 even)
+-- the partner's end says its slot and lane
+pub end-joined : (a d : ℕ → ℕ) (p n q j t : ℕ) (l : List ℕ) → p < start a d 5 → n ≡ start a d 5 → Laid a d n l → q ≡ partnerOf a d 5 p
+    → j ≡ slotOf (getD l q 0) → t ≡ laneOf (getD l q 0) → sum 5 a ≡ sum 5 d → LaneAt a d (partnerOf a d 5 p) j t
+end-joined a d p n q j t l inside size g e x y even =
+    by (g .0 q (omega (arith, e, size, pairs-perfect (arrivesAt a d 5) (start a d 5) (slots-even a d 5 even) .within p inside)))
+  where
+    by : EndAt a d q (getD l q 0) → LaneAt a d (partnerOf a d 5 p) j t
+    by (arrives v u h m s o b) =
+        let f : v ≡ j = omega arith in
+        let c : u ≡ t = omega arith in
+        comes (omega arith) (omega (arith, ap a f)) (sym e ∙ (o ∙ ap₂ (arrivalPos a d) f c))
+    by (departs v u h m s o b) =
+        let f : v ≡ j = omega arith in
+        let c : u ≡ t = omega arith in
+        leaves (omega arith) (omega (arith, ap d f)) (sym e ∙ (o ∙ ap₂ (departurePos a d) f c))
 
-      inside : arrivalPos a d k i < start a d 5
-      inside = omega (arith, start-later a d k 5 here)
+module _ (a d : ℕ → ℕ) (k i : ℕ) (here : k < 5) (even : sum 5 a ≡ sum 5 d) where
+  all : Perfect (arrivesAt a d 5) (start a d 5) (partnerOf a d 5)
+  all = pairs-perfect (arrivesAt a d 5) (start a d 5) (slots-even a d 5 even)
 
-      leaves : arrivesAt a d 5 q ≡ false
-      leaves =
-          ap (arrivesAt a d 5) e
-          ∙ (all .swaps (arrivalPos a d k i) inside ∙ ap not (arrival-kind a d k 5 (a k - 1 - i) here (omega arith)))
+  -- no lane of one kind stands where one of the other kind does
+  one-kind : {A : Type 0} (p : ℕ) (b : Bool) → arrivesAt a d 5 p ≡ b → arrivesAt a d 5 p ≡ not b → A
+  one-kind p true e g = let x = sym e ∙ g in let z : _≡_ {A = ℕ} 0 1 = cc in absurd (omega arith)
+  one-kind p false e g = let x = sym e ∙ g in let z : _≡_ {A = ℕ} 0 1 = cc in absurd (omega arith)
 
-      by : EndAt a d q (getD l q 0) → Partner a d k i j t
-      by (arrives v u h m s p b) =
-          let z = sym (ap (arrivesAt a d 5) p ∙ arrival-kind a d v 5 (a v - 1 - u) h (omega arith)) ∙ leaves in
-          let w : _≡_ {A = ℕ} 0 1 = cc in
-          absurd (omega arith)
-      by (departs v u h m s p b) =
-          let f : j ≡ v = omega arith in
-          let c : t ≡ u = omega arith in
-          record {
-            slot = omega arith;
-            lane = omega (arith, ap d f);
-            place = sym e ∙ (p ∙ ap₂ (departurePos a d) (sym f) (sym c));
-          }
+  -- an arriving lane is joined with its partner
+  pub arrival-joined : (p j t : ℕ) → p ≡ arrivalPos a d k i → i < a k → LaneAt a d (partnerOf a d 5 p) j t → Partner a d k i j t
+  arrival-joined p j t e lane (comes h m o) =
+      let w = start-later a d k 5 here in
+      one-kind (partnerOf a d 5 p) true
+      (ap (arrivesAt a d 5) o ∙ arrival-kind a d j 5 (a j - 1 - t) h (omega arith))
+      (all .swaps p (omega arith) ∙ ap not (ap (arrivesAt a d 5) e ∙ arrival-kind a d k 5 (a k - 1 - i) here (omega arith)))
+  arrival-joined p j t e lane (leaves h m o) = record { slot = h; lane = m; place = ap (partnerOf a d 5) (sym e) ∙ o }
+
+  -- a departing lane is joined with the one whose partner it is
+  pub departure-joined : (p j t : ℕ) → p ≡ departurePos a d k i → i < d k → LaneAt a d (partnerOf a d 5 p) j t → Arrival a d k i j t
+  departure-joined p j t e lane (leaves h m o) =
+      let w = start-later a d k 5 here in
+      one-kind (partnerOf a d 5 p) false
+      (ap (arrivesAt a d 5) o ∙ departure-kind a d j 5 t h m)
+      (all .swaps p (omega arith) ∙ ap not (ap (arrivesAt a d 5) e ∙ departure-kind a d k 5 i here lane))
+  departure-joined p j t e lane (comes h m o) =
+      let w = start-later a d k 5 here in
+      record {
+        slot = h;
+        lane = m;
+        partner = record { slot = here; lane = lane; place = ap (partnerOf a d 5) (sym o) ∙ (all .twice p (omega arith) ∙ e) };
+      }

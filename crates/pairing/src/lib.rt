@@ -12,7 +12,7 @@ ghost use Rattle.pairing.specs.Perfect.{Even};
 ghost use Rattle.pairing.specs.Slots.{start};
 ghost use Rattle.pairing.specs.Sequence.{endOf, linkEnd, slotOf, laneOf, arriving, zipped, Blank, Laid, Differs};
 ghost use Rattle.pairing.specs.Struck.{asStruck, Below, Resumes};
-ghost use Rattle.pairing.specs.Answer.{lanes, Partner};
+ghost use Rattle.pairing.specs.Answer.{lanes, partnerOf, LaneAt, Partner, Arrival};
 
 // A lane of the link of a slot.
 pub struct Lane {
@@ -216,17 +216,42 @@ fn lane_at(ends: &[u16], p: usize) -> Lane
     Lane { slot: 0, lane: 0 }
 }
 
-// The partner of the arriving lane `lane` of slot `slot`, where as many lanes arrive as depart. At most 31 wires are on a link: a place has at most 155 ends.
-pub fn partner(arrive: &[u8; 5], depart: &[u8; 5], slot: usize, lane: usize) -> Lane
-    requires { ⌜ (slot < 5) × (lane < lanes (now arrive) slot) × (start (lanes (now arrive)) (lanes (now depart)) 5 ≤ 155) ⌝ }
+// The lane that is joined with the one at the position p, where as many lanes arrive as depart. At most 31 wires are on a link: a place has at most 155 ends.
+fn joined(arrive: &[u8; 5], depart: &[u8; 5], p: usize) -> Lane
+    requires { ⌜ (p < start (lanes (now arrive)) (lanes (now depart)) 5) × (start (lanes (now arrive)) (lanes (now depart)) 5 ≤ 155) ⌝ }
     ensures { λ r. ⌜ (sum 5 (lanes (now (arrive .entry))) ≡ sum 5 (lanes (now (depart .entry)))
-        → Partner (lanes (now (arrive .entry))) (lanes (now (depart .entry))) slot lane (r .slot) (r .lane)) ⌝ }
+        → LaneAt (lanes (now (arrive .entry))) (lanes (now (depart .entry))) (partnerOf (lanes (now (arrive .entry))) (lanes (now (depart .entry))) 5 p) (r .slot) (r .lane)) ⌝ }
 {
     let mut ends = [0u16; 155];
     let n = lay(arrive, depart, &mut ends);
     let mut first = [0u8; 78];
     let mut second = [0u8; 78];
     let m = join_all(&ends, n, &mut first, &mut second);
-    let p = start_of(arrive, depart, slot) + (lanes_at(arrive, slot) - 1 - lane);
     lane_at(&ends, other_end(&first, &second, m, p))
+}
+
+// The partner of the arriving lane `lane` of slot `slot`.
+pub fn partner(arrive: &[u8; 5], depart: &[u8; 5], slot: usize, lane: usize) -> Lane
+    requires { ⌜ (slot < 5) × (lane < lanes (now arrive) slot) × (start (lanes (now arrive)) (lanes (now depart)) 5 ≤ 155) ⌝ }
+    ensures { λ r. ⌜ (sum 5 (lanes (now (arrive .entry))) ≡ sum 5 (lanes (now (depart .entry)))
+        → Partner (lanes (now (arrive .entry))) (lanes (now (depart .entry))) slot lane (r .slot) (r .lane)) ⌝ }
+{
+    joined(
+        arrive,
+        depart,
+        start_of(arrive, depart, slot) + (lanes_at(arrive, slot) - 1 - lane),
+    )
+}
+
+// The arriving lane whose partner is the departing lane `lane` of slot `slot`.
+pub fn partner_back(arrive: &[u8; 5], depart: &[u8; 5], slot: usize, lane: usize) -> Lane
+    requires { ⌜ (slot < 5) × (lane < lanes (now depart) slot) × (start (lanes (now arrive)) (lanes (now depart)) 5 ≤ 155) ⌝ }
+    ensures { λ r. ⌜ (sum 5 (lanes (now (arrive .entry))) ≡ sum 5 (lanes (now (depart .entry)))
+        → Arrival (lanes (now (arrive .entry))) (lanes (now (depart .entry))) slot lane (r .slot) (r .lane)) ⌝ }
+{
+    joined(
+        arrive,
+        depart,
+        start_of(arrive, depart, slot) + (lanes_at(arrive, slot) + lane),
+    )
 }
