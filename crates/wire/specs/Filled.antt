@@ -34,7 +34,7 @@ first-alone f s (t ∷ l) h (List·Memᴰ·tail m) k =
     rw (le-ltb 0 (f t) (omega (arith, total-has l f m)), firstLoaded) (first-alone f s l (omega arith) m k)
 
 -- a place is entered, or is a chosen pin
-pin-or-entered : (J : Job) (k : PlaceKind) (r c : ℕ) → T (holds J k r c) → T (enters J k r c) ⊎ (at k r c ≡ at pin r c)
+pub pin-or-entered : (J : Job) (k : PlaceKind) (r c : ℕ) → T (holds J k r c) → T (enters J k r c) ⊎ (at k r c ≡ at pin r c)
 pin-or-entered J pin r c t = inr refl
 pin-or-entered J missing r c t = inl t
 pin-or-entered J centre r c t = inl t
@@ -78,25 +78,20 @@ pub record OnWire (J : Job) (f : Step → ℕ) (v : Hop) : Type 0 where
   pub listed : hopAt J f row column index ≡ some v
 
 module _ (J : Job) (f : Step → ℕ) (S : Sound J f) where
-  -- the hop from a pin
-  from-pin : (v : Hop) (r c : ℕ) → tail J (v .step) ≡ at pin r c → Loaded f v → OnWire J f v
+  -- the hop from a pin is the first of its wire
+  pub pin-first : (v : Hop) (r c : ℕ) → tail J (v .step) ≡ at pin r c → Loaded f v → T (isWired J f r c) × (hopAt J f r c 0 ≡ some v)
   unfolding isWired departures hopAt
-  from-pin v r c e l =
+  pin-first v r c e l =
       let x : Place = at pin r c in
       let p : T (isPlace J (tail J (v .step))) = may-leaves J (v .step) (hop-may J f (S .feasible) v l) in
       let chosen : T (isChosen J r c) = subst (λ (y : Place). T (isPlace J y)) e p in
       let m : List·Memᴰ (v .step) (around x) = subst (λ (y : Place). List·Memᴰ (v .step) (around y)) e (step-listed J (v .step) p) in
       let some-load : f (v .step) ≤ total (around x) f = total-has (around x) f m in
       let one : total (around x) f ≤ 1 = S .feasible .starts r c chosen in
-      let lane : 0 ≡ v .lane = omega arith in
-      record {
-        row = r;
-        column = c;
-        wired = and-both (isChosen J r c) (ltb 0 (total (around x) f)) chosen (so (lt-ltb 0 (total (around x) f) (omega arith)));
-        index = 0;
-        listed =
-            first-alone f (v .step) (around x) one m (omega arith) ∙ ap (λ (n : ℕ). some (record { step = v .step; lane = n })) lane;
-      }
+      let lane : 0 ≡ v .lane = omega arith in (
+        and-both (isChosen J r c) (ltb 0 (total (around x) f)) chosen (so (lt-ltb 0 (total (around x) f) (omega arith))),
+        first-alone f (v .step) (around x) one m (omega arith) ∙ ap (λ (n : ℕ). some (record { step = v .step; lane = n })) lane,
+      )
 
   -- going back from v, before which a trail of n steps was found
   go-back : (k n : ℕ) (v : Hop) → Loaded f v → Long J f S n (tail J (v .step)) → length (places J) < k + n → OnWire J f v
@@ -121,7 +116,9 @@ module _ (J : Job) (f : Step → ℕ) (S : Sound J f) where
           (r (B .hop) (B .loaded)
           (longer J f S n (B .hop .step) x (omega (arith, B .loaded)) (subst (λ (y : Place). T (isPlace J y)) (sym (B .comes)) p) (sym (B .comes)) L)
           (omega arith))
-      by (inr e) r = from-pin v (x .row) (x .column) e l
+      by (inr e) r =
+          let (w, first) = pin-first v (x .row) (x .column) e l in
+          record { row = x .row; column = x .column; wired = w; index = 0; listed = first }
 
   pub lane-wired : (v : Hop) → Loaded f v → OnWire J f v
   lane-wired v l = go-back (suc (length (places J))) 0 v l (long-none J f S (tail J (v .step))) (omega arith)

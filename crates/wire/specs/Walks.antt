@@ -129,7 +129,7 @@ module _ (rec : List ℕ) (g : Legal rec) where
   abbrev fits : T (arrayFits (J .rows) (J .columns))
   fits = g .values .array
 
-  run-may : {d i : ℕ} → Runs rec d i → T (may J (stepOf d))
+  pub run-may : {d i : ℕ} → Runs rec d i → T (may J (stepOf d))
   run-may {d} {i} r = hop-may J f (g .sound .feasible) (hop d i) (r .loaded)
 
   -- nothing goes where a step may be taken neither way
@@ -155,6 +155,22 @@ module _ (rec : List ℕ) (g : Legal rec) where
       by (some s) e =
           let (a, b, q) = slot-step J fits x p k s e in
           when-so (isLinkDart (8 * exit x + k)) (h (stepOf (8 * exit x + k))) b ∙ (ap h q ∙ sym (ap (loadOf h) e))
+
+  -- the lanes of the five slots of a place's exit, whose darts begin with the m-th, are those of the links round the place
+  module _ (x : Place) (p : T (isPlace J x)) (m : ℕ) (spot : m ≡ 8 * exit x) where
+    slots-loads : (h : Step → ℕ) → Idle h → (l : List ℕ) → l ≡ lanesOf h m → (k : ℕ) → k < 5 → lanes l k ≡ loadOf h (getElem? (around x) k)
+    slots-loads h idle l e k b =
+        lanes-in l k b
+        ∙ (ap (λ (w : List ℕ). getD w k 0) e
+        ∙ (lanes-at h m k b ∙ (ap (λ (n : ℕ). lanesAt h (n + k)) spot ∙ slot-load h idle x p k (omega arith))))
+
+    pub counts-at : (arrive depart : List ℕ) → arrive ≡ lanesOf (λ s. f (turn s)) m → depart ≡ lanesOf f m → Counts f x (lanes arrive) (lanes depart)
+    counts-at arrive depart ins outs =
+        record { ins = slots-loads (λ s. f (turn s)) ins-idle arrive ins; outs = slots-loads f outs-idle depart outs }
+
+    -- the wires that come by a slot
+    pub comes-at : (k : ℕ) → k < 5 → lanesAt (λ s. f (turn s)) (m + k) ≡ loadOf (λ s. f (turn s)) (getElem? (around x) k)
+    comes-at k b = ap (λ (n : ℕ). lanesAt (λ s. f (turn s)) (n + k)) spot ∙ slot-load (λ s. f (turn s)) ins-idle x p k (omega arith)
 
   -- ---- the hop after a hop
 
@@ -184,15 +200,9 @@ module _ (rec : List ℕ) (g : Legal rec) where
       pub slot-five : b % 8 < 5
       slot-five = omega (arith, entry-below (around x) (b % 8) (turn (stepOf d)) slot, around-five x)
 
-      slots-loads : (h : Step → ℕ) → Idle h → (l : List ℕ) → l ≡ lanesOf h (b / 8 * 8) → (k : ℕ) → k < 5 → lanes l k ≡ loadOf h (getElem? (around x) k)
-      slots-loads h idle l e k m =
-          lanes-in l k m
-          ∙ (ap (λ (w : List ℕ). getD w k 0) e
-          ∙ (lanes-at h (b / 8 * 8) k m ∙ (ap (λ (n : ℕ). lanesAt h (n + k)) spot ∙ slot-load h idle x here k (omega arith))))
-
       module _ (arrive depart : List ℕ) (ins : arrive ≡ lanesOf (λ s. f (turn s)) (b / 8 * 8)) (outs : depart ≡ lanesOf f (b / 8 * 8)) where
         counts : Counts f x (lanes arrive) (lanes depart)
-        counts = record { ins = slots-loads (λ s. f (turn s)) ins-idle arrive ins; outs = slots-loads f outs-idle depart outs }
+        counts = counts-at x here (b / 8 * 8) spot arrive depart ins outs
 
         balance : arrivals f x ≡ departures f x
         balance = g .sound .feasible .balance x here (may-enters J (stepOf d) (run-may r))
@@ -202,7 +212,7 @@ module _ (rec : List ℕ) (g : Legal rec) where
 
         pub lane-comes : i < lanes arrive (b % 8)
         lane-comes =
-            subst (λ (n : ℕ). i < n) (sym (slots-loads (λ s. f (turn s)) ins-idle arrive ins (b % 8) slot-five ∙ ap (loadOf (λ s. f (turn s))) slot)) came
+            subst (λ (n : ℕ). i < n) (sym (counts .ins (b % 8) slot-five ∙ ap (loadOf (λ s. f (turn s))) slot)) came
 
         -- what `partner` answers
         module _ (j q : ℕ) (answer : sum 5 (lanes arrive) ≡ sum 5 (lanes depart) → Partner (lanes arrive) (lanes depart) (b % 8) i j q) where
@@ -219,7 +229,7 @@ module _ (rec : List ℕ) (g : Legal rec) where
               let e : b / 8 * 8 + j ≡ 8 * exit x + j = omega (arith, spot) in
               let (l, link, s) = slot-step J fits x here j t there in
               let w : stepOf (b / 8 * 8 + j) ≡ t = ap stepOf e ∙ s in
-              let k : q < f t = subst (λ (n : ℕ). q < n) (slots-loads f outs-idle depart outs j (found .slot) ∙ ap (loadOf f) there) (found .lane) in
+              let k : q < f t = subst (λ (n : ℕ). q < n) (counts .outs j (found .slot) ∙ ap (loadOf f) there) (found .lane) in
               record {
                 hop = ap (λ (s : Step). some (record { step = s; lane = q })) w ∙ sym on;
                 runs =
