@@ -1,35 +1,41 @@
--- What the code takes out is what request K5 says: the wires that do not avoid the edited pin, or the places of the edited tile. So the record that is left
--- is that of `markLeft` or `closeLeft`, of which `keep` proves that every other wire keeps its places. Assumes nothing.
+-- What the marks take out is what request K5 says: the wires that meet the edited pin, or a place of the edited tile, or have the highest lanes of the edited
+-- side. So the record that is left is that of `markLeft`, `closeLeft` or `laidLeft`, of which `keep` proves that every other wire keeps its places. For any
+-- places: `left-avoids`. Assumes nothing.
 use mathlib.Core.Path.{_≡_, refl, sym, ap, ap₂, subst, fun-ext, _∙_}
-use mathlib.Core.Logic.{_⊎_, inl, inr}
-use mathlib.Core.Bool.{Bool, true, false, not, _&&_, _||_}
+use mathlib.Core.Logic.{_≢_, _⊎_, inl, inr}
+use mathlib.Core.Bool.{Bool, true, false, not, _&&_}
 use mathlib.Core.List.{List, [], _∷_, List·Memᴰ, List·Memᴰ·head, List·Memᴰ·tail, List·Memᴰ·not-nil}
 use mathlib.Core.Option.{Option, none, some}
-use Prim.Native.Nat.{ℕ, _-_}
+use Prim.Native.Nat.{ℕ, _+_, _-_, _*_, _≤_, _<_}
 use native.Mathlib.Omega.{arith}
-use lib.Dec.{T, eqb, eqb→eq, eqb-refl, leb, ltb, ltb→lt}
+use lib.Dec.{T, eqb, eqb→eq, leb, leb→le, ltb, ltb→lt, le→leb}
+use lib.ListN.{length, getD, set, replicate}
 use borrow.Author.Tests.{lt-ltb}
 use Rattle.sums.specs.Counting.{when, sum}
 use Rattle.sums.specs.Sums.{sum-some, when-some, when-so}
 use Rattle.sums.specs.Totals.{total-cong}
-use Rattle.sums.specs.Tests.{so, and-left, and-right, and-both, both-ways, every, every-at, or-by}
-use Rattle.model.specs.Job.{Job, Side, isPin, isChosen, isMissing}
-use Rattle.model.specs.Links.{north, east, south, west, PlaceKind, pin, missing, centre, outside, nowhere, side, Place, at, theOutside, isPlace, isEntered, isPinKind, places, pinAt, placeCode, Link, sameLink, Step, head}
-use Rattle.model.specs.Loads.{Sound}
+use Rattle.sums.specs.Tests.{so, and-left, and-right, and-both, both-ways, every, every-at}
+use Rattle.model.specs.Job.{Job, Side, isPin, isOpen, isChosen, isMissing}
+use Rattle.model.specs.Links.{Compass, north, east, south, west, compassCode, PlaceKind, pin, missing, centre, side, Place, at, theOutside, isPlace, isEntered, isPinKind, places, pinAt, placeCode, Link, sameLink, Step, head, turn}
+use Rattle.model.specs.Near.{exit, exitOf}
+use Rattle.model.specs.Record.{jobOf, load, Legal}
 use Rattle.model.specs.Wires.{Hop, hopAt, isWired}
-use Rattle.model.specs.Left.{hopPasses, hopsMost, hopCount, wireUses, leftLoads, meets, avoids, tilePlaces, markLeft, closeLeft, hasLane, linkOf, laidLeft}
+use Rattle.model.specs.Left.{hopPasses, hopsMost, hopCount, wireUses, leftLoads, meets, avoids, tilePlaces, hasLane, linkOf, laidLeft}
 use Rattle.model.proofs.Listed.{may-enters}
 use Rattle.channel.specs.Map.{stepOf}
+use Rattle.channel.specs.Map.Places.{chosen-cell}
+use Rattle.pairing.specs.Sequence.{blank}
 use Rattle.wire.specs.Around.{step-lands}
 use Rattle.wire.specs.Next.{hop-may}
 use Rattle.wire.specs.Threads.{wired-chosen}
 use Rattle.wire.specs.Apart.{wire-loaded}
 use Rattle.keep.specs.Edits.{Meets, starts, comes}
 use Rattle.keep.specs.Staying.{sum-has, meets-is, hop-below}
-use Rattle.takeout.specs.Struck.{struckKind, struck, struckWire, takenBy}
+use Rattle.takeout.specs.Lanes.{link-ways, link-way, link-turned}
+use Rattle.takeout.specs.Marks.{isMarked, Has, Adds, OnLanes, ComesTo, mark-same, mark-or, mark-kept}
 
 -- only the wired pins matter
-pub left-cong : (J : Job) (f : Step → ℕ) (a b : ℕ → ℕ → Bool) → ((q d : ℕ) → T (isWired J f q d) → a q d ≡ b q d) → leftLoads J f a ≡ leftLoads J f b
+left-cong : (J : Job) (f : Step → ℕ) (a b : ℕ → ℕ → Bool) → ((q d : ℕ) → T (isWired J f q d) → a q d ≡ b q d) → leftLoads J f a ≡ leftLoads J f b
 unfolding leftLoads
 left-cong J f a b h = fun-ext (λ s. total-cong (places J) _ _ (λ x. one s x))
   where
@@ -54,110 +60,106 @@ so-so : (b : Bool) → T b → T (not b) → ⊥
 so-so true t n = n
 so-so false t n = t
 
-module _ (J : Job) (f : Step → ℕ) (S : Sound J f) where
-  -- a test of wires that says whether they meet one of the places
-  met-avoids : (xs : List Place) (q d : ℕ) → T (isWired J f q d) → (b : Bool) → (T b → (x : Place) × List·Memᴰ x xs × Meets J f q d x)
-      → ((x : Place) → List·Memᴰ x xs → Meets J f q d x → T b) → not b ≡ avoids J f xs q d
+-- the pins marked are those whose wires meet one of the places
+pub record Marks (was taken : List ℕ) (xs : List Place) : Type 0 where
+  pub met : (q d : ℕ) → T (isWired (jobOf was) (load was) q d) → T (isMarked taken q d) → (x : Place) × List·Memᴰ x xs × Meets (jobOf was) (load was) q d x
+  pub marked : (q d : ℕ) → T (isWired (jobOf was) (load was) q d) → (x : Place) → List·Memᴰ x xs → Meets (jobOf was) (load was) q d x → T (isMarked taken q d)
+
+-- b is a with marks at the pins of the wires that come to the place of which u is the exit
+abbrev pub AddsAt : List ℕ → ℕ → List ℕ → List ℕ → Type 0
+AddsAt was u a b = (x : Place) → T (isPlace (jobOf was) x) → exit x ≡ u → Adds was (ComesTo (jobOf was) x) a b
+
+-- no pin is marked
+blank-unmarked : {A : Type 0} (n q d : ℕ) → T (isMarked (replicate n 0) q d) → A
+blank-unmarked n q d t = absurd (omega (arith, eqb→eq (getD (replicate n 0) (40 * q + d) 0) 1 t, blank n (40 * q + d)))
+
+module _ (was : List ℕ) (g : Legal was) where
+  abbrev J : Job
+  J = jobOf was
+
+  abbrev f : Step → ℕ
+  f = load was
+
+  -- ---- place after place
+
+  pub marks-none : (n : ℕ) → Marks was (replicate n 0) []
+  marks-none n = record { met = λ q d w t. blank-unmarked n q d t; marked = λ q d w x m k. absurd (List·Memᴰ·not-nil m) }
+
+  -- a place more, where the marks added are those of the wires that meet it
+  marks-more : (x : Place) (xs : List Place) (a b : List ℕ) → ((q d : ℕ) → T (isMarked a q d) → T (isMarked b q d))
+      → ((q d : ℕ) → T (isWired J f q d) → Meets J f q d x → T (isMarked b q d))
+      → ((q d : ℕ) → T (isWired J f q d) → T (isMarked b q d) → T (isMarked a q d) ⊎ Meets J f q d x) → Marks was a xs → Marks was b (x ∷ xs)
+  marks-more x xs a b kept found only M = record { met = λ q d w t. met q d w (only q d w t); marked = λ q d w y m k. marked q d w y m k }
+    where
+      met : (q d : ℕ) → T (isWired J f q d) → T (isMarked a q d) ⊎ Meets J f q d x → (y : Place) × List·Memᴰ y (x ∷ xs) × Meets J f q d y
+      met q d w (inl t) = let (y, m, k) = M .met q d w t in (y, List·Memᴰ·tail m, k)
+      met q d w (inr k) = (x, List·Memᴰ·head refl, k)
+
+      marked : (q d : ℕ) → T (isWired J f q d) → (y : Place) → List·Memᴰ y (x ∷ xs) → Meets J f q d y → T (isMarked b q d)
+      marked q d w y (List·Memᴰ·head e) k = found q d w (subst (Meets J f q d) e k)
+      marked q d w y (List·Memᴰ·tail m) k = kept q d (M .marked q d w y m k)
+
+  -- a place that wires enter, with the marks of those that come there
+  pub marks-place : (x : Place) (xs : List Place) (a b : List ℕ) → T (isEntered J x) → Adds was (ComesTo J x) a b → Marks was a xs → Marks was b (x ∷ xs)
+  marks-place x xs a b t A = marks-more x xs a b (A .kept) (λ q d w k. found q d w k) (λ q d w k. only q d (A .only q d w k))
+    where
+      found : (q d : ℕ) → T (isWired J f q d) → Meets J f q d x → T (isMarked b q d)
+      found q d w (starts e) = absurd (subst (λ (y : Place). T (isEntered J y)) (sym e) t)
+      found q d w (comes n h e k) = A .found q d w (n, h, e, k)
+
+      only : (q d : ℕ) → T (isMarked a q d) ⊎ Has J f (ComesTo J x) q d → T (isMarked a q d) ⊎ Meets J f q d x
+      only q d (inl m) = inl m
+      only q d (inr (n, h, e, k)) = inr (comes n h e k)
+
+  -- no wire comes to a pin that is chosen
+  unentered : {A : Type 0} (q d n r c : ℕ) (h : Hop) → T (isWired J f q d) → hopAt J f q d n ≡ some h → head J (h .step) ≡ at pin r c → A
+  unentered q d n r c h w e k =
+      absurd (subst (λ (y : Place). T (isEntered J y)) k (may-enters J (h .step) (hop-may J f (g .sound .feasible) h (wire-loaded J f (g .sound) q d n h w e))))
+
+  pub marks-pin : (r c x : ℕ) (xs : List Place) (a : List ℕ) → x ≡ 40 * r + c → c < 40 → x < length a → Marks was a xs → Marks was (set a x 1) (at pin r c ∷ xs)
+  marks-pin r c x xs a z b l = marks-more (at pin r c) xs a (set a x 1) (λ q d t. mark-kept a x q d l t) (λ q d w k. found q d w k) (λ q d w t. only q d w (mark-or a x q d t))
+    where
+      found : (q d : ℕ) → T (isWired J f q d) → Meets J f q d (at pin r c) → T (isMarked (set a x 1) q d)
+      found q d w (starts e) = mark-same a x q d l (omega (arith, z, ap (λ (y : Place). y .row) e, ap (λ (y : Place). y .column) e))
+      found q d w (comes n h e k) = unentered q d n r c h w e k
+
+      only : (q d : ℕ) → T (isWired J f q d) → T (isMarked a q d) ⊎ (x ≡ 40 * q + d) → T (isMarked a q d) ⊎ Meets J f q d (at pin r c)
+      only q d w (inl t) = inl t
+      only q d w (inr e) =
+          let m : d < 40 = chosen-cell J (g .values .array) q d (wired-chosen J f q d w) .1 in
+          let u : q ≡ r = omega arith in
+          let v : d ≡ c = omega arith in
+          inr (starts (λ i. at pin (u i) (v i)))
+
+  -- what is no place meets no wire
+  pub marks-nowhere : (x : Place) (xs : List Place) (a : List ℕ) → placeCode (x .kind) ≢ 3 → (T (isPlace J x) → ⊥) → Marks was a xs → Marks was a (x ∷ xs)
+  marks-nowhere x xs a o n = marks-more x xs a a (λ q d t. t) (λ q d w k. absurd (unmet q d w k)) (λ q d w t. inl t)
+    where
+      unmet : (q d : ℕ) → T (isWired J f q d) → Meets J f q d x → ⊥
+      unmet q d w (starts e) = n (subst (λ (y : Place). T (isPlace J y)) e (wired-chosen J f q d w))
+      unmet q d w (comes m h e k) = by (step-lands J (h .step) (hop-may J f (g .sound .feasible) h (wire-loaded J f (g .sound) q d m h w e)))
+        where
+          by : (head J (h .step) ≡ theOutside) ⊎ T (isPlace J (head J (h .step))) → ⊥
+          by (inl z) = o (ap (λ (y : Place). placeCode (y .kind)) (sym k ∙ z))
+          by (inr p) = n (subst (λ (y : Place). T (isPlace J y)) k p)
+
+  -- what is left of the wires where those marked are taken out
+  pub left-avoids : (xs : List Place) (taken : List ℕ) → Marks was taken xs → leftLoads J f (λ q d. not (isMarked taken q d)) ≡ leftLoads J f (avoids J f xs)
   unfolding avoids
-  met-avoids xs q d w b there back = both-ways (not b) (every xs (λ x. not (meets J f x q d))) to of
+  left-avoids xs taken M = left-cong J f (λ q d. not (isMarked taken q d)) (avoids J f xs) (λ q d w. both-ways (not (isMarked taken q d)) (every xs (λ x. not (meets J f x q d))) (to q d w) (of q d w))
     where
-      to : T (not b) → T (every xs (λ x. not (meets J f x q d)))
-      to n = every-of xs (λ x. not (meets J f x q d)) (λ x m. not-so (meets J f x q d) (λ t. so-so b (back x m (meets-is J f S x q d w .0 t)) n))
+      to : (q d : ℕ) → T (isWired J f q d) → T (not (isMarked taken q d)) → T (every xs (λ x. not (meets J f x q d)))
+      to q d w n =
+          every-of xs (λ x. not (meets J f x q d))
+          (λ x m. not-so (meets J f x q d) (λ t. so-so (isMarked taken q d) (M .marked q d w x m (meets-is J f (g .sound) x q d w .0 t)) n))
 
-      of : T (every xs (λ x. not (meets J f x q d))) → T (not b)
-      of e =
-          not-so b
-          (λ t. let (x, m, k) = there t in
-          so-so (meets J f x q d) (meets-is J f S x q d w .1 k) (every-at xs (λ x. not (meets J f x q d)) e m))
-
-  -- a wire that is struck comes to a struck place, and the other way round
-  module _ (tile : Bool) (r c q d : ℕ) where
-    abbrev g : ℕ → ℕ
-    g n = when (hopPasses (λ h. struck tile r c (head J (h .step))) (hopAt J f q d n)) 1
-
-    struck-comes : T (struckWire false tile r c J f q d) → (x : Place) × T (struck tile r c x) × (n : ℕ) × (h : Hop) × (hopAt J f q d n ≡ some h) × (head J (h .step) ≡ x)
-    unfolding hopCount
-    struck-comes t =
-        let (n, l, k) = sum-some (hopsMost J f) g (ltb→lt 0 (sum (hopsMost J f) g) t) in
-        by n (hopAt J f q d n) refl (when-some (hopPasses (λ h. struck tile r c (head J (h .step))) (hopAt J f q d n)) 1 k .0)
-      where
-        by : (n : ℕ) (o : Option Hop) → hopAt J f q d n ≡ o → T (hopPasses (λ h. struck tile r c (head J (h .step))) o)
-            → (x : Place) × T (struck tile r c x) × (n : ℕ) × (h : Hop) × (hopAt J f q d n ≡ some h) × (head J (h .step) ≡ x)
-        by n none e t = absurd t
-        by n (some h) e t = (head J (h .step), t, n, h, e, refl)
-
-    comes-struck : T (isWired J f q d) → (n : ℕ) (h : Hop) → hopAt J f q d n ≡ some h → T (struck tile r c (head J (h .step))) → T (struckWire false tile r c J f q d)
-    unfolding hopCount
-    comes-struck w n h e t =
-        so (lt-ltb 0 (sum (hopsMost J f) g)
-        (omega (
-          arith,
-          sum-has (hopsMost J f) n g (hop-below J f S q d n h w e),
-          when-so (hopPasses (λ h. struck tile r c (head J (h .step))) (hopAt J f q d n)) 1 (subst (λ (o : Option Hop). T (hopPasses (λ h. struck tile r c (head J (h .step))) o)) (sym e) t),
-        )))
-
-  -- what a struck place is
-  struck-at : (tile : Bool) (r c : ℕ) (x : Place) → T (struck tile r c x) → (x ≡ at (x .kind) r c) × T (struckKind tile (x .kind))
-  struck-at tile r c x t =
-      let u : T (eqb (x .column) c && struckKind tile (x .kind)) = and-right (eqb (x .row) r) (eqb (x .column) c && struckKind tile (x .kind)) t in
-      let a : x .row ≡ r = eqb→eq (x .row) r (and-left (eqb (x .row) r) (eqb (x .column) c && struckKind tile (x .kind)) t) in
-      let b : x .column ≡ c = eqb→eq (x .column) c (and-left (eqb (x .column) c) (struckKind tile (x .kind)) u) in
-      (λ i. record { kind = x .kind; row = a i; column = b i }, and-right (eqb (x .column) c) (struckKind tile (x .kind)) u)
-
-  kind-struck : (tile : Bool) (r c : ℕ) (k : PlaceKind) → T (struckKind tile k) → T (struck tile r c (at k r c))
-  kind-struck tile r c k t = and-both (eqb r r) (eqb c c && struckKind tile k) (eqb-refl r) (and-both (eqb c c) (struckKind tile k) (eqb-refl c) t)
-
-  -- ---- a tile
-
-  in-tile : (r c : ℕ) (k : PlaceKind) → T (struckKind true k) → List·Memᴰ (at k r c) (tilePlaces r c)
-  in-tile r c pin t = absurd t
-  in-tile r c missing t = absurd t
-  in-tile r c centre t = List·Memᴰ·tail (List·Memᴰ·tail (List·Memᴰ·tail (List·Memᴰ·tail (List·Memᴰ·head refl))))
-  in-tile r c outside t = absurd t
-  in-tile r c nowhere t = absurd t
-  in-tile r c (side north) t = List·Memᴰ·head refl
-  in-tile r c (side east) t = List·Memᴰ·tail (List·Memᴰ·head refl)
-  in-tile r c (side south) t = List·Memᴰ·tail (List·Memᴰ·tail (List·Memᴰ·head refl))
-  in-tile r c (side west) t = List·Memᴰ·tail (List·Memᴰ·tail (List·Memᴰ·tail (List·Memᴰ·head refl)))
-
-  tile-struck : (r c : ℕ) → T (every (tilePlaces r c) (struck true r c))
-  unfolding every
-  tile-struck r c =
-      and-both (struck true r c (at (side north) r c)) _ (kind-struck true r c (side north) tt)
-      (and-both (struck true r c (at (side east) r c)) _ (kind-struck true r c (side east) tt)
-      (and-both (struck true r c (at (side south) r c)) _ (kind-struck true r c (side south) tt)
-      (and-both (struck true r c (at (side west) r c)) _ (kind-struck true r c (side west) tt)
-      (and-both (struck true r c (at centre r c)) true (kind-struck true r c centre tt) tt))))
-
-  pub close-taken : (r c q d : ℕ) → T (isWired J f q d) → not (takenBy false true r c J f q d) ≡ avoids J f (tilePlaces r c) q d
-  close-taken r c q d w = met-avoids (tilePlaces r c) q d w (struckWire false true r c J f q d) there back
-    where
-      there : T (struckWire false true r c J f q d) → (x : Place) × List·Memᴰ x (tilePlaces r c) × Meets J f q d x
-      there t =
-          let (x, s, n, h, e, k) = struck-comes true r c q d t in
-          let (p, u) = struck-at true r c x s in
-          (x, subst (λ (y : Place). List·Memᴰ y (tilePlaces r c)) (sym p) (in-tile r c (x .kind) u), comes n h e k)
-
-      back : (x : Place) → List·Memᴰ x (tilePlaces r c) → Meets J f q d x → T (struckWire false true r c J f q d)
-      back x m (starts e) =
-          absurd (struck-at true r c (at pin q d) (subst (λ (y : Place). T (struck true r c y)) (sym e) (every-at (tilePlaces r c) (struck true r c) (tile-struck r c) m)) .1)
-      back x m (comes n h e k) =
-          comes-struck true r c q d w n h e (subst (λ (y : Place). T (struck true r c y)) (sym k) (every-at (tilePlaces r c) (struck true r c) (tile-struck r c) m))
-
-  -- what an edit of a tile leaves
-  pub close-left : (r c : ℕ) → leftLoads J f (λ q d. not (takenBy false true r c J f q d)) ≡ closeLeft J f r c
-  unfolding closeLeft
-  close-left r c = left-cong J f (λ q d. not (takenBy false true r c J f q d)) (avoids J f (tilePlaces r c)) (close-taken r c)
+      of : (q d : ℕ) → T (isWired J f q d) → T (every xs (λ x. not (meets J f x q d))) → T (not (isMarked taken q d))
+      of q d w e =
+          not-so (isMarked taken q d)
+          (λ t. let (x, m, k) = M .met q d w t in
+          so-so (meets J f x q d) (meets-is J f (g .sound) x q d w .1 k) (every-at xs (λ x. not (meets J f x q d)) e m))
 
   -- ---- a pin
-
-  missing-kind : (k : PlaceKind) → T (struckKind false k) → k ≡ missing
-  missing-kind pin t = absurd t
-  missing-kind missing t = refl
-  missing-kind centre t = absurd t
-  missing-kind outside t = absurd t
-  missing-kind nowhere t = absurd t
-  missing-kind (side d) t = absurd t
 
   -- the pin's place, by its mark
   abbrev placeBy : ℕ → ℕ → ℕ → Place
@@ -171,67 +173,101 @@ module _ (J : Job) (f : Step → ℕ) (S : Sound J f) where
   unfolding isChosen
   chosen-at r c t = ap (placeBy r c) (eqb→eq (J .mark r c) 1 (and-right (isPin J r c) (eqb (J .mark r c) 1) t))
 
-  pub mark-taken : (r c q d : ℕ) → T (isWired J f q d) → not (takenBy false false r c J f q d) ≡ avoids J f (pinAt J r c ∷ []) q d
-  mark-taken r c q d w = met-avoids (pinAt J r c ∷ []) q d w (takenBy false false r c J f q d) there back
+  module _ (r c : ℕ) (xs : List Place) (a b : List ℕ) (M : Marks was a xs) where
+    pub pin-chosen : (x : ℕ) → isChosen J r c ≡ true → x ≡ 40 * r + c → c < 40 → x < length a → b ≡ set a x 1 → Marks was b (pinAt J r c ∷ xs)
+    pin-chosen x t z m l e =
+        subst (λ (y : Place). Marks was b (y ∷ xs)) (sym (chosen-at r c (so t))) (subst (λ (k : List ℕ). Marks was k (at pin r c ∷ xs)) (sym e) (marks-pin r c x xs a z m l M))
+
+    pub pin-missing : (u : ℕ) → isMissing J r c ≡ true → u ≡ exit (at pin r c) → AddsAt was u a b → Marks was b (pinAt J r c ∷ xs)
+    unfolding exitOf
+    pin-missing u t e A =
+        subst (λ (y : Place). Marks was b (y ∷ xs)) (sym (missing-at r c (so t))) (marks-place (at missing r c) xs a b (so t) (A (at missing r c) (so t) (sym e)) M)
+
+  -- neither
+  pub pin-idle : (r c : ℕ) (xs : List Place) (a : List ℕ) → isChosen J r c ≡ false → isMissing J r c ≡ false → Marks was a xs → Marks was a (pinAt J r c ∷ xs)
+  pin-idle r c xs a t k M = by (eqb (J .mark r c) 2)
     where
-      Found : Type 0
-      Found = (x : Place) × List·Memᴰ x (pinAt J r c ∷ []) × Meets J f q d x
+      by : (b : Bool) → Marks was a (elim b as (λ _. Place) [ true ↦ at missing r c | false ↦ at pin r c ] ∷ xs)
+      by true = marks-nowhere (at missing r c) xs a (λ e. omega arith) (λ p. subst T k p) M
+      by false = marks-nowhere (at pin r c) xs a (λ e. omega arith) (λ p. subst T t p) M
 
-      at-pin : T (eqb q r && eqb d c) → Found
-      at-pin t =
-          let a : q ≡ r = eqb→eq q r (and-left (eqb q r) (eqb d c) t) in
-          let b : d ≡ c = eqb→eq d c (and-right (eqb q r) (eqb d c) t) in
-          let e : at pin q d ≡ at pin r c = λ i. at pin (a i) (b i) in
-          let k : T (isChosen J r c) = subst (λ (x : Place). T (isChosen J (x .row) (x .column))) e (wired-chosen J f q d w) in
-          (pinAt J r c, List·Memᴰ·head refl, starts (e ∙ sym (chosen-at r c k)))
+  -- ---- a tile
 
-      at-missing : T (struckWire false false r c J f q d) → Found
-      at-missing t =
-          let (x, s, n, h, e, k) = struck-comes false r c q d t in
-          let (p, u) = struck-at false r c x s in
-          let m : x ≡ at missing r c = p ∙ ap (λ (z : PlaceKind). at z r c) (missing-kind (x .kind) u) in
-          by n h e (k ∙ m) (step-lands J (h .step) (hop-may J f (S .feasible) h (wire-loaded J f S q d n h w e)))
-        where
-          by : (n : ℕ) (h : Hop) → hopAt J f q d n ≡ some h → head J (h .step) ≡ at missing r c → (head J (h .step) ≡ theOutside) ⊎ T (isPlace J (head J (h .step))) → Found
-          by n h e k (inl o) = absurd (omega (arith, ap (λ (y : Place). placeCode (y .kind)) (sym k ∙ o)))
-          by n h e k (inr p) =
-              (pinAt J r c, List·Memᴰ·head refl, comes n h e (k ∙ sym (missing-at r c (subst (λ (y : Place). T (isPlace J y)) k p))))
+  module _ (r c : ℕ) where
+    pub tile-closed : (a : List ℕ) → isOpen J r c ≡ false → Marks was a [] → Marks was a (tilePlaces r c)
+    tile-closed a e M =
+        place (side north) (λ p. p) (λ z. omega arith) _ (place (side east) (λ p. p) (λ z. omega arith) _
+        (place (side south) (λ p. p) (λ z. omega arith) _ (place (side west) (λ p. p) (λ z. omega arith) _ (place centre (λ p. p) (λ z. omega arith) [] M))))
+      where
+        place : (k : PlaceKind) → (T (isPlace J (at k r c)) → T (isOpen J r c)) → placeCode k ≢ 3 → (xs : List Place) → Marks was a xs → Marks was a (at k r c ∷ xs)
+        place k held o xs = marks-nowhere (at k r c) xs a o (λ p. subst T e (held p))
 
-      there : T (takenBy false false r c J f q d) → Found
-      there = or-by (eqb q r && eqb d c) (struckWire false false r c J f q d) at-pin at-missing
+    -- one place after the other, by the exits
+    pub tile-open : (m n s e w z : List ℕ) → isOpen J r c ≡ true → AddsAt was (8 * (41 + 40 * r + c) + 7) m w → AddsAt was (8 * (41 + 40 * r + c) + 5) w s
+        → AddsAt was (8 * (41 + 40 * r + c) + 4) s e → AddsAt was (8 * (41 + 40 * r + c) + 3) e n → AddsAt was (8 * (41 + 40 * r + c) + 2) n z → Marks was m []
+        → Marks was z (tilePlaces r c)
+    unfolding exitOf
+    tile-open m n s e w z t C W S E N M =
+        place north n z N (place east e n E (place south s e S (place west w s W
+        (marks-place (at centre r c) [] m w (so t) (C (at centre r c) (so t) (omega arith)) M))))
+      where
+        place : (d : Compass) (a b : List ℕ) {xs : List Place} → AddsAt was (8 * (41 + 40 * r + c) + (2 + compassCode d)) a b → Marks was a xs → Marks was b (at (side d) r c ∷ xs)
+        place d a b {xs} A = marks-place (at (side d) r c) xs a b (so t) (A (at (side d) r c) (so t) refl)
 
-      or-left : (a b : Bool) → T a → T (a || b)
-      or-left true b t = tt
-      or-left false b t = absurd t
+  -- ---- a side
 
-      or-right : (a b : Bool) → T b → T (a || b)
-      or-right true b t = tt
-      or-right false b t = t
+  -- a and b mark the lanes from the k-th on of the two darts of the side's link
+  module _ (s : Side) (n d e k m : ℕ) (a b : List ℕ) (link : stepOf d .link ≡ linkOf s) (back : stepOf e ≡ turn (stepOf d)) (limit : k ≡ J .O - n)
+      (A : Adds was (OnLanes d k) (replicate m 0) a) (B : Adds was (OnLanes e k) a b) where
+    abbrev high : Hop → Bool
+    high h = sameLink (stepOf d .link) (h .step .link) && leb k (h .lane)
 
-      -- the place of the pin is met, by its mark
-      met : (b : Bool) → eqb (J .mark r c) 2 ≡ b → Meets J f q d (elim b as (λ _. Place) [ true ↦ at missing r c | false ↦ at pin r c ]) → T (takenBy false false r c J f q d)
-      met true e (starts k) = absurd (omega (arith, ap (λ (y : Place). placeCode (y .kind)) k))
-      met true e (comes n h l k) =
-          or-right (eqb q r && eqb d c) (struckWire false false r c J f q d)
-          (comes-struck false r c q d w n h l (subst (λ (y : Place). T (struck false r c y)) (sym k) (kind-struck false r c missing tt)))
-      met false e (starts k) =
-          or-left (eqb q r && eqb d c) (struckWire false false r c J f q d)
-          (subst (λ (y : Place). T (eqb (y .row) r && eqb (y .column) c)) (sym k) (and-both (eqb r r) (eqb c c) (eqb-refl r) (eqb-refl c)))
-      met false e (comes n h l k) =
-          absurd (subst (λ (y : Place). T (isEntered J y)) k (may-enters J (h .step) (hop-may J f (S .feasible) h (wire-loaded J f S q d n h w l))))
+    abbrev hits : ℕ → ℕ → ℕ → ℕ
+    hits q p i = when (hopPasses high (hopAt J f q p i)) 1
 
-      back : (x : Place) → List·Memᴰ x (pinAt J r c ∷ []) → Meets J f q d x → T (takenBy false false r c J f q d)
-      back x (List·Memᴰ·head e) k = met (eqb (J .mark r c) 2) refl (subst (λ (y : Place). Meets J f q d y) e k)
-      back x (List·Memᴰ·tail m) k = absurd (List·Memᴰ·not-nil m)
+    has-high : (q p : ℕ) → T (ltb 0 (sum (hopsMost J f) (hits q p))) → Has J f (λ h. T (high h)) q p
+    has-high q p t =
+        let (i, l, z) = sum-some (hopsMost J f) (hits q p) (ltb→lt 0 (sum (hopsMost J f) (hits q p)) t) in
+        by i (hopAt J f q p i) refl (when-some (hopPasses high (hopAt J f q p i)) 1 z .0)
+      where
+        by : (i : ℕ) (o : Option Hop) → hopAt J f q p i ≡ o → T (hopPasses high o) → Has J f (λ h. T (high h)) q p
+        by i none z t = absurd t
+        by i (some h) z t = (i, h, z, t)
 
-  -- what an edit of a pin leaves
-  pub mark-left : (r c : ℕ) → leftLoads J f (λ q d. not (takenBy false false r c J f q d)) ≡ markLeft J f r c
-  unfolding markLeft
-  mark-left r c = left-cong J f (λ q d. not (takenBy false false r c J f q d)) (avoids J f (pinAt J r c ∷ [])) (mark-taken r c)
+    high-has : (q p : ℕ) → T (isWired J f q p) → Has J f (λ h. T (high h)) q p → T (ltb 0 (sum (hopsMost J f) (hits q p)))
+    high-has q p w (i, h, z, t) =
+        so (lt-ltb 0 (sum (hopsMost J f) (hits q p))
+        (omega (
+          arith,
+          sum-has (hopsMost J f) i (hits q p) (hop-below J f (g .sound) q p i h w z),
+          when-so (hopPasses high (hopAt J f q p i)) 1 (subst (λ (o : Option Hop). T (hopPasses high o)) (sym z) t),
+        )))
 
-  -- what an edit of a side's count leaves
-  pub laid-left : (s : Side) (n a k : ℕ) → stepOf a .link ≡ linkOf s → k ≡ J .O - n
-      → leftLoads J f (λ q d. not (takenBy true false a k J f q d)) ≡ laidLeft J f s n
-  unfolding laidLeft hasLane
-  laid-left s n a k e q =
-      ap₂ (λ (l : Link) (m : ℕ). leftLoads J f (λ q d. not (ltb 0 (hopCount J f (λ h. sameLink l (h .step .link) && leb m (h .lane)) q d)))) e q
+    to : (q p : ℕ) → T (isWired J f q p) → T (isMarked b q p) → Has J f (λ h. T (high h)) q p
+    to q p w t = second (B .only q p w t)
+      where
+        first : T (isMarked (replicate m 0) q p) ⊎ Has J f (OnLanes d k) q p → Has J f (λ h. T (high h)) q p
+        first (inl u) = blank-unmarked m q p u
+        first (inr (i, h, z, (u, v))) = (i, h, z, and-both (sameLink (stepOf d .link) (h .step .link)) (leb k (h .lane)) (link-way (stepOf d) (h .step) u) (le→leb k (h .lane) v))
+
+        second : T (isMarked a q p) ⊎ Has J f (OnLanes e k) q p → Has J f (λ h. T (high h)) q p
+        second (inl u) = first (A .only q p w u)
+        second (inr (i, h, z, (u, v))) =
+            (i, h, z, and-both (sameLink (stepOf d .link) (h .step .link)) (leb k (h .lane)) (link-turned (stepOf d) (h .step) (u ∙ back)) (le→leb k (h .lane) v))
+
+    of : (q p : ℕ) → T (isWired J f q p) → Has J f (λ h. T (high h)) q p → T (isMarked b q p)
+    of q p w (i, h, z, t) = by (link-ways (stepOf d) (h .step) (and-left (sameLink (stepOf d .link) (h .step .link)) (leb k (h .lane)) t))
+      where
+        v : k ≤ h .lane
+        v = leb→le k (h .lane) (and-right (sameLink (stepOf d .link) (h .step .link)) (leb k (h .lane)) t)
+
+        by : (h .step ≡ stepOf d) ⊎ (h .step ≡ turn (stepOf d)) → T (isMarked b q p)
+        by (inl u) = B .kept q p (A .found q p w (i, h, z, (u, v)))
+        by (inr u) = B .found q p w (i, h, z, (u ∙ sym back, v))
+
+    pub lanes-left : leftLoads J f (λ q p. not (isMarked b q p)) ≡ laidLeft J f s n
+    unfolding laidLeft hasLane hopCount
+    lanes-left =
+        left-cong J f (λ q p. not (isMarked b q p)) (λ q p. not (ltb 0 (sum (hopsMost J f) (hits q p))))
+        (λ q p w. ap not (both-ways (isMarked b q p) (ltb 0 (sum (hopsMost J f) (hits q p))) (λ t. high-has q p w (to q p w t)) (λ t. of q p w (has-high q p t))))
+        ∙ ap₂ (λ (l : Link) (o : ℕ). leftLoads J f (λ q p. not (ltb 0 (sum (hopsMost J f) (λ i. when (hopPasses (λ h. sameLink l (h .step .link) && leb o (h .lane)) (hopAt J f q p i)) 1))))) link limit

@@ -1,32 +1,40 @@
-// A wire taken out of a record. Callers lend the record as it was, audited, in which the wire is followed.
-ghost use Prim.Native.Nat.{_≤_, _<_};
+// Wires taken out of a record: the pins whose wires go are marked, a byte for each of the 1,600 cells, and their wires are taken out. Callers lend the record
+// as it was, audited, in which wires are followed, and a copy of it that changes.
+ghost use Prim.Native.Nat.{_/_, _%_, _≤_, _<_};
 ghost use mathlib.Core.Path.{_≡_};
-ghost use mathlib.Core.Bool.{not, _&&_};
-ghost use lib.Dec.{T, eqb, leb};
+ghost use mathlib.Core.List.{[], _∷_};
+ghost use lib.Dec.{T};
 ghost use lib.ListN.{length};
 ghost use Rattle.model.specs.Job.{isChosen, marked, closed, sideOf, laidBy};
-ghost use Rattle.model.specs.Links.{turn, sameLink};
+ghost use Rattle.model.specs.Links.{Place, isPlace, pinAt, turn};
+ghost use Rattle.model.specs.Near.{exit};
 ghost use Rattle.model.specs.Record.{jobOf, load, Legal, recordOf, over};
-ghost use Rattle.model.specs.Left.{leftLoads, markLeft, closeLeft, laidLeft};
-ghost use Rattle.channel.specs.Map.Entered.{kindAt};
+ghost use Rattle.model.specs.Left.{tilePlaces, markLeft, closeLeft, laidLeft};
 ghost use Rattle.channel.specs.Map.{stepOf, isLinkDart, dartOf, laid};
-ghost use Rattle.wire.specs.Hops.{hop, Runs, asPart};
-ghost use Rattle.takeout.specs.Struck.{struckKind, struckPart, struckHop, struckWire, Given, editedPin, takenBy};
 ghost use Rattle.takeout.specs.Taken.{TakesOut};
 ghost use Rattle.takeout.specs.LeftRecord.{SameRecord};
 ghost use Rattle.takeout.specs.AllTaken.{TakesIf};
+ghost use Rattle.takeout.specs.Marks.{isMarked, Adds, OnLanes, Against, ComesTo};
+ghost use Rattle.takeout.specs.Edited.{Marks};
+ghost use Rattle.takeout.specs.Stored.{Unwired};
+use crate::back::pin_of;
 use channel::is_chosen;
+use channel::is_missing;
+use channel::is_open;
 use channel::lay;
+use channel::load_along;
 use channel::orthogonal;
+use channel::places::pin_exit;
 use channel::places::step_back;
+use channel::places::wires_in;
 use channel::set_laid;
 use channel::set_mark;
 use channel::set_state;
 use wire::Hop;
-use wire::Part;
 use wire::first_hop;
 use wire::next_hop;
-use wire::part_for;
+
+pub mod back; // the pin of a wire, from any of its hops
 
 // One wire less along a dart: one move along its step back.
 fn lessen(rec: &mut [u8], dart: usize)
@@ -58,167 +66,99 @@ fn take_out(was: &[u8], rec: &mut [u8], row: usize, column: usize)
     }
 }
 
-// Whether a spot of the kind is one of a tile's places, or a missing pin.
-fn kind_struck(place: usize, tile: bool) -> bool
-    ensures { λ b. ⌜ b ≡ struckKind tile (kindAt place) ⌝ }
+// The wire of the pin of the i-th cell taken out, if it is marked.
+fn take_if(was: &[u8], rec: &mut [u8], taken: &[u8], i: usize)
+    requires { ⌜ Legal (now was) × (32768 ≤ length (now rec)) × (i < 1600) × (1600 ≤ length (now taken)) ⌝ }
+    ensures { λ _. ⌜ TakesIf (now (was .entry)) (isMarked (now (taken .entry))) (i / 40) (i % 40) (now (rec .entry)) (now (rec .exit)) ⌝ }
 {
-    if tile {
-        if place < 2 {
-            return false;
-        }
-        return place < 8;
-    }
-    place == 0
-}
-
-// Whether a place, by its row, its column and the kind of its spot, is one of the tile (r, c), or the missing pin there.
-fn place_struck(row: usize, column: usize, place: usize, r: usize, c: usize, tile: bool) -> bool
-    ensures { λ b. ⌜ b ≡ (eqb row r && (eqb column c && struckKind tile (kindAt place))) ⌝ }
-{
-    if row != r {
-        return false;
-    }
-    if column != c {
-        return false;
-    }
-    kind_struck(place, tile)
-}
-
-// Whether a part of a wire's list is such a place.
-fn part_struck(p: Part, r: usize, c: usize, tile: bool) -> bool
-    ensures { λ b. ⌜ b ≡ struckPart tile r c (asPart p) ⌝ }
-{
-    match p {
-        Part::To {
-            row,
-            column,
-            place,
-            lane,
-        } => place_struck(row, column, place, r, c, tile),
-        Part::Out { side, lane } => false,
-        Part::Unwired => false,
-        Part::PastTheEnd => false,
-    }
-}
-
-// Whether a hop has one of the lanes from `from` on of the link of the dart d, either way.
-fn lane_struck(dart: usize, lane: usize, d: usize, from: usize) -> bool
-    requires { ⌜ (d < 105024) × T (isLinkDart d) × (dart < 105024) × T (isLinkDart dart) ⌝ }
-    ensures { λ b. ⌜ b ≡ (sameLink (stepOf d .link) (stepOf dart .link) && leb from lane) ⌝ }
-{
-    if lane < from {
-        return false;
-    }
-    if dart == d {
-        return true;
-    }
-    dart == step_back(d)
-}
-
-// Whether a hop comes to the missing pin (a, b), or to a place of the tile there; or has one of the lanes from b on of the link of the dart a.
-fn hop_struck(
-    was: &[u8],
-    dart: usize,
-    lane: usize,
-    lanes: bool,
-    tile: bool,
-    a: usize,
-    b: usize,
-) -> bool
-    requires { ⌜ Legal (now was) × Runs (now was) dart lane × Given lanes a ⌝ }
-    ensures { λ x. ⌜ x ≡ struckHop lanes tile a b (jobOf (now (was .entry))) (hop dart lane) ⌝ }
-{
-    if lanes {
-        return lane_struck(dart, lane, a, b);
-    }
-    part_struck(part_for(was, dart, lane), a, b, tile)
-}
-
-// Whether some hop of the wire of a chosen pin does.
-fn struck(
-    was: &[u8],
-    row: usize,
-    column: usize,
-    lanes: bool,
-    tile: bool,
-    a: usize,
-    b: usize,
-) -> bool
-    requires { ⌜ Legal (now was) × T (isChosen (jobOf (now was)) row column) × Given lanes a ⌝ }
-    ensures { λ x. ⌜ x ≡ struckWire lanes tile a b (jobOf (now (was .entry))) (load (now (was .entry))) row column ⌝ }
-{
-    let Hop::On { dart, lane } = first_hop(was, row, column) else {
-        return false;
-    };
-    let mut d = dart;
-    let mut l = lane;
-    let mut n: usize = 0;
-    loop {
-        if hop_struck(was, d, l, lanes, tile, a, b) {
-            return true;
-        }
-        let Hop::On { dart: e, lane: m } = next_hop(was, d, l) else {
-            return false;
-        };
-        d = e;
-        l = m;
-        n += 1;
-    }
-}
-
-// Whether the pin (row, column) is the edited one.
-fn is_edited(row: usize, column: usize, r: usize, c: usize, tile: bool) -> bool
-    ensures { λ b. ⌜ b ≡ editedPin tile r c row column ⌝ }
-{
-    if tile {
-        return false;
-    }
-    if row != r {
-        return false;
-    }
-    column == c
-}
-
-// The wire of one pin taken out, if the edit takes it out.
-fn take_if(
-    was: &[u8],
-    rec: &mut [u8],
-    row: usize,
-    column: usize,
-    lanes: bool,
-    tile: bool,
-    a: usize,
-    b: usize,
-)
-    requires { ⌜ Legal (now was) × (32768 ≤ length (now rec)) × Given lanes a ⌝ }
-    ensures { λ _. ⌜ TakesIf (now (was .entry)) (takenBy lanes tile a b (jobOf (now (was .entry))) (load (now (was .entry)))) row column
-        (now (rec .entry)) (now (rec .exit)) ⌝ }
-{
-    if !is_chosen(was, row, column) {
+    if taken[i] != 1 {
         return;
     }
-    if is_edited(row, column, a, b, lanes | tile) {
-        take_out(was, rec, row, column);
+    if !is_chosen(was, i / 40, i % 40) {
         return;
     }
-    if !struck(was, row, column, lanes, tile, a, b) {
-        return;
-    }
-    take_out(was, rec, row, column);
+    take_out(was, rec, i / 40, i % 40);
 }
 
-// What an edit takes out of `rec`: every wire that starts at the pin (a, b), passes it, comes to a place of the tile (a, b), or has one of the lanes from b on
-// of the link of the dart a. `was` is a copy of the record. The other wires stay.
-fn take_edited(was: &[u8], rec: &mut [u8], lanes: bool, tile: bool, a: usize, b: usize)
-    requires { ⌜ Legal (now was) × (32768 ≤ length (now rec)) × SameRecord (now was) (now rec) × Given lanes a ⌝ }
-    ensures { λ _. ⌜ now (rec .exit) ≡ over (recordOf (jobOf (now (was .entry))) (leftLoads (jobOf (now (was .entry))) (load (now (was .entry)))
-        (λ q d. not (takenBy lanes tile a b (jobOf (now (was .entry))) (load (now (was .entry))) q d)))) (now (rec .entry)) ⌝ }
+// The wires of all pins that are marked taken out of `rec`, a copy of the record. The others stay.
+pub fn take_marked(was: &[u8], rec: &mut [u8], taken: &[u8])
+    requires { ⌜ Legal (now was) × (32768 ≤ length (now rec)) × SameRecord (now was) (now rec) × (1600 ≤ length (now taken)) ⌝ }
+    ensures { λ _. ⌜ Unwired (now (was .entry)) (now (taken .entry)) (now (rec .entry)) (now (rec .exit)) ⌝ }
 {
     let mut i: usize = 0;
     while i < 1600 {
-        take_if(was, rec, i / 40, i % 40, lanes, tile, a, b);
+        take_if(was, rec, taken, i);
         i += 1;
     }
+}
+
+// Marks the pins of the wires on the lanes of a dart from `from` on.
+fn mark_lanes(was: &[u8], taken: &mut [u8], dart: usize, from: usize)
+    requires { ⌜ Legal (now was) × (1600 ≤ length (now taken)) × (dart < 105024) × T (isLinkDart dart) ⌝ }
+    ensures { λ _. ⌜ Adds (now (was .entry)) (OnLanes dart from) (now (taken .entry)) (now (taken .exit)) ⌝ }
+{
+    let n = load_along(was, dart);
+    let mut i = from;
+    while i < n {
+        let x = pin_of(was, dart, i);
+        taken[x] = 1;
+        i += 1;
+    }
+}
+
+// Marks the pins of the wires that come along the link of a dart, against it.
+fn mark_slot(was: &[u8], taken: &mut [u8], dart: usize)
+    requires { ⌜ Legal (now was) × (1600 ≤ length (now taken)) × (dart < 105024) ⌝ }
+    ensures { λ _. ⌜ Adds (now (was .entry)) (Against dart) (now (taken .entry)) (now (taken .exit)) ⌝ }
+{
+    if wires_in(was, dart) == 0 {
+        return;
+    }
+    mark_lanes(was, taken, step_back(dart), 0);
+}
+
+// Marks the pins of the wires that come to the place of which u is the exit. A place without load has no wire that is walked.
+pub fn mark_place(was: &[u8], taken: &mut [u8], u: usize)
+    requires { ⌜ Legal (now was) × (1600 ≤ length (now taken)) × (u < 13128) ⌝ }
+    ensures { λ _. ⌜ ((x : Place) → T (isPlace (jobOf (now (was .entry))) x) → exit x ≡ u
+        → Adds (now (was .entry)) (ComesTo (jobOf (now (was .entry))) x) (now (taken .entry)) (now (taken .exit))) ⌝ }
+{
+    let mut k: usize = 0;
+    while k < 5 {
+        mark_slot(was, taken, 8 * u + k);
+        k += 1;
+    }
+}
+
+// Marks the pins of the wires that meet the pin (r, c): its own, or those that pass it where it is missing.
+fn mark_pin(was: &[u8], taken: &mut [u8], r: usize, c: usize)
+    requires { ⌜ Legal (now was) × (1600 ≤ length (now taken)) × (r < 40) × (c < 40) ⌝ }
+    ensures { λ _. ⌜ (Marks (now (was .entry)) (now (taken .entry)) [] → Marks (now (was .entry)) (now (taken .exit)) (pinAt (jobOf (now (was .entry))) r c ∷ [])) ⌝ }
+{
+    if is_chosen(was, r, c) {
+        taken[40 * r + c] = 1;
+        return;
+    }
+    if !is_missing(was, r, c) {
+        return;
+    }
+    mark_place(was, taken, pin_exit(r, c));
+}
+
+// Marks the pins of the wires that meet a place of the tile (r, c); a closed tile has none.
+fn mark_tile(was: &[u8], taken: &mut [u8], r: usize, c: usize)
+    requires { ⌜ Legal (now was) × (1600 ≤ length (now taken)) × (r < 40) × (c < 40) ⌝ }
+    ensures { λ _. ⌜ (Marks (now (was .entry)) (now (taken .entry)) [] → Marks (now (was .entry)) (now (taken .exit)) (tilePlaces r c)) ⌝ }
+{
+    if !is_open(was, r, c) {
+        return;
+    }
+    let first = 8 * (41 + 40 * r + c);
+    mark_place(was, taken, first + 7);
+    mark_place(was, taken, first + 5);
+    mark_place(was, taken, first + 4);
+    mark_place(was, taken, first + 3);
+    mark_place(was, taken, first + 2);
 }
 
 // The mark of a pin, in a record from which only the wires that start at the pin or pass it are taken out.
@@ -227,7 +167,9 @@ pub fn mark_keeping(was: &[u8], rec: &mut [u8], r: usize, c: usize, m: usize)
     ensures { λ _. ⌜ now (rec .exit) ≡ over (recordOf (marked (jobOf (now (was .entry))) r c m) (markLeft (jobOf (now (was .entry))) (load (now (was .entry))) r c))
         (now (rec .entry)) ⌝ }
 {
-    take_edited(was, rec, false, false, r, c);
+    let mut taken = [0u8; 1600];
+    mark_pin(was, &mut taken, r, c);
+    take_marked(was, rec, &taken);
     set_mark(rec, r, c, m);
 }
 
@@ -237,7 +179,9 @@ pub fn close_keeping(was: &[u8], rec: &mut [u8], r: usize, c: usize, v: usize)
     ensures { λ _. ⌜ now (rec .exit) ≡ over (recordOf (closed (jobOf (now (was .entry))) r c v) (closeLeft (jobOf (now (was .entry))) (load (now (was .entry))) r c))
         (now (rec .entry)) ⌝ }
 {
-    take_edited(was, rec, false, true, r, c);
+    let mut taken = [0u8; 1600];
+    mark_tile(was, &mut taken, r, c);
+    take_marked(was, rec, &taken);
     set_state(rec, r, c, v);
 }
 
@@ -249,13 +193,10 @@ pub fn lay_keeping(was: &[u8], rec: &mut [u8], r: usize, c: usize, side: usize, 
         (laidLeft (jobOf (now (was .entry))) (load (now (was .entry))) (sideOf r c side) n)) (now (rec .entry)) ⌝ }
 {
     let limit = orthogonal(was) - n;
-    take_edited(
-        was,
-        rec,
-        true,
-        false,
-        8 * (8 * (41 + 40 * r + c) + 2 + side),
-        limit,
-    );
+    let dart = 8 * (8 * (41 + 40 * r + c) + 2 + side);
+    let mut taken = [0u8; 1600];
+    mark_lanes(was, &mut taken, dart, limit);
+    mark_lanes(was, &mut taken, step_back(dart), limit);
+    take_marked(was, rec, &taken);
     set_laid(rec, r, c, side, n);
 }
