@@ -14,13 +14,14 @@ use lib.Seq.{ext-getD, getD-append-add, getD-drop}
 use Rattle.sums.specs.Counting.{when}
 use Rattle.sums.specs.Tests.{below-or, and-left, and-right}
 use Rattle.sums.specs.Sums.{when-none}
-use Rattle.model.specs.Job.{Job, inRange, isTile, hasNorth, hasWest, laidMost, ownDFits, upwardMost, seenMost}
+use Rattle.model.specs.Job.{Job, inRange, hasNorth, hasWest, laidMost, isOwnD, upwardMost, seenMost}
 use Rattle.model.specs.Links.{LinkKind, linkCode}
 use Rattle.model.specs.Record.{recordSize, offset, loadPlane, cell, addedOf, jobOf, forthPart, backPart, load, Legal}
 use Rattle.model.specs.Record.{kinds, loadByte, kindByte, planeByte, headByte, recordOf, over}
 use Rattle.model.proofs.RecordOf.{inCells, cells-row, cells-column, range-most, byteOf, length-record, head-back, plane-back, head-seen, head-none}
 use Rattle.model.proofs.JobBytes.{cell-get, seen-get}
 use Rattle.model.proofs.Over.{get-over}
+use Rattle.model.proofs.Own.{own-range, own-or-none}
 
 -- ---- the kind of a plane
 
@@ -93,16 +94,16 @@ module _ (rec : List ℕ) (g : Legal rec) where
   laid-small true m t = omega (arith, leb→le m (laidMost (jobOf rec)) t, five .2)
   laid-small false m t = omega (arith, leb→le m 0 t)
 
-  own-small : (b : Bool) (d : ℕ) → T (elim b as (λ x. Bool) [ true ↦ ownDFits (jobOf rec) d | false ↦ eqb d 0 ]) → d < 256
-  own-small true d t = omega (arith, eqb→eq d 0 t)
-  own-small false d t = omega (arith, eqb→eq d 0 t)
+  own-small : (d : ℕ) → (d ≡ 0) ⊎ T (isOwnD (jobOf rec) d) → d < 256
+  own-small d (inl e) = omega arith
+  own-small d (inr t) = omega (arith, own-range (jobOf rec) d t .1, five .2)
 
   -- the planes behind those of loads
   added-again : (n r c : ℕ) → n < 3 → Again (17 + n) r c
   unfolding jobOf addedOf
   added-again zero r c l = (refl, laid-small (hasNorth (jobOf rec) r c) (cell rec 17 r c) (g .values .added .laidNorth r c))
   added-again (suc zero) r c l = (refl, laid-small (hasWest (jobOf rec) r c) (cell rec 18 r c) (g .values .added .laidWest r c))
-  added-again (suc (suc zero)) r c l = (refl, own-small (isTile (jobOf rec) r c) (cell rec 19 r c) (g .values .added .ownD r c))
+  added-again (suc (suc zero)) r c l = (refl, own-small (cell rec 19 r c) (own-or-none (jobOf rec) (g .values .added) r c))
   added-again (suc (suc (suc n))) r c l = absurd (omega arith)
 
   plane-again : (p r c : ℕ) → p < 20 → Again p r c

@@ -11,6 +11,7 @@ pub mod Clockwise
 -- Records: of a job with loads, of a job without, and the rest of a longer buffer.
 pub mod Added
 pub mod Sides
+pub mod Own
 pub mod RecordOf
 pub mod Unwired
 pub mod JobBytes
@@ -39,6 +40,7 @@ pub mod ShortShut
 pub mod Short34
 pub mod ShortRim
 pub mod ShortLaid
+pub mod ShortOwn
 pub mod Shorts
 pub mod Wireds
 pub mod BothWays

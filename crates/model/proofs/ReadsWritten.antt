@@ -11,11 +11,12 @@ use lib.Dec.{T, not-T, eqb, leb, ltb, eqb→eq, eqb-refl, le→leb, lt→ltb, lt
 use lib.ListN.{length, length-append}
 use Rattle.sums.specs.Counting.{when, only, each}
 use Rattle.sums.specs.Tests.{Same, same, other, same?, below-or, and-left, and-right, and-both}
-use Rattle.model.specs.Job.{Job, arrayFits, capsAdmitted, fresh, isPin, isTile, isChosen, isMissing, isClosed, Proper}
-use Rattle.model.specs.Text.{Group, chosenPins, missingPins, closedTiles, laidSides, groups, Line, arrayLine, groupLine, endLine, says, lineBytes}
+use Rattle.model.specs.Job.{Job, inRange, arrayFits, capsAdmitted, fresh, isPin, isTile, isOwnD, isChosen, isMissing, isClosed, Proper}
+use Rattle.model.specs.Text.{Group, chosenPins, missingPins, closedTiles, ownDs, laidSides, groups, Line, arrayLine, groupLine, endLine, says, lineBytes}
 use Rattle.model.specs.Text.{afterArray}
 use Rattle.model.specs.Text.{finished, within, rank, keyOf, Reader, start, asking, inTurn, writesSide, names, named, admit, Verdict, reads, Reads, ended, line}
 use Rattle.model.specs.Text.{Reading, valueAt, valueLine, groupText, listed, textOf}
+use Rattle.model.proofs.Own.{own-written, value-own}
 use Rattle.model.proofs.Sides.{value-most}
 use Rattle.model.proofs.TextProper.{fresh-proper, named-proper}
 use Rattle.model.proofs.TextNames.{turn, due, rank-group, turn-same, Ranked, groups-ranked, when-so, when-not, when-some, zero-so, names-inside}
@@ -85,7 +86,7 @@ equal-some (suc n) m f g = f (omega arith)
 
 -- the job read so far has the values of J before the turn p
 record Partly (J : Job) (p : ℕ) (R : Reader) : Type 0 where
-  stage : (1 ≤ rank (R .stage)) × (rank (R .stage) ≤ 5)
+  stage : (1 ≤ rank (R .stage)) × (rank (R .stage) ≤ 6)
   next : due R ≤ p
   proper : Proper (R .job)
   alike : Alike (R .job) J
@@ -147,6 +148,14 @@ may-name J K p a f closedTiles r c d l =
     and-both (isTile K r c) (says closedTiles d (valueAt J closedTiles r c d))
     (subst₂ (λ (n m : ℕ). T (ltb (suc r) n && ltb (suc c) m)) (sym (a .rows)) (sym (a .columns)) (and-left (isTile J r c) (eqb (J .state r c) 1) t))
     (told d 1 (isClosed J r c) l)
+may-name J K p a f ownDs r c d l =
+    let (z, t) = own-written J r c d l in
+    let v : ℕ = valueAt J ownDs r c d in
+    let tile : T (isTile K r c) = subst₂ (λ (n m : ℕ). T (ltb (suc r) n && ltb (suc c) m)) (sym (a .rows)) (sym (a .columns)) t in
+    let own : T (isOwnD K v) =
+    subst₂ (λ (o d : ℕ). T (inRange o (2 * o) v && not (eqb v d))) (sym (a .O)) (sym (a .D)) (value-own J p r c d l) in
+    and-both (isTile K r c && isOwnD K v) (says ownDs d v) (and-both (isTile K r c) (isOwnD K v) tile own)
+    (and-both (eqb d 0) (ltb 0 v) z (lt→ltb 0 v l))
 may-name J K p a f laidSides r c d l =
     let (ld, t, w) = side-written J r c d l in
     let v : ℕ = valueAt J laidSides r c d in
@@ -303,27 +312,27 @@ module _ (J : Job) (proper : Proper J) where
   Done : Reader → Type 0
   Done R = (R .stage ≡ finished) × (R .job ≡ J)
 
-  partly-end : (R : Reader) → Partly J (6400 * 6) R → Leads R (lineBytes endLine) Done
+  partly-end : (R : Reader) → Partly J (6400 * 7) R → Leads R (lineBytes endLine) Done
   unfolding admit Done
   partly-end R s =
       let S : Reader = record { stage = finished; from = 0; job = R .job } in
       leads-line endLine S
-      (asking-so (leb 1 (rank (R .stage)) && ltb (rank (R .stage)) 6) S
-      (and-both (leb 1 (rank (R .stage))) _ (le→leb 1 (rank (R .stage)) (s .stage .0)) (lt→ltb (rank (R .stage)) 6 (omega (arith, s .stage .1))))) (
+      (asking-so (leb 1 (rank (R .stage)) && ltb (rank (R .stage)) 7) S
+      (and-both (leb 1 (rank (R .stage))) _ (le→leb 1 (rank (R .stage)) (s .stage .0)) (lt→ltb (rank (R .stage)) 7 (omega (arith, s .stage .1))))) (
         refl,
         job-known (R .job) J (s .proper) proper (s .alike) (λ h i j e.
             s .agree h i j e
-            ∙ equal-some (when (ltb (turn h i j e) (6400 * 6)) (valueAt J h i j e)) (valueAt J h i j e)
-            (λ l. before (turn h i j e) (6400 * 6) (valueAt J h i j e) (ltb→lt _ _ (when-some (ltb (turn h i j e) (6400 * 6)) (valueAt J h i j e) l)))
+            ∙ equal-some (when (ltb (turn h i j e) (6400 * 7)) (valueAt J h i j e)) (valueAt J h i j e)
+            (λ l. before (turn h i j e) (6400 * 7) (valueAt J h i j e) (ltb→lt _ _ (when-some (ltb (turn h i j e) (6400 * 7)) (valueAt J h i j e) l)))
             (λ l. let (li, lj, le) = small h i j e l in
-            before (turn h i j e) (6400 * 6) (valueAt J h i j e) (omega (arith, rank-group h .1)))),
+            before (turn h i j e) (6400 * 7) (valueAt J h i j e) (omega (arith, rank-group h .1)))),
       )
 
   -- the groups from one rank on, and the end
-  partly-groups : (n : ℕ) (l : List Group) → Ranked n l → n + length l ≡ 6 → (R : Reader) → Partly J (6400 * n) R
+  partly-groups : (n : ℕ) (l : List Group) → Ranked n l → n + length l ≡ 7 → (R : Reader) → Partly J (6400 * n) R
       → Leads R (listed (groupText J) l (lineBytes endLine)) Done
   partly-groups n [] q e R s =
-      let i : n ≡ 6 = omega arith in
+      let i : n ≡ 7 = omega arith in
       partly-end R (subst (λ (m : ℕ). Partly J (6400 * m) R) i s)
   partly-groups n (g ∷ l) (q, k) e R s =
       let i : 6400 * n ≡ turn g 0 0 0 = omega arith in

@@ -10,6 +10,7 @@ use Rattle.model.proofs.ShortShut.{shortShut-holds}
 use Rattle.model.proofs.Short34.{short34-holds}
 use Rattle.model.proofs.ShortRim.{shortRim-holds, shortMissing-holds, shortEntry-holds}
 use Rattle.model.proofs.ShortLaid.{shortLaid-holds}
+use Rattle.model.proofs.ShortOwn.{shortOwn-holds}
 
 pub shorts-hold : (x : Short) → List·Memᴰ x shorts → Greatest (x .job) (x .greatest) × Smallest (x .job) (among (x .near)) (x .greatest)
 shorts-hold x (List·Memᴰ·head e) = subst ShortHolds (sym e) shortShut-holds
@@ -18,3 +19,4 @@ shorts-hold x (List·Memᴰ·tail (List·Memᴰ·tail (List·Memᴰ·head e))) =
 shorts-hold x (List·Memᴰ·tail (List·Memᴰ·tail (List·Memᴰ·tail (List·Memᴰ·head e)))) = subst ShortHolds (sym e) shortMissing-holds
 shorts-hold x (List·Memᴰ·tail (List·Memᴰ·tail (List·Memᴰ·tail (List·Memᴰ·tail (List·Memᴰ·head e))))) = subst ShortHolds (sym e) shortEntry-holds
 shorts-hold x (List·Memᴰ·tail (List·Memᴰ·tail (List·Memᴰ·tail (List·Memᴰ·tail (List·Memᴰ·tail (List·Memᴰ·head e)))))) = subst ShortHolds (sym e) shortLaid-holds
+shorts-hold x (List·Memᴰ·tail (List·Memᴰ·tail (List·Memᴰ·tail (List·Memᴰ·tail (List·Memᴰ·tail (List·Memᴰ·tail (List·Memᴰ·head e))))))) = subst ShortHolds (sym e) shortOwn-holds

@@ -27,23 +27,27 @@ put-else f r c v i j n =
     by true h = absurd (h tt)
     by false h = refl
 
+-- what holds of every entry and of the new value holds of the table with the entry changed
+pub put-holds : (P : ℕ → ℕ → ℕ → Type 0) (f : ℕ → ℕ → ℕ) (r c v : ℕ) → ((i j : ℕ) → P i j (f i j)) → P r c v → (i j : ℕ) → P i j (put f r c v i j)
+put-holds P f r c v h p i j = by (eqb i r && eqb j c) here
+  where
+    here : T (eqb i r && eqb j c) → P i j v
+    here s =
+        subst (λ (x : ℕ). P x j v) (sym (eqb→eq i r (and-left (eqb i r) (eqb j c) s)))
+        (subst (λ (y : ℕ). P r y v) (sym (eqb→eq j c (and-right (eqb i r) (eqb j c) s))) p)
+
+    by : (x : Bool) → (T x → P i j v) → P i j (elim x as (λ y. ℕ) [ true ↦ v | false ↦ f i j ])
+    by true k = k tt
+    by false k = h i j
+
 -- a table within its bounds, with one entry changed to another within its bound
 pub put-fits : (f : ℕ → ℕ → ℕ) (b : ℕ → ℕ → Bool) (n r c v : ℕ) → ((i j : ℕ) → T (leb (f i j) (when (b i j) n))) → T (b r c) → T (leb v n)
     → (i j : ℕ) → T (leb (put f r c v i j) (when (b i j) n))
-put-fits f b n r c v h t u i j = by (eqb i r && eqb j c) here
+put-fits f b n r c v h t u = put-holds (λ i j m. T (leb m (when (b i j) n))) f r c v h (full (b r c) t)
   where
-    here : T (eqb i r && eqb j c) → T (b i j)
-    here s =
-        subst (λ (x : ℕ). T (b x j)) (sym (eqb→eq i r (and-left (eqb i r) (eqb j c) s)))
-        (subst (λ (y : ℕ). T (b r y)) (sym (eqb→eq j c (and-right (eqb i r) (eqb j c) s))) t)
-
     full : (x : Bool) → T x → T (leb v (when x n))
     full true s = u
     full false s = absurd s
-
-    by : (x : Bool) → (T x → T (b i j)) → T (leb (elim x as (λ y. ℕ) [ true ↦ v | false ↦ f i j ]) (when (b i j) n))
-    by true k = full (b i j) (k tt)
-    by false k = h i j
 
 -- ---- counts
 

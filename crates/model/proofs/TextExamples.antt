@@ -10,8 +10,8 @@ use native.Mathlib.Omega.{arith}
 use lib.Dec.{T, leb, leb→le}
 use lib.ListN.{length, getD, drop}
 use Rattle.sums.specs.Counting.{only, each}
-use Rattle.model.specs.Job.{Job, fresh, marked, closed, sideOf, laidBy, isChosen, isMissing, isClosed}
-use Rattle.model.specs.Text.{chosenPins, missingPins, closedTiles, laidSides, Line, arrayLine, groupLine, endLine, lineBytes, Stage, begin, afterArray, finished}
+use Rattle.model.specs.Job.{Job, fresh, marked, closed, sideOf, laidBy, withOwnD, isChosen, isMissing, isClosed}
+use Rattle.model.specs.Text.{chosenPins, missingPins, closedTiles, ownDs, laidSides, Line, arrayLine, groupLine, endLine, lineBytes, Stage, begin, afterArray, finished}
 use Rattle.model.specs.Text.{within, rank, Reader, admit, Verdict, reads, wrongAt, Reads, ended, line, wrong, Reading, textOf}
 use Rattle.model.specs.Examples.{job64}
 use Rattle.model.proofs.TextUnique.{Says, admit-says, line-unique, line-some}
@@ -50,6 +50,10 @@ closed64 = 40 ∷ 99 ∷ 108 ∷ 111 ∷ 115 ∷ 101 ∷ 100 ∷ 32 ∷ zeroZero
 -- (laid 0 0 n, with the digit of the count
 abbrev pub laidForm : ℕ → List ℕ
 laidForm b = 40 ∷ 108 ∷ 97 ∷ 105 ∷ 100 ∷ 32 ∷ 48 ∷ 32 ∷ 48 ∷ 32 ∷ 110 ∷ 32 ∷ b ∷ 41 ∷ 10 ∷ []
+
+-- (d 0 0, with the digit of the value
+abbrev pub ownForm : ℕ → List ℕ
+ownForm b = 40 ∷ 100 ∷ 32 ∷ 48 ∷ 32 ∷ 48 ∷ 32 ∷ b ∷ 41 ∷ 10 ∷ []
 
 -- (end), without the byte 10
 abbrev pub endForm : List ℕ
@@ -107,8 +111,8 @@ NoLine text = (l : Line) (rest : List ℕ) → text ≢ lineBytes l ++ rest
 bytes-refused : {R : Reader} {o : ℕ} {text : List ℕ} → (R .stage ≡ finished → text ≢ []) → NoLine text → Reads R o text (wrongAt o)
 bytes-refused f n = wrong f (λ l R′ rest a. n l rest)
 
-unfinished : {A : Type 0} (s : Stage) → T (leb (rank s) 5) → s ≡ finished → A
-unfinished s t e = absurd (omega (arith, leb→le (rank s) 5 t, ap rank e))
+unfinished : {A : Type 0} (s : Stage) → T (leb (rank s) 6) → s ≡ finished → A
+unfinished s t e = absurd (omega (arith, leb→le (rank s) 6 t, ap rank e))
 
 -- the byte i of two texts
 byte : {X Y : List ℕ} (i : ℕ) → X ≡ Y → getD X i 0 ≡ getD Y i 0
@@ -121,6 +125,7 @@ short text z (arrayLine a b c d e) rest q = omega (arith, byte 1 q)
 short text z (groupLine chosenPins r c d v) rest q = omega (arith, byte 1 q)
 short text z (groupLine missingPins r c d v) rest q = omega (arith, byte 1 q)
 short text z (groupLine closedTiles r c d v) rest q = omega (arith, byte 1 q)
+short text z (groupLine ownDs r c d v) rest q = omega (arith, byte 1 q)
 short text z (groupLine laidSides r c d v) rest q = omega (arith, byte 1 q)
 short text z endLine rest q = omega (arith, byte 1 q)
 
@@ -156,6 +161,18 @@ pub writes-laid64 : textOf (laidBy job64 (sideOf 0 0 0) 1) ≡ array64 ++ (chose
 unfolding textOf lineBytes each isChosen isMissing isClosed
 writes-laid64 = refl
 
+-- with (d 0 0 1) after the closed tile, which may have its own D too; and that text is written
+pub own64 : Reading (array64 ++ (chosen64 ++ (closed64 ++ (ownForm 49 ++ end64)))) (reads (withOwnD job64 0 0 1))
+unfolding admit lineBytes
+own64 =
+    let K : Job = withOwnD job64 0 0 1 in
+    closed-read (ownForm 49 ++ end64)
+    (line (groupLine ownDs 0 0 0 1) (after (within ownDs) 1 K) end64 refl refl (line endLine (after finished 0 K) [] refl refl (ended refl refl)))
+
+pub writes-own64 : textOf (withOwnD job64 0 0 1) ≡ array64 ++ (chosen64 ++ (closed64 ++ (ownForm 49 ++ end64)))
+unfolding textOf lineBytes each isChosen isMissing isClosed
+writes-own64 = refl
+
 -- ---- a line that may not stand there
 
 -- "With lines two and three exchanged, the refusal is 6 at 45."
@@ -190,6 +207,23 @@ pub above64 : Reading (array64 ++ (chosen64 ++ (closed64 ++ (laidForm 50 ++ end6
 unfolding admit lineBytes
 above64 = closed-read (laidForm 50 ++ end64) (line-refused (groupLine laidSides 0 0 0 2) end64 tt refl)
 
+-- the job's D, 2, and a value above 2×O
+pub same64 : Reading (array64 ++ (chosen64 ++ (closed64 ++ (ownForm 50 ++ end64)))) (wrongAt 58)
+unfolding admit lineBytes
+same64 = closed-read (ownForm 50 ++ end64) (line-refused (groupLine ownDs 0 0 0 2) end64 tt refl)
+
+pub wide64 : Reading (array64 ++ (chosen64 ++ (closed64 ++ (ownForm 51 ++ end64)))) (wrongAt 58)
+unfolding admit lineBytes
+wide64 = closed-read (ownForm 51 ++ end64) (line-refused (groupLine ownDs 0 0 0 3) end64 tt refl)
+
+-- an own D after a laid wire: "between closed and laid"
+pub late64 : Reading (array64 ++ (chosen64 ++ (closed64 ++ (laidForm 49 ++ (ownForm 49 ++ end64))))) (wrongAt 73)
+unfolding admit lineBytes
+late64 =
+    closed-read (laidForm 49 ++ (ownForm 49 ++ end64))
+    (line (groupLine laidSides 0 0 0 1) (after (within laidSides) 1 (laidBy job64 (sideOf 0 0 0) 1)) (ownForm 49 ++ end64) refl refl
+    (line-refused (groupLine ownDs 0 0 0 1) end64 tt refl))
+
 -- 3 by 3, O = 2: "An inner side is written as s or e of its northern or western tile", so (laid 1 0 n 1) and (laid 0 1 w 1) may not stand
 pub inner-sides : (o : ℕ) (rest : List ℕ) (R : Reader) → R ≡ after afterArray 0 (fresh 3 3 2 3 0)
     → Reads R o (lineBytes (groupLine laidSides 1 0 0 1) ++ rest) (wrongAt o) × Reads R o (lineBytes (groupLine laidSides 0 1 3 1) ++ rest) (wrongAt o)
@@ -223,6 +257,7 @@ unfinished64 = closed-read endForm (bytes-refused (unfinished (within closedTile
     none-begins (groupLine chosenPins r c d v) rest q = omega (arith, byte 1 q)
     none-begins (groupLine missingPins r c d v) rest q = omega (arith, byte 1 q)
     none-begins (groupLine closedTiles r c d v) rest q = omega (arith, byte 1 q)
+    none-begins (groupLine ownDs r c d v) rest q = omega (arith, byte 1 q)
     none-begins (groupLine laidSides r c d v) rest q = omega (arith, byte 1 q)
     none-begins endLine rest q = omega (arith, byte 5 q)
 
@@ -240,5 +275,6 @@ zeros64 = begun (chosenForm (48 ∷ zeroZero) ++ (closed64 ++ end64)) (bytes-ref
     none-begins (groupLine chosenPins r c d v) rest q = no-number (leb 10 r) r _ _ (leb→le 10 r) (ap (drop 8) (simp append-assoc at q))
     none-begins (groupLine missingPins r c d v) rest q = omega (arith, byte 1 q)
     none-begins (groupLine closedTiles r c d v) rest q = omega (arith, byte 2 q)
+    none-begins (groupLine ownDs r c d v) rest q = omega (arith, byte 1 q)
     none-begins (groupLine laidSides r c d v) rest q = omega (arith, byte 1 q)
     none-begins endLine rest q = omega (arith, byte 1 q)

@@ -9,13 +9,14 @@ use native.Mathlib.Omega.{arith}
 use lib.Dec.{T, T-not, eqb, leb, ltb, eqb→eq, eqb-refl, leb→le, ltb→lt, lt→ltb}
 use Rattle.sums.specs.Counting.{when, only}
 use Rattle.sums.specs.Tests.{Same, same, other, same?, and-left, and-right, and-both}
-use Rattle.sums.specs.Sums.{when-cong}
-use Rattle.model.specs.Job.{Job, inRange, fresh, marked, closed, put, Side, ofNorth, ofWest, sideOf, laidOn, laidBy, isPin, isTile, isChosen, isMissing, isClosed, Proper}
-use Rattle.model.specs.Text.{Group, chosenPins, missingPins, closedTiles, laidSides, groups, groupLine, says, lineBytes, within, rank, groupOf, keyOf}
+use Rattle.sums.specs.Sums.{when-cong, when-none}
+use Rattle.model.specs.Job.{Job, inRange, fresh, marked, closed, withOwnD, put, Side, ofNorth, ofWest, sideOf, laidOn, laidBy, isPin, isTile, isChosen, isMissing, isClosed, Proper}
+use Rattle.model.specs.Text.{Group, chosenPins, missingPins, closedTiles, ownDs, laidSides, groups, groupLine, says, lineBytes, within, rank, groupOf, keyOf}
 use Rattle.model.specs.Text.{Reader, writesSide, names, named, valueAt, valueLine}
 use Rattle.model.proofs.Added.{added-known}
-use Rattle.model.proofs.Sides.{put-at, count-here, count-other, counts-same, one-writer, norths-known, wests-known}
-use Rattle.model.proofs.TextProper.{by-word, names-says, names-laid}
+use Rattle.model.proofs.Own.{counts-own, own-laid, own-written, owns-known}
+use Rattle.model.proofs.Sides.{put-at, put-else, count-here, count-other, counts-same, one-writer, norths-known, wests-known}
+use Rattle.model.proofs.TextProper.{by-word, names-says, names-own, names-laid}
 
 -- ---- turns
 
@@ -27,10 +28,11 @@ turn g r c d = 6400 * rank (within g) + keyOf r c d
 abbrev pub due : Reader → ℕ
 due R = 6400 * rank (R .stage) + R .from
 
-pub rank-group : (g : Group) → (2 ≤ rank (within g)) × (rank (within g) ≤ 5)
+pub rank-group : (g : Group) → (2 ≤ rank (within g)) × (rank (within g) ≤ 6)
 rank-group chosenPins = omega arith
 rank-group missingPins = omega arith
 rank-group closedTiles = omega arith
+rank-group ownDs = omega arith
 rank-group laidSides = omega arith
 
 pub of-rank : (g : Group) → groupOf (rank (within g)) ≡ g
@@ -38,6 +40,7 @@ unfolding groupOf
 of-rank chosenPins = refl
 of-rank missingPins = refl
 of-rank closedTiles = refl
+of-rank ownDs = refl
 of-rank laidSides = refl
 
 pub rank-same : (g h : Group) → rank (within g) ≡ rank (within h) → g ≡ h
@@ -49,7 +52,7 @@ Ranked n [] = Unit {0}
 Ranked n (g ∷ l) = (rank (within g) ≡ n) × Ranked (suc n) l
 
 pub groups-ranked : Ranked 2 groups
-groups-ranked = (refl, (refl, (refl, (refl, tt))))
+groups-ranked = (refl, (refl, (refl, (refl, (refl, tt)))))
 
 pub turn-same : (g h : Group) (r c d i j e : ℕ) → (r < 40) × (c < 40) × (d < 4) → (i < 40) × (j < 40) × (e < 4) → turn g r c d ≡ turn h i j e
     → (g ≡ h) × (r ≡ i) × (c ≡ j) × (d ≡ e)
@@ -99,6 +102,7 @@ pub says-some : (g : Group) (d v : ℕ) → T (says g d v) → (d < 4) × (0 < v
 says-some chosenPins d v t = let (x, y) = by-word d v 1 t in omega arith
 says-some missingPins d v t = let (x, y) = by-word d v 2 t in omega arith
 says-some closedTiles d v t = let (x, y) = by-word d v 1 t in omega arith
+says-some ownDs d v t = (omega (arith, eqb→eq d 0 (and-left (eqb d 0) (ltb 0 v) t)), ltb→lt 0 v (and-right (eqb d 0) (ltb 0 v) t))
 says-some laidSides d v t = (ltb→lt d 4 (and-left (ltb d 4) (ltb 0 v) t), ltb→lt 0 v (and-right (ltb d 4) (ltb 0 v) t))
 
 names-cell : (K : Job) (g : Group) (r c d v : ℕ) → T (names K g r c d v) → (r < K .rows) × (c < K .columns)
@@ -107,6 +111,7 @@ names-cell K missingPins r c d v t =
     let unchosen : Bool = not (eqb (K .mark r c) 1) in
     pin-inside K r c (and-left (isPin K r c) unchosen (and-left (isPin K r c && unchosen) (says missingPins d v) t))
 names-cell K closedTiles r c d v t = tile-inside K r c (and-left (isTile K r c) (says closedTiles d v) t)
+names-cell K ownDs r c d v t = tile-inside K r c (names-own K r c d v t .0)
 names-cell K laidSides r c d v t = tile-inside K r c (names-laid K r c d v t .0)
 
 pub names-inside : (K : Job) (g : Group) (r c d v : ℕ) → T (names K g r c d v) → (r < K .rows) × (c < K .columns) × (d < 4)
@@ -143,6 +148,10 @@ value-inside K closedTiles r c d l =
     let (x, t) = word-value d 1 (isClosed K r c) l in
     let (y, z) = tile-inside K r c (and-left (isTile K r c) (eqb (K .state r c) 1) t) in
     (y, z, x)
+value-inside K ownDs r c d l =
+    let (z, t) = own-written K r c d l in
+    let (x, y) = tile-inside K r c t in
+    (x, y, omega (arith, eqb→eq d 0 z))
 value-inside K laidSides r c d l =
     let (x, t, u) = side-written K r c d l in
     let (y, z) = tile-inside K r c t in
@@ -164,6 +173,7 @@ unfolding isChosen isMissing isClosed
 fresh-none rows columns O D E chosenPins r c d = untold (eqb d 0) (isPin (fresh rows columns O D E) r c) 1
 fresh-none rows columns O D E missingPins r c d = untold (eqb d 0) (isPin (fresh rows columns O D E) r c) 2
 fresh-none rows columns O D E closedTiles r c d = untold (eqb d 0) (isTile (fresh rows columns O D E) r c) 1
+fresh-none rows columns O D E ownDs r c d = when-none (eqb d 0 && isTile (fresh rows columns O D E) r c) 0 (λ t. refl)
 fresh-none rows columns O D E laidSides r c d =
     let J : Job = fresh rows columns O D E in
     none-laid (ltb d 4 && (isTile J r c && writesSide r c d)) (sideOf r c d)
@@ -210,6 +220,10 @@ named-here K missingPins r c d v t =
     (and-left (isPin K r c) unchosen (and-left (isPin K r c && unchosen) (says missingPins d v) t))
 named-here K closedTiles r c d v t =
     put-value (K .state) (isTile K r c) r c d v 1 (names-says K closedTiles r c d v t) (and-left (isTile K r c) (says closedTiles d v) t)
+named-here K ownDs r c d v t =
+    let z : T (eqb d 0) = and-left (eqb d 0) (ltb 0 v) (names-says K ownDs r c d v t) in
+    when-so (eqb d 0 && isTile K r c) (put (K .added .ownD) r c v r c) (and-both (eqb d 0) (isTile K r c) z (names-own K r c d v t .0))
+    ∙ put-at (K .added .ownD) r c v
 named-here K laidSides r c d v t =
     let (a, w, l) = names-laid K r c d v t in
     let (ld, some-v) = says-some laidSides d v (names-says K laidSides r c d v t) in
@@ -242,6 +256,7 @@ named-else K chosenPins r c d v t f missingPins i j e n =
     λ u. f missingPins 0 (omega arith) (omega (arith, when-so (isPin K r c && eqb (K .mark r c) 2) 2 (and-both (isPin K r c) _ (and-left (isPin K r c) (says chosenPins d v) t) u))) in
     put-keeps (K .mark) (isPin K i j) r c v 2 i j e (λ z x y. ap (λ (m : ℕ). eqb m 2) q ∙ fails (eqb (K .mark r c) 2) none-missing)
 named-else K chosenPins r c d v t f closedTiles i j e n = refl
+named-else K chosenPins r c d v t f ownDs i j e n = refl
 named-else K chosenPins r c d v t f laidSides i j e n =
     ap (when (ltb e 4 && (isTile K i j && writesSide i j e))) (counts-same (marked K r c v) K refl (sideOf i j e))
 named-else K missingPins r c d v t f chosenPins i j e n =
@@ -254,6 +269,7 @@ named-else K missingPins r c d v t f missingPins i j e n =
     let (p, q) = by-word d v 2 (names-says K missingPins r c d v t) in
     put-keeps (K .mark) (isPin K i j) r c v 2 i j e (λ z x y. absurd (n (omega arith)))
 named-else K missingPins r c d v t f closedTiles i j e n = refl
+named-else K missingPins r c d v t f ownDs i j e n = refl
 named-else K missingPins r c d v t f laidSides i j e n =
     ap (when (ltb e 4 && (isTile K i j && writesSide i j e))) (counts-same (marked K r c v) K refl (sideOf i j e))
 named-else K closedTiles r c d v t f chosenPins i j e n = refl
@@ -261,11 +277,23 @@ named-else K closedTiles r c d v t f missingPins i j e n = refl
 named-else K closedTiles r c d v t f closedTiles i j e n =
     let (p, q) = by-word d v 1 (names-says K closedTiles r c d v t) in
     put-keeps (K .state) (isTile K i j) r c v 1 i j e (λ z x y. absurd (n (omega arith)))
+named-else K closedTiles r c d v t f ownDs i j e n = refl
 named-else K closedTiles r c d v t f laidSides i j e n =
     ap (when (ltb e 4 && (isTile K i j && writesSide i j e))) (counts-same (closed K r c v) K refl (sideOf i j e))
+named-else K ownDs r c d v t f chosenPins i j e n = refl
+named-else K ownDs r c d v t f missingPins i j e n = refl
+named-else K ownDs r c d v t f closedTiles i j e n = refl
+named-else K ownDs r c d v t f ownDs i j e n =
+    let z : d ≡ 0 = eqb→eq d 0 (and-left (eqb d 0) (ltb 0 v) (names-says K ownDs r c d v t)) in
+    when-cong (eqb e 0 && isTile K i j) _ _
+    (λ u. let y : e ≡ 0 = eqb→eq e 0 (and-left (eqb e 0) (isTile K i j) u) in
+    put-else (K .added .ownD) r c v i j (λ p q. n (omega arith)))
+named-else K ownDs r c d v t f laidSides i j e n =
+    ap (when (ltb e 4 && (isTile K i j && writesSide i j e))) (counts-own K r c v (sideOf i j e))
 named-else K laidSides r c d v t f chosenPins i j e n = refl
 named-else K laidSides r c d v t f missingPins i j e n = refl
 named-else K laidSides r c d v t f closedTiles i j e n = refl
+named-else K laidSides r c d v t f ownDs i j e n = ap (when (eqb e 0 && isTile K i j)) (own-laid K (sideOf r c d) v i j)
 named-else K laidSides r c d v t f laidSides i j e n =
     when-cong (ltb e 4 && (isTile K i j && writesSide i j e)) _ _
     (λ u. let (le, k) = written u in count-other K (sideOf r c d) (sideOf i j e) v (λ q. n (same-turn le k q)))
@@ -297,6 +325,7 @@ pub named-alike : (K J : Job) (g : Group) (r c d v : ℕ) → Alike K J → Alik
 named-alike K J chosenPins r c d v a = record { rows = a .rows; columns = a .columns; O = a .O; D = a .D; E = a .E }
 named-alike K J missingPins r c d v a = record { rows = a .rows; columns = a .columns; O = a .O; D = a .D; E = a .E }
 named-alike K J closedTiles r c d v a = record { rows = a .rows; columns = a .columns; O = a .O; D = a .D; E = a .E }
+named-alike K J ownDs r c d v a = record { rows = a .rows; columns = a .columns; O = a .O; D = a .D; E = a .E }
 named-alike K J laidSides r c d v a = record { rows = a .rows; columns = a .columns; O = a .O; D = a .D; E = a .E }
 
 -- an entry by its tests
@@ -331,7 +360,8 @@ job-known K J p q a e =
       E = a .E t;
       mark = λ r c. marks r c t;
       state = λ r c. states r c t;
-      added = added-known K J (p .added) (q .added) (norths-known K J p q (e laidSides)) (wests-known K J p q (e laidSides)) t;
+      added =
+          added-known K J (p .added) (q .added) (norths-known K J p q (e laidSides)) (wests-known K J p q (e laidSides)) (owns-known K J p q (e ownDs)) t;
     }
   where
     marks : (r c : ℕ) → K .mark r c ≡ J .mark r c

@@ -1,7 +1,7 @@
 -- Document 01, "Job text" and "Runs": a fresh job, a mark and a closed tile within the array are proper, so a text that is read gives a proper job: every
 -- line that may stand after the array names a pin or tile of it. Assumes nothing.
 use mathlib.Core.Path.{_≡_, refl, sym, ap, subst}
-use mathlib.Core.Bool.{Bool, true, false, not, _&&_}
+use mathlib.Core.Bool.{Bool, true, false, not, _&&_, _||_}
 use mathlib.Core.List.{List}
 use mathlib.Core.Option.{some}
 use Prim.Native.Nat.{ℕ, _≤_}
@@ -9,10 +9,11 @@ use native.Mathlib.Omega.{arith}
 use lib.Dec.{T, eqb, leb, ltb, eqb→eq, leb→le, le→leb}
 use Rattle.sums.specs.Counting.{when}
 use Rattle.sums.specs.Tests.{and-left, and-right}
-use Rattle.model.specs.Job.{Job, arrayFits, capsFit, capsAdmitted, fresh, marked, closed, put, isPin, isTile, Proper}
-use Rattle.model.specs.Text.{Group, chosenPins, missingPins, closedTiles, laidSides, Line, arrayLine, groupLine, endLine, says, begin, rank, Reader, asking, inTurn}
+use Rattle.model.specs.Job.{Job, arrayFits, capsFit, capsAdmitted, fresh, marked, closed, put, isPin, isTile, isOwnD, Proper}
+use Rattle.model.specs.Text.{Group, chosenPins, missingPins, closedTiles, ownDs, laidSides, Line, arrayLine, groupLine, endLine, says, begin, rank, Reader, asking, inTurn}
 use Rattle.model.specs.Text.{writesSide, names, named, admit, Verdict, reads, wrongAt, Reads, ended, line, wrong, Reading}
 use Rattle.model.proofs.Added.{fresh-fits, fits-kept}
+use Rattle.model.proofs.Own.{own-proper}
 use Rattle.model.proofs.Sides.{put-fits, laid-proper}
 
 -- ---- proper jobs
@@ -60,6 +61,10 @@ pub asked : (b : Bool) (R R′ : Reader) → asking b R ≡ some R′ → T b ×
 asked true R R′ e = (tt, cc)
 asked false R R′ e = let z : _≡_ {A = ℕ} 0 1 = cc in absurd (omega arith)
 
+or-so : (a b : Bool) → T b → T (a || b)
+or-so true b t = tt
+or-so false b t = t
+
 -- a line without a tail has no side, and the value that its word says
 pub by-word : (d v n : ℕ) → T (eqb d 0 && eqb v n) → (d ≡ 0) × (v ≡ n)
 by-word d v n t = (eqb→eq d 0 (and-left (eqb d 0) (eqb v n) t), eqb→eq v n (and-right (eqb d 0) (eqb v n) t))
@@ -68,7 +73,14 @@ pub names-says : (J : Job) (g : Group) (r c d v : ℕ) → T (names J g r c d v)
 names-says J chosenPins r c d v t = and-right (isPin J r c) (says chosenPins d v) t
 names-says J missingPins r c d v t = and-right (isPin J r c && not (eqb (J .mark r c) 1)) (says missingPins d v) t
 names-says J closedTiles r c d v t = and-right (isTile J r c) (says closedTiles d v) t
+names-says J ownDs r c d v t = and-right (isTile J r c && isOwnD J v) (says ownDs d v) t
 names-says J laidSides r c d v t = and-right (isTile J r c && (writesSide r c d && leb v (J .O))) (says laidSides d v) t
+
+-- a line of an own D names a tile and a value that a tile may have
+pub names-own : (J : Job) (r c d v : ℕ) → T (names J ownDs r c d v) → T (isTile J r c) × T (isOwnD J v)
+names-own J r c d v t =
+    let u : T (isTile J r c && isOwnD J v) = and-left (isTile J r c && isOwnD J v) (says ownDs d v) t in
+    (and-left (isTile J r c) (isOwnD J v) u, and-right (isTile J r c) (isOwnD J v) u)
 
 -- a line of a count names a side that its tile writes, and a count in range
 pub names-laid : (J : Job) (r c d v : ℕ) → T (names J laidSides r c d v) → T (isTile J r c) × T (writesSide r c d) × T (leb v (J .O))
@@ -90,6 +102,7 @@ named-proper J missingPins r c d v p t =
 named-proper J closedTiles r c d v p t =
     let (x, y) = by-word d v 1 (names-says J closedTiles r c d v t) in
     closed-proper J r c v p (and-left (isTile J r c) (says closedTiles d v) t) (le→leb v 1 (omega arith))
+named-proper J ownDs r c d v p t = let (a, o) = names-own J r c d v t in own-proper J r c v p a (or-so (eqb v 0) (isOwnD J v) o)
 named-proper J laidSides r c d v p t = let (a, b, l) = names-laid J r c d v t in laid-proper J r c d v p a l
 
 abbrev Good : Reader → Type 0
@@ -112,7 +125,7 @@ admit-proper R (groupLine g r c d v) R′ good e =
     subst (λ (S : Reader). Proper (S .job)) q (named-proper (R .job) g r c d v (good (leb→le 1 (rank (R .stage)) begun)) (and-right a b t))
 admit-proper R endLine R′ good e =
     let a : Bool = leb 1 (rank (R .stage)) in
-    let b : Bool = ltb (rank (R .stage)) 6 in
+    let b : Bool = ltb (rank (R .stage)) 7 in
     let (t, q) = asked (a && b) _ R′ e in
     subst (λ (S : Reader). Proper (S .job)) q (good (leb→le 1 (rank (R .stage)) (and-left a b t)))
 

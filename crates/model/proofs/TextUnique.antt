@@ -7,12 +7,12 @@ use mathlib.Core.List.{List, [], _∷_, _++_, append-assoc}
 use mathlib.Core.Option.{Option, some}
 use Prim.Native.Nat.{ℕ, zero, suc, _+_, _/_, _%_, _<_}
 use native.Mathlib.Omega.{arith}
-use lib.Dec.{T, eqb, leb, ltb, nleb→lt, ltb→lt}
+use lib.Dec.{T, eqb, leb, ltb, eqb→eq, nleb→lt, ltb→lt}
 use lib.ListN.{length, getD, drop}
 use lib.Seq.{drop-append-seam}
 use Rattle.sums.specs.Counting.{only}
 use Rattle.sums.specs.Tests.{and-left, and-right}
-use Rattle.model.specs.Text.{Group, chosenPins, missingPins, closedTiles, laidSides, Line, arrayLine, groupLine, endLine, groupWord, sideLetter, tailOf}
+use Rattle.model.specs.Text.{Group, chosenPins, missingPins, closedTiles, ownDs, laidSides, Line, arrayLine, groupLine, endLine, groupWord, sideLetter, tailOf}
 use Rattle.model.specs.Text.{says, lineBytes}
 use Rattle.model.specs.Text.{Reader, finished, inTurn, names, admit, Verdict, reads, wrongAt, Reads, ended, line, wrong}
 use Rattle.model.proofs.TextProper.{asked, by-word, names-says}
@@ -51,6 +51,7 @@ ending-starts : (g : Group) (d v : ℕ) (X : List ℕ) → Starts (ending g d v 
 ending-starts chosenPins d v X = record { byte = 41; more = 10 ∷ X; low = omega arith; is = refl }
 ending-starts missingPins d v X = record { byte = 41; more = 10 ∷ X; low = omega arith; is = refl }
 ending-starts closedTiles d v X = record { byte = 41; more = 10 ∷ X; low = omega arith; is = refl }
+ending-starts ownDs d v X = record { byte = 32; more = drop 1 (ending ownDs d v X); low = omega arith; is = refl }
 ending-starts laidSides d v X = record { byte = 32; more = drop 1 (ending laidSides d v X); low = omega arith; is = refl }
 
 -- a side by its letter
@@ -77,6 +78,11 @@ ending-unique : (g : Group) (d v d′ v′ : ℕ) (X Y : List ℕ) → T (says g
 ending-unique chosenPins d v d′ v′ X Y t t′ e = (word-unique 1 d v d′ v′ t t′, ap (drop 2) e)
 ending-unique missingPins d v d′ v′ X Y t t′ e = (word-unique 2 d v d′ v′ t t′, ap (drop 2) e)
 ending-unique closedTiles d v d′ v′ X Y t t′ e = (word-unique 1 d v d′ v′ t t′, ap (drop 2) e)
+ending-unique ownDs d v d′ v′ X Y t t′ e =
+    let f : 32 ∷ digits v (41 ∷ 10 ∷ X) ≡ 32 ∷ digits v′ (41 ∷ 10 ∷ Y) = simp append-assoc at e in
+    let (p, h) = number-unique v v′ 41 41 (10 ∷ X) (10 ∷ Y) (omega arith) (omega arith) (ap (drop 1) f) in
+    let none-told : (x y : ℕ) → T (says ownDs x y) → x ≡ 0 = λ x y u. eqb→eq x 0 (and-left (eqb x 0) (ltb 0 y) u) in
+    ((none-told d v t ∙ sym (none-told d′ v′ t′), p), ap (drop 2) h)
 ending-unique laidSides d v d′ v′ X Y t t′ e =
     let f : 32 ∷ sideLetter d ∷ 32 ∷ digits v (41 ∷ 10 ∷ X) ≡ 32 ∷ sideLetter d′ ∷ 32 ∷ digits v′ (41 ∷ 10 ∷ Y) = simp append-assoc at e in
     let (p, h) = number-unique v v′ 41 41 (10 ∷ X) (10 ∷ Y) (omega arith) (omega arith) (ap (drop 3) f) in
@@ -120,12 +126,12 @@ array-unique a b c d e a′ b′ c′ d′ e′ X Y q =
 differ : {A : Type 0} (i : ℕ) (X Y : List ℕ) → getD X i 0 ≢ getD Y i 0 → X ≡ Y → A
 differ i X Y n e = absurd (n (ap (λ (l : List ℕ). getD l i 0) e))
 
--- the group by the second byte of its word
+-- the group by the second byte of its word, or the space behind a word of one byte
 bySecond : ℕ → Group
 bySecond x =
     elim (eqb x 104) [
       | true ↦ chosenPins
-      | false ↦ elim (eqb x 105) [ true ↦ missingPins | false ↦ elim (eqb x 97) [ true ↦ laidSides | false ↦ closedTiles ] ]
+      | false ↦ elim (eqb x 105) [ true ↦ missingPins | false ↦ elim (eqb x 97) [ true ↦ laidSides | false ↦ elim (eqb x 32) [ true ↦ ownDs | false ↦ closedTiles ] ] ]
     ]
 
 second-of : (g : Group) (X : List ℕ) → bySecond (getD (groupWord g ++ (32 ∷ X)) 1 0) ≡ g
@@ -133,6 +139,7 @@ unfolding bySecond
 second-of chosenPins X = refl
 second-of missingPins X = refl
 second-of closedTiles X = refl
+second-of ownDs X = refl
 second-of laidSides X = refl
 
 -- what stands before a space is one group's word
@@ -150,6 +157,7 @@ unfolding lineBytes
 group-bytes chosenPins r c d v X = simp append-assoc
 group-bytes missingPins r c d v X = simp append-assoc
 group-bytes closedTiles r c d v X = simp append-assoc
+group-bytes ownDs r c d v X = simp append-assoc
 group-bytes laidSides r c d v X = simp append-assoc
 
 group-unique : (g h : Group) (r c d v r′ c′ d′ v′ : ℕ) (X Y : List ℕ) → T (says g d v) → T (says h d′ v′)
@@ -166,6 +174,7 @@ unfolding lineBytes
 apart chosenPins r c d v X = omega arith
 apart missingPins r c d v X = omega arith
 apart closedTiles r c d v X = omega arith
+apart ownDs r c d v X = omega arith
 apart laidSides r c d v X = omega arith
 
 -- the line tells its side and value

@@ -158,7 +158,7 @@ body-gains K p g r c d v t f =
 -- ---- readers between the array and the end
 
 record Open (R : Reader) : Type 0 where
-  stage : (1 ≤ rank (R .stage)) × (rank (R .stage) ≤ 5)
+  stage : (1 ≤ rank (R .stage)) × (rank (R .stage) ≤ 6)
   short : R .from ≤ 6400
   proper : Proper (R .job)
   clear : (h : Group) (i j e : ℕ) → 0 < valueAt (R .job) h i j e → turn h i j e < due R
@@ -204,7 +204,7 @@ open-after R g r c d v o t may =
 data Wrote (R : Reader) (P : List ℕ) : Type 0 where
   nothing : rank (R .stage) ≡ 0 → P ≡ [] → Wrote R P
   lines : Open R → body (R .job) ≡ P → Wrote R P
-  whole : rank (R .stage) ≡ 6 → textOf (R .job) ≡ P → Wrote R P
+  whole : rank (R .stage) ≡ 7 → textOf (R .job) ≡ P → Wrote R P
 
 wrote-array : (R : Reader) (P : List ℕ) (n m O D E : ℕ) → Wrote R P → rank (R .stage) ≡ 0 → T (arrayFits n m) → T (capsAdmitted O D E)
     → Wrote (record { stage = afterArray; from = 0; job = fresh n m O D E }) (P ++ lineBytes (arrayLine n m O D E))
@@ -239,7 +239,7 @@ wrote-group R P g r c d v (whole z e) t u =
     let m : ℕ = rank (within g) in
     absurd (omega (arith, rank-group g .1, leb→le n m (and-left (leb n m) _ (and-right (leb 1 n) _ t))))
 
-wrote-end : (R : Reader) (P : List ℕ) → Wrote R P → 1 ≤ rank (R .stage) → rank (R .stage) < 6
+wrote-end : (R : Reader) (P : List ℕ) → Wrote R P → 1 ≤ rank (R .stage) → rank (R .stage) < 7
     → Wrote (record { stage = finished; from = 0; job = R .job }) (P ++ lineBytes endLine)
 wrote-end R P (nothing z e) a b = absurd (omega arith)
 wrote-end R P (lines o e) a b = whole refl (text-body (R .job) ∙ ap (λ (X : List ℕ). X ++ lineBytes endLine) e)
@@ -263,11 +263,11 @@ wrote-line R P (groupLine g r c d v) R′ w e =
 wrote-line R P endLine R′ w e =
     let n : ℕ = rank (R .stage) in
     let a : Bool = leb 1 n in
-    let b : Bool = ltb n 6 in
+    let b : Bool = ltb n 7 in
     let (t, q) = asked (a && b) _ R′ e in
-    subst (λ (S : Reader). Wrote S (P ++ lineBytes endLine)) q (wrote-end R P w (leb→le 1 n (and-left a b t)) (ltb→lt n 6 (and-right a b t)))
+    subst (λ (S : Reader). Wrote S (P ++ lineBytes endLine)) q (wrote-end R P w (leb→le 1 n (and-left a b t)) (ltb→lt n 7 (and-right a b t)))
 
-wrote-all : (R : Reader) (P : List ℕ) → Wrote R P → rank (R .stage) ≡ 6 → textOf (R .job) ≡ P
+wrote-all : (R : Reader) (P : List ℕ) → Wrote R P → rank (R .stage) ≡ 7 → textOf (R .job) ≡ P
 wrote-all R P (nothing z e) y = absurd (omega arith)
 wrote-all R P (lines o e) y = absurd (omega (arith, o .stage .1))
 wrote-all R P (whole z e) y = e

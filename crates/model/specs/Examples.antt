@@ -5,7 +5,7 @@ use mathlib.Core.List.{List, [], _∷_}
 use mathlib.Core.Option.{Option, none, some}
 use Prim.Native.Nat.{ℕ}
 use lib.Dec.{eqb}
-use Rattle.model.specs.Job.{Job, fresh, marked, closed, sideOf, laidBy}
+use Rattle.model.specs.Job.{Job, fresh, marked, closed, sideOf, laidBy, withOwnD}
 use Rattle.model.specs.Near.{spot}
 use Rattle.model.specs.Pairing.{Pair}
 use Rattle.model.specs.Trial.{Trial, trialOf}
@@ -204,8 +204,15 @@ shortLaid =
       near = spot 1 1 1 ∷ spot 1 1 2 ∷ spot 2 0 1 ∷ spot 3 0 1 ∷ spot 4 0 1 ∷ spot 5 0 1 ∷ spot 6 0 1 ∷ [];
     }
 
+-- Caps 1 1 0, as in `short34`, and an own D of 2 for the open tile: its centre passes two wires, and near is what is near with caps 1 2 0.
+abbrev pub jobOwn : Job
+jobOwn = withOwnD job34 0 1 2
+
+abbrev pub shortOwn : Short
+shortOwn = record { job = jobOwn; greatest = 1; near = shortRim .near }
+
 abbrev pub shorts : List Short
-shorts = shortShut ∷ short34 ∷ shortRim ∷ shortMissing ∷ shortEntry ∷ shortLaid ∷ []
+shorts = shortShut ∷ short34 ∷ shortRim ∷ shortMissing ∷ shortEntry ∷ shortLaid ∷ shortOwn ∷ []
 
 -- ---- jobs whose chosen pins can all have a route
 

@@ -1,5 +1,5 @@
 -- Document 01, "The array and its channels" and "Runs": ranges, a job, and which pins and tiles it has. Assumes nothing.
-use mathlib.Core.Bool.{Bool, true, false, _&&_, _||_}
+use mathlib.Core.Bool.{Bool, true, false, not, _&&_, _||_}
 use Prim.Native.Nat.{ℕ, zero, suc, _-_, _*_, _/_}
 use lib.Dec.{T, eqb, leb, ltb}
 use Rattle.sums.specs.Counting.{when}
@@ -105,6 +105,13 @@ countOver A (ofWest r c) n =
 abbrev pub laidBy : Job → Side → ℕ → Job
 laidBy J s n = withAdded J (countOver (J .added) s n)
 
+-- K7: "A tile may have its own D": the job with that on the tile (r, c), 0 for none
+abbrev pub ownOver : Added → ℕ → ℕ → ℕ → Added
+ownOver A r c d = record { laidNorth = A .laidNorth; laidWest = A .laidWest; ownD = put (A .ownD) r c d; upward = A .upward; seen = A .seen }
+
+abbrev pub withOwnD : Job → ℕ → ℕ → ℕ → Job
+withOwnD J r c d = withAdded J (ownOver (J .added) r c d)
+
 -- ---- its limits
 
 -- how many wires the north and the west side of the tile (r, c) take: "its limit is O less that count"
@@ -114,9 +121,9 @@ northLimit J r c = J .O - J .added .laidNorth r c
 abbrev pub westLimit : Job → ℕ → ℕ → ℕ
 westLimit J r c = J .O - J .added .laidWest r c
 
--- the D of the tile (r, c)
+-- the D of the tile (r, c): its own, if it has one; "other tiles use the job's"
 abbrev pub tileD : Job → ℕ → ℕ → ℕ
-tileD J r c = J .D
+tileD J r c = elim (eqb (J .added .ownD r c) 0) [ true ↦ J .D | false ↦ J .added .ownD r c ]
 
 -- "a missing pin is a place passing at most E wires"
 abbrev pub extraLimit : Job → ℕ
@@ -155,12 +162,16 @@ module _ (J : Job) where
   abbrev pub hasWest : ℕ → ℕ → Bool
   hasWest r c = ltb (suc r) (J .rows) && ltb c (J .columns)
 
-  -- What each added value may be. "A side gets a count of laid wires, 0 to O"; the others are 0, as never set.
+  -- What each added value may be. "A side gets a count of laid wires, 0 to O"; the upward mark and the rectangles are 0, as never set.
   abbrev pub laidMost : ℕ
   laidMost = J .O
 
+  -- "A tile may have its own D, O to 2×O. Giving a tile the job's D means it has none of its own."
+  abbrev pub isOwnD : ℕ → Bool
+  isOwnD d = inRange (J .O) (2 * J .O) d && not (eqb d (J .D))
+
   abbrev pub ownDFits : ℕ → Bool
-  ownDFits d = eqb d 0
+  ownDFits d = eqb d 0 || isOwnD d
 
   abbrev pub upwardMost : ℕ
   upwardMost = 0

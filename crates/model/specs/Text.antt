@@ -8,17 +8,17 @@ use Prim.Native.Nat.{ℕ, zero, suc, _+_, _*_, _/_, _%_}
 use lib.Dec.{eqb, leb, ltb}
 use lib.ListN.{length, getD}
 use Rattle.sums.specs.Counting.{when, only, each}
-use Rattle.model.specs.Job.{Job, arrayFits, capsAdmitted, fresh, marked, closed, sideOf, laidOn, laidBy, isPin, isTile, isChosen, isMissing, isClosed, Proper}
+use Rattle.model.specs.Job.{Job, arrayFits, capsAdmitted, fresh, marked, closed, sideOf, laidOn, laidBy, withOwnD, isPin, isTile, isOwnD, isChosen, isMissing, isClosed, Proper}
 
 -- ---- lines
 
 -- the groups: "Every group line names one pin or tile"
 pub data Group : Type 0 where
-  chosenPins missingPins closedTiles laidSides : Group
+  chosenPins missingPins closedTiles ownDs laidSides : Group
 
--- in their order: "the chosen pins, the missing pins, the closed tiles", and laid wires "after the closed tiles"
+-- in their order: "the chosen pins, the missing pins, the closed tiles", and laid wires "after the closed tiles", tiles with their own D "between closed and laid"
 abbrev pub groups : List Group
-groups = chosenPins ∷ missingPins ∷ closedTiles ∷ laidSides ∷ []
+groups = chosenPins ∷ missingPins ∷ closedTiles ∷ ownDs ∷ laidSides ∷ []
 
 -- "One form a line": the array, one pin or tile of a group with the value that it gets on a side, the end
 pub data Line : Type 0 where
@@ -53,29 +53,33 @@ pinsWord = 112 ∷ 105 ∷ 110 ∷ 115 ∷ []
 abbrev pub capsWord : List ℕ
 capsWord = 99 ∷ 97 ∷ 112 ∷ 115 ∷ []
 
--- chosen, missing, closed, laid
+-- chosen, missing, closed, d, laid
 abbrev pub groupWord : Group → List ℕ
 groupWord chosenPins = 99 ∷ 104 ∷ 111 ∷ 115 ∷ 101 ∷ 110 ∷ []
 groupWord missingPins = 109 ∷ 105 ∷ 115 ∷ 115 ∷ 105 ∷ 110 ∷ 103 ∷ []
 groupWord closedTiles = 99 ∷ 108 ∷ 111 ∷ 115 ∷ 101 ∷ 100 ∷ []
+groupWord ownDs = 100 ∷ []
 groupWord laidSides = 108 ∷ 97 ∷ 105 ∷ 100 ∷ []
 
 -- n, e, s, w by the side code
 abbrev pub sideLetter : ℕ → ℕ
 sideLetter d = getD (110 ∷ 101 ∷ 115 ∷ 119 ∷ []) d 0
 
--- What a line has behind row and column to tell side and value: "`(laid 0 0 n 1)`, row, column, side, count"
+-- What a line has behind row and column to tell side and value: "`(d 0 0 3)`, row, column, value", "`(laid 0 0 n 1)`, row, column, side, count"
 abbrev pub tailOf : Group → ℕ → ℕ → List ℕ
 tailOf chosenPins d v = []
 tailOf missingPins d v = []
 tailOf closedTiles d v = []
+tailOf ownDs d v = numbers (v ∷ [])
 tailOf laidSides d v = 32 ∷ sideLetter d ∷ numbers (v ∷ [])
 
--- The sides and values that a line tells: a line without a tail has no side, and its word alone says the mark or the state. "Zero counts left out."
+-- The sides and values that a line tells: but for laid wires a line has no side, and where it has no tail its word alone says the mark or the state. "Zero counts
+-- left out."
 abbrev pub says : Group → ℕ → ℕ → Bool
 says chosenPins d v = eqb d 0 && eqb v 1
 says missingPins d v = eqb d 0 && eqb v 2
 says closedTiles d v = eqb d 0 && eqb v 1
+says ownDs d v = eqb d 0 && ltb 0 v
 says laidSides d v = ltb d 4 && ltb 0 v
 
 -- end
@@ -100,22 +104,23 @@ pub data Stage : Type 0 where
   begin afterArray finished : Stage
   within : Group → Stage
 
--- "the array, the chosen pins, the missing pins, the closed tiles, then the end", laid wires "after the closed tiles"
+-- "the array, the chosen pins, the missing pins, the closed tiles, then the end", the tiles' own D and then laid wires after the closed tiles
 abbrev pub rank : Stage → ℕ
 rank begin = 0
 rank afterArray = 1
 rank (within chosenPins) = 2
 rank (within missingPins) = 3
 rank (within closedTiles) = 4
-rank (within laidSides) = 5
-rank finished = 6
+rank (within ownDs) = 5
+rank (within laidSides) = 6
+rank finished = 7
 
 -- the group of a rank
 unfoldable pub groupOf : ℕ → Group
 groupOf n =
     elim (eqb n 2) [
       | true ↦ chosenPins
-      | false ↦ elim (eqb n 3) [ true ↦ missingPins | false ↦ elim (eqb n 4) [ true ↦ closedTiles | false ↦ laidSides ] ]
+      | false ↦ elim (eqb n 3) [ true ↦ missingPins | false ↦ elim (eqb n 4) [ true ↦ closedTiles | false ↦ elim (eqb n 5) [ true ↦ ownDs | false ↦ laidSides ] ] ]
     ]
 
 -- the order within a group: by row, then column, then side; "order by tile and then n, e, s, w"
@@ -153,6 +158,7 @@ abbrev pub names : Job → Group → ℕ → ℕ → ℕ → ℕ → Bool
 names J chosenPins r c d v = isPin J r c && says chosenPins d v
 names J missingPins r c d v = (isPin J r c && not (eqb (J .mark r c) 1)) && says missingPins d v
 names J closedTiles r c d v = isTile J r c && says closedTiles d v
+names J ownDs r c d v = (isTile J r c && isOwnD J v) && says ownDs d v
 names J laidSides r c d v = (isTile J r c && (writesSide r c d && leb v (J .O))) && says laidSides d v
 
 -- the job with the value at the pin, the tile or the side
@@ -160,6 +166,7 @@ abbrev pub named : Job → Group → ℕ → ℕ → ℕ → ℕ → Job
 named J chosenPins r c d v = marked J r c v
 named J missingPins r c d v = marked J r c v
 named J closedTiles r c d v = closed J r c v
+named J ownDs r c d v = withOwnD J r c v
 named J laidSides r c d v = laidBy J (sideOf r c d) v
 
 unfoldable pub admit : Reader → Line → Option Reader
@@ -196,11 +203,12 @@ Reading text v = Reads start 0 text v
 abbrev pub cells : Job → (ℕ → ℕ → List ℕ) → List ℕ
 cells J f = each (J .rows) (λ r. each (J .columns) (λ c. f r c))
 
--- the value that the job has in a group, at a pin or tile and on a side: 0 for none
+-- the value that the job has in a group, at a pin or tile and on a side: 0 for none, so that an own D is written "only where it differs from the job's"
 abbrev pub valueAt : Job → Group → ℕ → ℕ → ℕ → ℕ
 valueAt J chosenPins r c d = when (eqb d 0 && isChosen J r c) 1
 valueAt J missingPins r c d = when (eqb d 0 && isMissing J r c) 2
 valueAt J closedTiles r c d = when (eqb d 0 && isClosed J r c) 1
+valueAt J ownDs r c d = when (eqb d 0 && isTile J r c) (J .added .ownD r c)
 valueAt J laidSides r c d = when (ltb d 4 && (isTile J r c && writesSide r c d)) (laidOn J (sideOf r c d))
 
 -- the line for a value, and none for 0
