@@ -13,9 +13,9 @@ use lib.ListN.{length, getD, getElem?, take, drop, set, replicate, length-append
 use borrow.Rule.Slice.PartMut.{midOf, putMid, mid-len, post-is}
 use lib.Seq.{ext-getD, drop-at, getD-append-add, getD-drop, getD-take, getD-set-same, getD-set-other, length-take-le}
 use Rattle.sums.specs.Tests.{Same, same, other, same?, below-or}
-use Rattle.model.specs.Job.{Added, nothingAdded, Job, fresh, put, withAdded, marked, closed, Side, ofNorth, ofWest, laidBy}
+use Rattle.model.specs.Job.{Added, nothingAdded, Job, fresh, put, withAdded, marked, closed, Side, ofNorth, ofWest, laidBy, withOwnD}
 use Rattle.model.specs.Links.{LinkKind, Step}
-use Rattle.model.specs.Record.{recordSize, markPlane, statePlane, offset, jobOf, load, Legal, kinds, addedByte, kindByte, planeByte, headByte, recordOf, noLoads}
+use Rattle.model.specs.Record.{recordSize, markPlane, statePlane, ownDPlane, offset, jobOf, load, Legal, kinds, addedByte, kindByte, planeByte, headByte, recordOf, noLoads}
 use Rattle.model.specs.Record.{unwiredRecord, over}
 use Rattle.model.proofs.RecordOf.{bytes-none, length-record, head-back, cell-back, plane-added}
 use Rattle.model.proofs.Over.{get-over}
@@ -208,6 +208,30 @@ laid-with K f rec (ofWest r c) n long lr lc =
 pub laid-over : (K : Job) (rec : List ℕ) (s : Side) (n : ℕ) → recordSize ≤ length rec → sideRow s < 40 → sideColumn s < 40
     → set (over (unwiredRecord K) rec) (sideOffset s) n ≡ over (unwiredRecord (laidBy K s n)) rec
 laid-over K = laid-with K noLoads
+
+-- ---- a tile's own D
+
+pub own-with : (K : Job) (f : Step → ℕ) (rec : List ℕ) (r c d : ℕ) → recordSize ≤ length rec → r < 40 → c < 40
+    → set (over (recordOf K f) rec) (offset ownDPlane r c) d ≡ over (recordOf (withOwnD K r c d) f) rec
+own-with K f rec r c d long lr lc =
+    store-over K (withOwnD K r c d) f rec ownDPlane r c d long (omega arith) lr lc (λ i. refl) (sym (put-at (K .added .ownD) r c d)) by
+  where
+    added : (m p i j : ℕ) → p ≡ 15 + m → (p ≡ 17 → i ≡ r → j ≡ c → ⊥)
+        → getD (K .added .laidNorth i j ∷ K .added .laidWest i j ∷ K .added .ownD i j ∷ []) m 0
+        ≡ getD (K .added .laidNorth i j ∷ K .added .laidWest i j ∷ put (K .added .ownD) r c d i j ∷ []) m 0
+    added zero p i j e h = refl
+    added (suc zero) p i j e h = refl
+    added (suc (suc zero)) p i j e h = sym (put-else (K .added .ownD) r c d i j (h (omega arith)))
+    added (suc (suc (suc m))) p i j e h = refl
+
+    by : (q i j : ℕ) → (q ≡ ownDPlane → i ≡ r → j ≡ c → ⊥) → planeByte K f q i j ≡ planeByte (withOwnD K r c d) f q i j
+    by zero i j h = refl
+    by (suc zero) i j h = refl
+    by (suc (suc p)) i j h = added-planes K f (withOwnD K r c d .added) p i j (λ l. added (p - 15) p i j (omega arith) (λ e. h (omega arith)))
+
+pub own-over : (K : Job) (rec : List ℕ) (r c d : ℕ) → recordSize ≤ length rec → r < 40 → c < 40
+    → set (over (unwiredRecord K) rec) (offset ownDPlane r c) d ≡ over (unwiredRecord (withOwnD K r c d)) rec
+own-over K = own-with K noLoads
 
 -- ---- a new job
 

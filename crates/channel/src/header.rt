@@ -4,7 +4,7 @@ ghost use mathlib.Core.Bool.{not, _&&_, _||_};
 ghost use Prim.Native.Nat.{_≤_, _<_};
 ghost use lib.ListN.{length};
 ghost use Rattle.sums.specs.Counting.{when};
-ghost use Rattle.model.specs.Job.{sideOf, laidOn, isPin, isTile, isOpen, isChosen, isMissing};
+ghost use Rattle.model.specs.Job.{sideOf, laidOn, tileD, isPin, isTile, isOpen, isChosen, isMissing};
 ghost use Rattle.model.specs.Record.{jobOf, cell};
 ghost use Rattle.channel.specs.Laid.{sideOffset};
 ghost use Rattle.channel.specs.Map.{inGrid, rowOf, columnOf};
@@ -125,6 +125,15 @@ pub fn laid_on(rec: &[u8], r: usize, c: usize, side: usize) -> usize
     ensures { λ n. ⌜ (n ≡ laidOn (jobOf (now (rec .entry))) (sideOf r c side)) × (n < 256) ⌝ }
 {
     wide(rec[side_at(r, c, side)])
+}
+
+// The D of the tile that is the cell x: its own, or else the job's.
+pub fn diagonal_at(rec: &[u8], x: usize) -> usize
+    requires { ⌜ (32768 ≤ length (now rec)) × (41 ≤ x) × (x < 1641) ⌝ }
+    ensures { λ d. ⌜ (d ≡ tileD (jobOf (now (rec .entry))) (rowOf x) (columnOf x)) × (d < 256) ⌝ }
+{
+    let own = wide(rec[31127 + x]);
+    if own == 0 { diagonal(rec) } else { own }
 }
 
 // Whether (r, c) is a tile, r and c small enough for a sum.

@@ -6,13 +6,14 @@ pub mod loads; // how many wires go along a dart
 pub mod limits; // how many wires a dart takes
 pub mod places; // the places that darts lead to
 pub mod moves; // the moves of the search, and what a move stores
-pub mod write; // a new job, one mark, state or count, no wires
+pub mod write; // a new job, one mark, state, own D or count, no wires
 pub mod copy; // the bytes of a record
 
 pub use bits::lowest;
 pub use header::chosen_at;
 pub use header::columns;
 pub use header::diagonal;
+pub use header::diagonal_at;
 pub use header::extra;
 pub use header::is_chosen;
 pub use header::is_missing;
@@ -46,6 +47,7 @@ pub use table::reverse;
 pub use write::clear;
 pub use write::set_laid;
 pub use write::set_mark;
+pub use write::set_own;
 pub use write::set_state;
 pub use write::unwire;
 pub use write::write_fresh;

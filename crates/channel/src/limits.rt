@@ -11,7 +11,7 @@ ghost use Rattle.model.specs.Record.{kinds, jobOf};
 ghost use Rattle.channel.specs.Map.{rowOf, columnOf, cap, free, kindOf, codeOf, mayTake, reaches, ownerMark};
 use crate::header::clear_in;
 use crate::header::columns;
-use crate::header::diagonal;
+use crate::header::diagonal_at;
 use crate::header::extra;
 use crate::header::is_chosen;
 use crate::header::mark_at;
@@ -149,10 +149,10 @@ pub fn corner_limit(job: &[u8], d: usize) -> usize
 // How many wires pass the centre of the cell x at most.
 pub fn centre_most(job: &[u8], x: usize) -> usize
     requires { ⌜ (32768 ≤ length (now job)) × (41 ≤ x) × (x < 1641) ⌝ }
-    ensures { λ r. ⌜ r ≡ centreLimit (jobOf (now (job .entry)) .O) (tileD (jobOf (now (job .entry))) (rowOf x) (columnOf x)) ⌝ }
+    ensures { λ r. ⌜ (r ≡ centreLimit (jobOf (now (job .entry)) .O) (tileD (jobOf (now (job .entry))) (rowOf x) (columnOf x))) × (r < 256) ⌝ }
 {
     let corners = 2 * (orthogonal(job) / 2);
-    let most = diagonal(job);
+    let most = diagonal_at(job, x);
     if most < corners { 0 } else { most - corners }
 }
 

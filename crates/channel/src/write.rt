@@ -1,9 +1,9 @@
-// What an operation stores in a record: a new job, a mark, a tile's state, a side's count, and no wires. Every other byte stays.
+// What an operation stores in a record: a new job, a mark, a tile's state, a tile's own D, a side's count, and no wires. Every other byte stays.
 ghost use mathlib.Core.Path.{_≡_};
 ghost use Prim.Native.Nat.{_≤_, _<_};
 ghost use lib.ListN.{length, set};
 ghost use Rattle.model.specs.Job.{fresh, sideOf};
-ghost use Rattle.model.specs.Record.{recordSize, markPlane, statePlane, offset, unwiredRecord, over};
+ghost use Rattle.model.specs.Record.{recordSize, markPlane, statePlane, ownDPlane, offset, unwiredRecord, over};
 ghost use Rattle.channel.specs.Laid.{sideOffset};
 ghost use Rattle.channel.specs.Written.{zeros, unwired};
 use crate::header::side_at;
@@ -47,6 +47,15 @@ pub fn set_state(rec: &mut [u8], r: usize, c: usize, v: usize)
     ensures { λ _. ⌜ now (rec .exit) ≡ set (now (rec .entry)) (offset statePlane r c) v ⌝ }
 {
     rec[2368 + 40 * r + c] = v as u8;
+}
+
+// The own D of a tile, 0 for none.
+pub fn set_own(rec: &mut [u8], r: usize, c: usize, d: usize)
+    requires { ⌜ recordSize ≤ length (now rec) ⌝ }
+    requires { ⌜ (r < 40) × (c < 40) × (d < 256) ⌝ }
+    ensures { λ _. ⌜ now (rec .exit) ≡ set (now (rec .entry)) (offset ownDPlane r c) d ⌝ }
+{
+    rec[31168 + 40 * r + c] = d as u8;
 }
 
 // The count of a side of the tile (r, c).

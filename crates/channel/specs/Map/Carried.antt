@@ -12,12 +12,13 @@ use lib.Dec.{T, eqb, leb, eqb→eq, leb→le, not-T, T-not}
 use Rattle.sums.specs.Counting.{when, total}
 use Rattle.sums.specs.Tests.{and-left, and-right, so, so-not}
 use Rattle.sums.specs.Sums.{when-none}
-use Rattle.model.specs.Job.{Job, inRange, capsFit, centreLimit, northLimit, westLimit, tileD, extraLimit, isPin, isTile, isOpen, isChosen, isMissing, onRim}
+use Rattle.model.specs.Job.{Job, inRange, centreLimit, northLimit, westLimit, tileD, extraLimit, isPin, isTile, isOpen, isChosen, isMissing, onRim}
 use Rattle.model.specs.Links.{Compass, north, east, south, west, pin, missing, centre, nowhere, side, Place, at, theOutside, isPlace, beside, pinAt, behindOf, aheadOf, LinkKind, northSide, westSide, corner, spoke, leg, direct, link, limitOf, Step, go, come, turn, head, tail, isEntered, may, limit, pass, around}
 use Rattle.model.specs.Near.{size}
 use Rattle.model.specs.Loads.{departures, arrivals, Feasible}
 use Rattle.channel.specs.Map.{isNone}
 use Rattle.model.proofs.Listed.{may-leaves, may-enters}
+use Rattle.model.proofs.Own.{Capped, tile-range}
 
 pub when-at-most : (b : Bool) (x : ℕ) → when b x ≤ x
 when-at-most true x = le-refl x
@@ -222,25 +223,20 @@ module _ {J : Job} {f : Step → ℕ} (feasible : Feasible J f) where
   leg-le south r c = (omega arith, omega arith)
   leg-le west r c = (omega arith, omega arith)
 
-  module _ (caps : T (capsFit (J .O) (J .D) (J .E))) where
+  module _ (caps : Capped J) where
     rest : T (inRange (J .O) (2 * J .O) (J .D) && inRange 0 16 (J .E))
-    rest = and-right (inRange 1 8 (J .O)) (inRange (J .O) (2 * J .O) (J .D) && inRange 0 16 (J .E)) caps
+    rest = and-right (inRange 1 8 (J .O)) (inRange (J .O) (2 * J .O) (J .D) && inRange 0 16 (J .E)) (caps .job)
 
     O≤ : J .O ≤ 8
     O≤ =
         leb→le (J .O) 8
-        (and-right (leb 1 (J .O)) (leb (J .O) 8) (and-left (inRange 1 8 (J .O)) (inRange (J .O) (2 * J .O) (J .D) && inRange 0 16 (J .E)) caps))
-
-    D≤ : J .D ≤ 2 * J .O
-    D≤ =
-        leb→le (J .D) (2 * J .O)
-        (and-right (leb (J .O) (J .D)) (leb (J .D) (2 * J .O)) (and-left (inRange (J .O) (2 * J .O) (J .D)) (inRange 0 16 (J .E)) rest))
+        (and-right (leb 1 (J .O)) (leb (J .O) 8) (and-left (inRange 1 8 (J .O)) (inRange (J .O) (2 * J .O) (J .D) && inRange 0 16 (J .E)) (caps .job)))
 
     E≤ : J .E ≤ 16
     E≤ = leb→le (J .E) 16 (and-right (leb 0 (J .E)) (leb (J .E) 16) (and-right (inRange (J .O) (2 * J .O) (J .D)) (inRange 0 16 (J .E)) rest))
 
     pub passed-small : (b : Bool) (r c : ℕ) → arrivals f (at (elim b [ true ↦ centre | false ↦ missing ]) r c) ≤ 16
-    passed-small true r c = omega (arith, passed-le true r c, when-at-most (isOpen J r c) (centreLimit (J .O) (tileD J r c)), O≤, D≤)
+    passed-small true r c = omega (arith, passed-le true r c, when-at-most (isOpen J r c) (centreLimit (J .O) (tileD J r c)), O≤, tile-range J caps r c .1)
     passed-small false r c = omega (arith, passed-le false r c, when-at-most (isMissing J r c) (extraLimit J), E≤)
 
     pub step-small : (s : Step) → f s ≤ 16

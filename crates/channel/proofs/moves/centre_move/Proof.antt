@@ -23,7 +23,7 @@ returns c =
     let s = c .before .before .before .before .before .before in
     centre-open (jobOf (s .args .job .now)) (s .args .loads .now) (s .args .d) (is-dart (s .pre .2)) (s .pre .3)
     (sym (c .before .before .before .open-at .ensures) ∙ c .before .before .if1 .taken) _ _
-    (c .before .through-centre .ensures .0) (c .centre-most .ensures)
+    (c .before .through-centre .ensures .0) (c .centre-most .ensures .0)
 
 returns-2 : tie.Need-returns-2
 returns-2 c =

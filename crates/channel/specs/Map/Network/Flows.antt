@@ -11,13 +11,14 @@ use Rattle.sums.specs.Sums.{when-le, when-so, sum-cong}
 use Rattle.flow.specs.Balance.{out, back}
 use Rattle.flow.specs.Flow.{Flow}
 use Rattle.flow.specs.Slots.{out-slots}
-use Rattle.model.specs.Job.{Job, inRange, arrayFits, capsFit, isTile, isChosen, isMissing}
+use Rattle.model.specs.Job.{Job, inRange, arrayFits, isTile, isChosen, isMissing}
 use Rattle.model.specs.Links.{Compass, north, east, south, west, compassCode, PlaceKind, pin, missing, centre, nowhere, side, at, holds, isPlace, isPinKind, may, limit, pass}
 use Rattle.model.specs.Near.{spot, size, exitOf, exit}
 use Rattle.model.specs.Loads.{departures, arrivals, Feasible}
 use Rattle.model.specs.Record.{load}
 use Rattle.model.specs.Route.{chosenCount}
 use Rattle.model.specs.Wires.{isWired, wireCount}
+use Rattle.model.proofs.Own.{Capped}
 use Rattle.channel.specs.Map.{owners, ownerOf, codeOf}
 use Rattle.channel.specs.Map.{spots, darts, inGrid, rowOf, columnOf, stepOf, isLinkDart, isPassDart, passedOf, cap, free, want, outside, view, isStart, starts}
 use Rattle.channel.specs.Map.Grid.{grid-bounds}
@@ -260,7 +261,7 @@ module _ (J : Job) (fits : T (arrayFits (J .rows) (J .columns))) (rec : List ℕ
       by (side west) r c t = refl
 
   -- no dart carries more than 16
-  pub view-small : T (capsFit (J .O) (J .D) (J .E)) → (d : ℕ) → d < darts → view rec d ≤ 16
+  pub view-small : Capped J → (d : ℕ) → d < darts → view rec d ≤ 16
   unfolding view passedOf
   view-small caps d l =
       one (isLinkDart d) (isPassDart d) _ _ (link-or-pass d) (step-small feasible caps (stepOf d))
