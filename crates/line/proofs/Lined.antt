@@ -9,7 +9,7 @@ use lib.Dec.{T, eqb, ltb, lt→ltb}
 use native.Mathlib.Omega.{arith}
 use lib.ListN.{length, getD, drop}
 use Rattle.sums.specs.Tests.{Same, same, other, same?, and-both}
-use Rattle.model.specs.Text.{decimal, Group as TextGroup, chosenPins, missingPins, closedTiles, laidSides, sideLetter, says, arrayLine, groupLine, endLine}
+use Rattle.model.specs.Text.{decimal, Group as TextGroup, chosenPins, missingPins, closedTiles, ownDs, laidSides, sideLetter, says, arrayLine, groupLine, endLine}
 use Rattle.model.specs.Text.{groupWord, lineBytes, rank, within, groupOf, writesSide}
 use Rattle.model.proofs.TextUnique.{words-unique}
 use Rattle.model.proofs.TextNames.{rank-group, of-rank, says-some}
@@ -32,6 +32,7 @@ unfolding lineBytes
 group-bytes chosenPins r c d v X = simp append-assoc
 group-bytes missingPins r c d v X = simp append-assoc
 group-bytes closedTiles r c d v X = simp append-assoc
+group-bytes ownDs r c d v X = simp append-assoc
 group-bytes laidSides r c d v X = simp append-assoc
 
 -- behind the opening stand two numbers and a byte, and then the rest of the tail
@@ -39,12 +40,14 @@ pub behind-two : (g : TextGroup) (r c d v : ℕ) (X : List ℕ) → behind g r c
 behind-two chosenPins r c d v X = refl
 behind-two missingPins r c d v X = refl
 behind-two closedTiles r c d v X = refl
+behind-two ownDs r c d v X = simp append-assoc
 behind-two laidSides r c d v X = simp append-assoc
 
 pub stop-low : (g : TextGroup) → stop g < 48
 stop-low chosenPins = omega arith
 stop-low missingPins = omega arith
 stop-low closedTiles = omega arith
+stop-low ownDs = omega arith
 stop-low laidSides = omega arith
 
 -- (array (pins
@@ -68,44 +71,55 @@ array-bytes a b o d e X = simp append-assoc
 
 -- a fact of the group that a number stands for
 pub by-number : (P : TextGroup → Type 0) (n : ℕ) → (n ≡ 2 → P chosenPins) → (n ≡ 3 → P missingPins) → (n ≡ 4 → P closedTiles)
-    → (n ≢ 2 → n ≢ 3 → n ≢ 4 → P laidSides) → P (groupOf n)
+    → (n ≡ 5 → P ownDs) → (n ≢ 2 → n ≢ 3 → n ≢ 4 → n ≢ 5 → P laidSides) → P (groupOf n)
 unfolding groupOf
-by-number P n f g h k = by (eqb n 2) (same? n 2) (eqb n 3) (same? n 3) (eqb n 4) (same? n 4)
+by-number P n f g h o k = by (eqb n 2) (same? n 2) (eqb n 3) (same? n 3) (eqb n 4) (same? n 4) (eqb n 5) (same? n 5)
   where
-    by : (a : Bool) → Same n 2 a → (b : Bool) → Same n 3 b → (d : Bool) → Same n 4 d
+    by : (a : Bool) → Same n 2 a → (b : Bool) → Same n 3 b → (d : Bool) → Same n 4 d → (e : Bool) → Same n 5 e
         → P (elim a as (λ x. TextGroup) [
           | true ↦ chosenPins
-          | false ↦ elim b as (λ x. TextGroup) [ true ↦ missingPins | false ↦ elim d as (λ x. TextGroup) [ true ↦ closedTiles | false ↦ laidSides ] ]
+          | false ↦ elim b as (λ x. TextGroup) [
+            | true ↦ missingPins
+            | false ↦ elim d as (λ x. TextGroup) [ true ↦ closedTiles | false ↦ elim e as (λ x. TextGroup) [ true ↦ ownDs | false ↦ laidSides ] ]
+          ]
         ])
-    by true (same x) b s d t = f x
-    by false (other x) true (same y) d t = g y
-    by false (other x) false (other y) true (same z) = h z
-    by false (other x) false (other y) false (other z) = k x y z
+    by true (same x) b s d t e u = f x
+    by false (other x) true (same y) d t e u = g y
+    by false (other x) false (other y) true (same z) e u = h z
+    by false (other x) false (other y) false (other z) true (same w) = o w
+    by false (other x) false (other y) false (other z) false (other w) = k x y z w
 
 -- a fact of chosen pins where the number is theirs, and so on
 module _ (P : TextGroup → Type 0) (n : ℕ) where
   pub group-two : n ≡ 2 → P chosenPins → P (groupOf n)
-  group-two e p = by-number P n (λ x. p) (λ x. absurd (omega arith)) (λ x. absurd (omega arith)) (λ x y z. absurd (x e))
+  group-two e p =
+      by-number P n (λ x. p) (λ x. absurd (omega arith)) (λ x. absurd (omega arith)) (λ x. absurd (omega arith)) (λ x y z w. absurd (x e))
 
   pub group-three : n ≡ 3 → P missingPins → P (groupOf n)
-  group-three e p = by-number P n (λ x. absurd (omega arith)) (λ x. p) (λ x. absurd (omega arith)) (λ x y z. absurd (y e))
+  group-three e p =
+      by-number P n (λ x. absurd (omega arith)) (λ x. p) (λ x. absurd (omega arith)) (λ x. absurd (omega arith)) (λ x y z w. absurd (y e))
 
   pub group-four : n ≡ 4 → P closedTiles → P (groupOf n)
-  group-four e p = by-number P n (λ x. absurd (omega arith)) (λ x. absurd (omega arith)) (λ x. p) (λ x y z. absurd (z e))
+  group-four e p =
+      by-number P n (λ x. absurd (omega arith)) (λ x. absurd (omega arith)) (λ x. p) (λ x. absurd (omega arith)) (λ x y z w. absurd (z e))
 
-  pub group-else : n ≢ 2 → n ≢ 3 → n ≢ 4 → P laidSides → P (groupOf n)
-  group-else a b d p = by-number P n (λ x. absurd (a x)) (λ x. absurd (b x)) (λ x. absurd (d x)) (λ x y z. p)
+  pub group-five : n ≡ 5 → P ownDs → P (groupOf n)
+  group-five e p =
+      by-number P n (λ x. absurd (omega arith)) (λ x. absurd (omega arith)) (λ x. absurd (omega arith)) (λ x. p) (λ x y z w. absurd (w e))
+
+  pub group-else : n ≢ 2 → n ≢ 3 → n ≢ 4 → n ≢ 5 → P laidSides → P (groupOf n)
+  group-else a b d f p = by-number P n (λ x. absurd (a x)) (λ x. absurd (b x)) (λ x. absurd (d x)) (λ x. absurd (f x)) (λ x y z w. p)
 
 -- the number of a group is its rank
-rank-of : (n : ℕ) → 2 ≤ n → n ≤ 5 → rank (within (groupOf n)) ≡ n
-rank-of n l m = by-number (λ g. rank (within g) ≡ n) n sym sym sym (λ x y z. omega arith)
+rank-of : (n : ℕ) → 2 ≤ n → n ≤ 6 → rank (within (groupOf n)) ≡ n
+rank-of n l m = by-number (λ g. rank (within g) ≡ n) n sym sym sym sym (λ x y z w. omega arith)
 
 -- the byte after the column
 pub stop-plain : (n : ℕ) → 2 ≤ n → n < 5 → 41 ≡ stop (groupOf n)
-stop-plain n l m = by-number (λ g. 41 ≡ stop g) n (λ x. refl) (λ x. refl) (λ x. refl) (λ x y z. absurd (omega arith))
+stop-plain n l m = by-number (λ g. 41 ≡ stop g) n (λ x. refl) (λ x. refl) (λ x. refl) (λ x. absurd (omega arith)) (λ x y z w. absurd (omega arith))
 
-pub stop-laid : (n : ℕ) → n ≢ 2 → n ≢ 3 → n ≢ 4 → 32 ≡ stop (groupOf n)
-stop-laid n a b d = group-else (λ g. 32 ≡ stop g) n a b d refl
+pub stop-tail : (n : ℕ) → n ≢ 2 → n ≢ 3 → n ≢ 4 → 32 ≡ stop (groupOf n)
+stop-tail n a b d = by-number (λ g. 32 ≡ stop g) n (λ x. absurd (a x)) (λ x. absurd (b x)) (λ x. absurd (d x)) (λ x. refl) (λ x y z w. refl)
 
 -- the sides that a tile writes
 pub writes-north : (r c d : ℕ) → d ≡ 0 → eqb r 0 ≡ writesSide r c d
@@ -129,15 +143,33 @@ pub says-two : (n : ℕ) → n ≡ 3 → T (says (groupOf n) 0 2)
 says-two n e = group-three (λ g. T (says g 0 2)) n e tt
 
 pub says-one : (n : ℕ) → 2 ≤ n → n < 5 → n ≢ 3 → T (says (groupOf n) 0 1)
-says-one n l m f = by-number (λ g. T (says g 0 1)) n (λ x. tt) (λ x. absurd (f x)) (λ x. tt) (λ x y z. tt)
+says-one n l m f = by-number (λ g. T (says g 0 1)) n (λ x. tt) (λ x. absurd (f x)) (λ x. tt) (λ x. tt) (λ x y z w. tt)
 
 -- ---- the tail of a line
 
--- a group that is not the laid sides has none
+-- a group before that of own diagonals has none
 pub tail-plain : (text : List ℕ) (at n value : ℕ) → 2 ≤ n → n < 5 → at ≤ length text → T (says (groupOf n) 0 value) → value < 100
     → TailAt text at (groupOf n) (Tells 0 value at)
-tail-plain text at n value l m k t b =
-    (t, b, k, by-number (λ g. drop at text ≡ afterStop g 0 value (drop at text)) n (λ x. refl) (λ x. refl) (λ x. refl) (λ x y z. absurd (omega arith)))
+tail-plain text at n value l m k t b = (
+  t,
+  b,
+  k,
+  by-number (λ g. drop at text ≡ afterStop g 0 value (drop at text)) n (λ x. refl) (λ x. refl) (λ x. refl) (λ x. absurd (omega arith))
+      (λ x y z w. absurd (omega arith)),
+)
+
+module _ (text : List ℕ) (at : ℕ) where
+  pub own-no-number : NumberAt text at 41 Not → TailAt text at ownDs NotTail
+  own-no-number f d v X t l q = f v X l q
+
+  module _ (v next : ℕ) (i : drop at text ≡ decimal v ++ (41 ∷ drop next text)) where
+    pub own-zero : v ≡ 0 → TailAt text at ownDs NotTail
+    own-zero z x y X t l q =
+        let (a, b) = after-number v y 41 (drop next text) X (omega arith) (sym i ∙ q) in
+        omega (arith, says-some ownDs x y t .1)
+
+    pub own-is : v ≢ 0 → v < 100 → next ≤ length text → TailAt text at ownDs (Tells 0 v next)
+    own-is z k m = (lt→ltb 0 v (omega arith), k, m, i)
 
 module _ (text : List ℕ) (at : ℕ) where
   pub count-no-side : SideAt text at Not → TailAt text at laidSides NotTail
@@ -162,6 +194,7 @@ stop-unique : (g : TextGroup) (d v d′ v′ : ℕ) (X Y : List ℕ) → afterSt
 stop-unique chosenPins d v d′ v′ X Y e = e
 stop-unique missingPins d v d′ v′ X Y e = e
 stop-unique closedTiles d v d′ v′ X Y e = e
+stop-unique ownDs d v d′ v′ X Y e = after-number v v′ 41 X Y (omega arith) e .1
 stop-unique laidSides d v d′ v′ X Y e = after-number v v′ 41 X Y (omega arith) (ap (drop 2) e) .1
 
 -- ---- the rest of a line
@@ -188,7 +221,7 @@ module _ (text : List ℕ) (at group : ℕ) where
       pub rest-wrong : WordAt text end (10 ∷ []) Differs → RestAt text at g Wrong
       rest-wrong f x y d′ v′ X t′ lx ly lv q = f X (stop-unique g d v d′ v′ _ _ (sym i ∙ rest-then x y d′ v′ X q))
 
-      pub rest-is : (next : ℕ) → 2 ≤ group → group ≤ 5 → r < 100 → c < 100 → v < 100 → next ≤ length text → drop end text ≡ 10 ∷ drop next text
+      pub rest-is : (next : ℕ) → 2 ≤ group → group ≤ 6 → r < 100 → c < 100 → v < 100 → next ≤ length text → drop end text ≡ 10 ∷ drop next text
           → RestAt text at g (Group group r c d v next)
       rest-is next l m lr lc lv k q = (
         sym (rank-of group l m),
@@ -214,6 +247,7 @@ unfolding lineBytes
 opening-goes-on chosenPins X Y e = differ 1 _ _ (omega arith) e
 opening-goes-on missingPins X Y e = differ 1 _ _ (omega arith) e
 opening-goes-on closedTiles X Y e = differ 1 _ _ (omega arith) e
+opening-goes-on ownDs X Y e = differ 1 _ _ (omega arith) e
 opening-goes-on laidSides X Y e = differ 1 _ _ (omega arith) e
 
 module _ (text : List ℕ) (at : ℕ) where
@@ -246,7 +280,7 @@ module _ (text : List ℕ) (at : ℕ) where
   unfolding lineBytes
   line-none f h = (λ g r c d v X t lr lc lv e. f g (behind g r c d v X) (e ∙ group-bytes g r c d v X), λ X e. h X e)
 
-  pub each-opening : ((i : ℕ) → i < 4 → WordAt text at (opening (groupOf (2 + i))) Differs) → (g : TextGroup) → WordAt text at (opening g) Differs
+  pub each-opening : ((i : ℕ) → i < 5 → WordAt text at (opening (groupOf (2 + i))) Differs) → (g : TextGroup) → WordAt text at (opening g) Differs
   each-opening f g =
       let (l, m) = rank-group g in
       let e : 2 + (rank (within g) - 2) ≡ rank (within g) = omega arith in

@@ -5,7 +5,7 @@ use mathlib.Core.List.{List, [], _∷_, _++_}
 use Prim.Native.Nat.{ℕ, _≤_, _<_}
 use lib.Dec.{T}
 use lib.ListN.{length, drop}
-use Rattle.model.specs.Text.{decimal, Group as TextGroup, chosenPins, missingPins, closedTiles, laidSides, groupWord, sideLetter, tailOf, says, arrayLine, groupLine}
+use Rattle.model.specs.Text.{decimal, Group as TextGroup, chosenPins, missingPins, closedTiles, ownDs, laidSides, groupWord, sideLetter, tailOf, says, arrayLine, groupLine}
 use Rattle.model.specs.Text.{endLine, lineBytes, rank, within}
 use Rattle.line.specs.declared.lines.Line.{Line}
 use Rattle.line.specs.declared.lines.Line.the-variants.{Group, End, Wrong}
@@ -27,6 +27,7 @@ abbrev pub stop : TextGroup → ℕ
 stop chosenPins = 41
 stop missingPins = 41
 stop closedTiles = 41
+stop ownDs = 32
 stop laidSides = 32
 
 -- what the line has behind that byte, up to what follows its parenthesis
@@ -34,6 +35,7 @@ abbrev pub afterStop : TextGroup → ℕ → ℕ → List ℕ → List ℕ
 afterStop chosenPins d v X = X
 afterStop missingPins d v X = X
 afterStop closedTiles d v X = X
+afterStop ownDs d v X = decimal v ++ (41 ∷ X)
 afterStop laidSides d v X = sideLetter d ∷ 32 ∷ (decimal v ++ (41 ∷ X))
 
 -- the side and the value that the line tells there

@@ -15,16 +15,17 @@ use crate::words::END;
 use crate::words::GROUP_END;
 use crate::words::LAID;
 use crate::words::MISSING;
+use crate::words::OWN;
 ghost use mathlib.Core.Path.{_≡_};
 ghost use Prim.Native.Nat.{_≤_, _<_};
 ghost use lib.Dec.{T};
 ghost use lib.ListN.{length};
-ghost use Rattle.model.specs.Text.{laidSides, says, writesSide, groupOf};
+ghost use Rattle.model.specs.Text.{ownDs, laidSides, says, writesSide, groupOf};
 ghost use Rattle.line.specs.Scan.{WordAt};
 ghost use Rattle.line.specs.Lines.{opening, stop, TailAt, RestAt, LineAt, ArrayAt};
 
-// A line after the array line, with the offset past it. The groups are 2 chosen, 3 missing, 4 closed, 5 laid; the value is the mark, the state or the count
-// that the pin, the tile or the tile's side gets.
+// A line after the array line, with the offset past it. The groups are 2 chosen, 3 missing, 4 closed, 5 own D, 6 laid; the value is the mark, the state, the D
+// or the count that the pin, the tile or the tile's side gets.
 pub enum Line {
     Group {
         group: usize,
@@ -53,6 +54,9 @@ fn opening_at(text: &[u8], at: usize, group: usize) -> Word
     }
     if group == 4 {
         return word_at(text, at, &CLOSED);
+    }
+    if group == 5 {
+        return word_at(text, at, &OWN);
     }
     word_at(text, at, &LAID)
 }
@@ -94,6 +98,20 @@ pub enum Tail {
     Not,
 }
 
+// A tile's own D, 1 or more.
+fn own_at(text: &[u8], at: usize) -> Tail
+    requires { ⌜ at ≤ length (now text) ⌝ }
+    ensures { λ r. ⌜ TailAt (now (text .entry)) at ownDs r ⌝ }
+{
+    let Number::Is(value, next) = number_at(text, at, b')') else {
+        return Tail::Not;
+    };
+    if value == 0 {
+        return Tail::Not;
+    }
+    Tail::Tells(0, value, next)
+}
+
 // A side and a count of laid wires, 1 or more.
 fn count_at(text: &[u8], at: usize) -> Tail
     requires { ⌜ at ≤ length (now text) ⌝ }
@@ -113,18 +131,21 @@ fn count_at(text: &[u8], at: usize) -> Tail
 
 // The side and the value of a line whose column ends before an offset.
 fn tail_at(text: &[u8], at: usize, group: usize) -> Tail
-    requires { ⌜ (at ≤ length (now text)) × (2 ≤ group) × (group ≤ 5) ⌝ }
+    requires { ⌜ (at ≤ length (now text)) × (2 ≤ group) × (group ≤ 6) ⌝ }
     ensures { λ r. ⌜ TailAt (now (text .entry)) at (groupOf group) r ⌝ }
 {
-    if group == 5 {
+    if group == 6 {
         return count_at(text, at);
+    }
+    if group == 5 {
+        return own_at(text, at);
     }
     Tail::Tells(0, value_of(group), at)
 }
 
 // A line of a group behind its opening: a row, a column and a tail, to the end of the line.
 fn rest_at(text: &[u8], at: usize, group: usize) -> Line
-    requires { ⌜ (at ≤ length (now text)) × (2 ≤ group) × (group ≤ 5) ⌝ }
+    requires { ⌜ (at ≤ length (now text)) × (2 ≤ group) × (group ≤ 6) ⌝ }
     ensures { λ r. ⌜ RestAt (now (text .entry)) at (groupOf group) r ⌝ }
 {
     let stop = stop_of(group);
@@ -152,7 +173,7 @@ pub fn line_at(text: &[u8], at: usize) -> Line
     requires { ⌜ at ≤ length (now text) ⌝ }
     ensures { λ r. ⌜ LineAt (now (text .entry)) at r ⌝ }
 {
-    for k in 0..4 {
+    for k in 0..5 {
         let group = 2 + k;
         if let Word::Ends(n) = opening_at(text, at, group) {
             return rest_at(text, n, group);

@@ -12,6 +12,8 @@ pub const MISSING: [u8; 9] = *b"(missing ";
 
 pub const CLOSED: [u8; 8] = *b"(closed ";
 
+pub const OWN: [u8; 3] = *b"(d ";
+
 pub const LAID: [u8; 6] = *b"(laid ";
 
 pub const GROUP_END: [u8; 1] = *b"\n";

@@ -15,10 +15,10 @@ use Rattle.line.proofs.lines.line_at.Statement.{statement}
 use Rattle.line.proofs.lines.line_at.Tie as tie
 
 abbrev Inv-loop : tie.InvT-loop
-Inv-loop text at k₀ t7 k = (k ≤ 4) × ((i : ℕ) → i < k → WordAt text at (opening (groupOf (2 + i))) Differs)
+Inv-loop text at k₀ t7 k = (k ≤ 5) × ((i : ℕ) → i < k → WordAt text at (opening (groupOf (2 + i))) Differs)
 
 abbrev μ-loop : tie.MeasureT-loop
-μ-loop text at k₀ t7 k = 4 - k
+μ-loop text at k₀ t7 k = 5 - k
 
 loop-holds : tie.Need-loop-holds Inv-loop μ-loop
 loop-holds c = (omega arith, λ i l. absurd (omega arith))
