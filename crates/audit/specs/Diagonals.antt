@@ -1,14 +1,14 @@
--- Each diagonal of an open tile is crossed inside that tile at most D times. A diagonal cuts two corners, opposite each other, and every wire through the
--- centre may cross it: the corners take O/2 wires each, and the centre passes what D leaves. So it holds of feasible loads alone. Assumes nothing.
+-- Each diagonal of an open tile is crossed inside that tile at most as often as the tile's D says, its own or the job's. A diagonal cuts two corners,
+-- opposite each other, and every wire through the centre may cross it: the corners take O/2 wires each, and the centre passes what the tile's D leaves. So it
+-- holds of feasible loads alone. Assumes nothing.
 use mathlib.Core.Path.{refl}
-use mathlib.Core.Bool.{_&&_}
-use Prim.Native.Nat.{ℕ, _+_, _*_, _/_, _≤_}
+use Prim.Native.Nat.{ℕ, _+_, _/_, _≤_}
 use native.Mathlib.Omega.{arith}
-use lib.Dec.{T, leb, leb→le}
-use Rattle.sums.specs.Tests.{and-left, and-right}
-use Rattle.model.specs.Job.{Job, inRange, capsFit, centreLimit, tileD, isOpen}
+use lib.Dec.{T}
+use Rattle.model.specs.Job.{Job, centreLimit, tileD, isOpen}
 use Rattle.model.specs.Links.{Compass, clockwise, centre, at, corner, Step, go, come, limitOf}
 use Rattle.model.specs.Loads.{arrivals, Feasible}
+use Rattle.model.proofs.Own.{Capped, tile-range}
 
 -- the wires on a link, both ways together
 abbrev pub onCorner : (Step → ℕ) → Compass → ℕ → ℕ → ℕ
@@ -18,14 +18,7 @@ onCorner f d r c = f (go (corner d) r c) + f (come (corner d) r c)
 abbrev pub crossing : (Step → ℕ) → Compass → ℕ → ℕ → ℕ
 crossing f d r c = onCorner f d r c + onCorner f (clockwise (clockwise d)) r c + arrivals f (at centre r c)
 
-module _ (J : Job) (caps : T (capsFit (J .O) (J .D) (J .E))) (f : Step → ℕ) (feasible : Feasible J f) where
-  diagonal-least : J .O ≤ J .D
-  diagonal-least =
-      leb→le (J .O) (J .D)
-      (and-left (leb (J .O) (J .D)) (leb (J .D) (2 * (J .O)))
-      (and-left (inRange (J .O) (2 * (J .O)) (J .D)) (inRange 0 16 (J .E))
-      (and-right (inRange 1 8 (J .O)) (inRange (J .O) (2 * (J .O)) (J .D) && inRange 0 16 (J .E)) caps)))
-
+module _ (J : Job) (caps : Capped J) (f : Step → ℕ) (feasible : Feasible J f) where
   corner-limit : (d : Compass) (r c : ℕ) → onCorner f d r c ≤ J .O / 2
   unfolding limitOf
   corner-limit d r c = feasible .limits (go (corner d) r c) (J .O / 2) refl
@@ -35,4 +28,4 @@ module _ (J : Job) (caps : T (capsFit (J .O) (J .D) (J .E))) (f : Step → ℕ) 
 
   pub diagonal-crossed : (d : Compass) (r c : ℕ) → T (isOpen J r c) → crossing f d r c ≤ tileD J r c
   diagonal-crossed d r c t =
-      omega (arith, corner-limit d r c, corner-limit (clockwise (clockwise d)) r c, centre-limit r c t, diagonal-least)
+      omega (arith, corner-limit d r c, corner-limit (clockwise (clockwise d)) r c, centre-limit r c t, tile-range J caps r c .0)

@@ -10,12 +10,13 @@ use Rattle.sums.specs.Tests.{and-left, and-right, and-both}
 use Rattle.model.specs.Job.{Job, arrayFits, capsFit}
 use Rattle.model.specs.Record.{recordSize, jobOf}
 use Rattle.model.proofs.Added.{unset-fits}
-use Rattle.cell.specs.Cell.{valuesFit, countsFit, linksFit, placesEven}
+use Rattle.cell.specs.Cell.{valuesFit, countsFit, ownFits, linksFit, placesEven}
 use Rattle.channel.specs.Map.{rowOf, columnOf}
 use Rattle.cell.specs.Cell.Grid.{by-number, by-row}
 use Rattle.cell.specs.Cell.Links.{LoadsFit, links-all, links-pass}
 use Rattle.cell.specs.Cell.Places.{LoadsEven, places-all, places-pass}
 use Rattle.cell.specs.Cell.Counts.{counts-pass, norths-all, wests-all}
+use Rattle.cell.specs.Cell.Own.{own-pass, owns-all}
 use Rattle.cell.specs.Cell.Values.{Values, values-all, values-pass}
 use Rattle.cell.specs.Unused.{unusedClear, header-clear, none-set, unused-pass}
 use Rattle.audit.specs.Feasible.{FeasibleRecord, Decides}
@@ -30,9 +31,9 @@ module _ (rec : List ℕ) where
 
   -- a cell passes its tests
   unfoldable pub cellFits : ℕ → ℕ → Bool
-  cellFits r c = (valuesFit rec r c && countsFit rec r c) && (linksFit rec r c && placesEven rec r c)
+  cellFits r c = (valuesFit rec r c && (countsFit rec r c && ownFits rec r c)) && (linksFit rec r c && placesEven rec r c)
 
-  pub cell-is : (r c : ℕ) → ((valuesFit rec r c && countsFit rec r c) && (linksFit rec r c && placesEven rec r c)) ≡ cellFits r c
+  pub cell-is : (r c : ℕ) → ((valuesFit rec r c && (countsFit rec r c && ownFits rec r c)) && (linksFit rec r c && placesEven rec r c)) ≡ cellFits r c
   unfolding cellFits
   cell-is r c = refl
 
@@ -49,17 +50,23 @@ module _ (rec : List ℕ) where
   module _ (long : recordSize ≤ length rec) (n : T numbersFit) (u : T (unusedClear rec)) (t : (r c : ℕ) → r < 40 → c < 40 → T (cellFits r c)) where
     loads-part : (r c : ℕ) → r < 40 → c < 40 → T (linksFit rec r c && placesEven rec r c)
     unfolding cellFits
-    loads-part r c a b = and-right (valuesFit rec r c && countsFit rec r c) (linksFit rec r c && placesEven rec r c) (t r c a b)
+    loads-part r c a b = and-right (valuesFit rec r c && (countsFit rec r c && ownFits rec r c)) (linksFit rec r c && placesEven rec r c) (t r c a b)
 
-    values-part : (r c : ℕ) → r < 40 → c < 40 → T (valuesFit rec r c && countsFit rec r c)
+    values-part : (r c : ℕ) → r < 40 → c < 40 → T (valuesFit rec r c && (countsFit rec r c && ownFits rec r c))
     unfolding cellFits
-    values-part r c a b = and-left (valuesFit rec r c && countsFit rec r c) (linksFit rec r c && placesEven rec r c) (t r c a b)
+    values-part r c a b = and-left (valuesFit rec r c && (countsFit rec r c && ownFits rec r c)) (linksFit rec r c && placesEven rec r c) (t r c a b)
 
     values : (r c : ℕ) → Values rec r c
-    values = values-all rec (λ r c a b. and-left (valuesFit rec r c) (countsFit rec r c) (values-part r c a b))
+    values = values-all rec (λ r c a b. and-left (valuesFit rec r c) (countsFit rec r c && ownFits rec r c) (values-part r c a b))
+
+    added-part : (r c : ℕ) → r < 40 → c < 40 → T (countsFit rec r c && ownFits rec r c)
+    added-part r c a b = and-right (valuesFit rec r c) (countsFit rec r c && ownFits rec r c) (values-part r c a b)
 
     counts : (r c : ℕ) → r < 40 → c < 40 → T (countsFit rec r c)
-    counts r c a b = and-right (valuesFit rec r c) (countsFit rec r c) (values-part r c a b)
+    counts r c a b = and-left (countsFit rec r c) (ownFits rec r c) (added-part r c a b)
+
+    owns : (r c : ℕ) → r < 40 → c < 40 → T (ownFits rec r c)
+    owns r c a b = and-right (countsFit rec r c) (ownFits rec r c) (added-part r c a b)
 
     fit : LoadsFit rec
     fit = links-all rec (caps-fit n) (λ r c a b. and-left (linksFit rec r c) (placesEven rec r c) (loads-part r c a b))
@@ -76,7 +83,7 @@ module _ (rec : List ℕ) where
             caps = caps-fit n;
             marks = λ r c. values r c .mark;
             states = λ r c. values r c .state;
-            added = unset-fits (jobOf rec) (norths-all rec counts) (wests-all rec counts) (none-set rec u);
+            added = unset-fits (jobOf rec) (norths-all rec counts) (wests-all rec counts) (owns-all rec owns) (none-set rec u);
             loads = fit .bytes;
           };
           feasible = record {
@@ -108,11 +115,11 @@ module _ (rec : List ℕ) where
     cell-passes : (r c : ℕ) → T (cellFits r c)
     unfolding cellFits
     cell-passes r c =
-        and-both (valuesFit rec r c && countsFit rec r c) (linksFit rec r c && placesEven rec r c)
-        (and-both (valuesFit rec r c) (countsFit rec r c)
+        and-both (valuesFit rec r c && (countsFit rec r c && ownFits rec r c)) (linksFit rec r c && placesEven rec r c)
+        (and-both (valuesFit rec r c) (countsFit rec r c && ownFits rec r c)
         (values-pass rec r c
         (record { mark = g .values .marks r c; state = g .values .states r c; noPin = g .unused .marks r c; noTile = g .unused .states r c }))
-        (counts-pass rec (g .values .added) r c))
+        (and-both (countsFit rec r c) (ownFits rec r c) (counts-pass rec (g .values .added) r c) (own-pass rec (g .values .added) r c)))
         (and-both (linksFit rec r c) (placesEven rec r c)
         (links-pass rec
         (record {

@@ -9,6 +9,7 @@ ghost use Rattle.audit.specs.Feasible.{Decides};
 ghost use Rattle.audit.specs.Laws.{numbersFit, cellFits};
 use cell::counts_fit;
 use cell::links_fit;
+use cell::own_fits;
 use cell::pins_of;
 use cell::places_even;
 use cell::tiles_of;
@@ -20,7 +21,8 @@ fn cell(rec: &[u8], pin: &[bool; 1641], tile: &[bool; 1641], x: usize) -> bool
     requires { ⌜ T (numbersFit (now rec)) ⌝ }
     ensures { λ t. ⌜ t ≡ cellFits (now (rec .entry)) (rowOf x) (columnOf x) ⌝ }
 {
-    let values = values_fit(rec, pin, tile, x) & counts_fit(rec, tile, x);
+    let added = counts_fit(rec, tile, x) & own_fits(rec, tile, x);
+    let values = values_fit(rec, pin, tile, x) & added;
     let loads = links_fit(rec, pin, tile, x) & places_even(rec, pin, tile, x);
     values & loads
 }

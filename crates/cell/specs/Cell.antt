@@ -1,8 +1,9 @@
--- The tests of a cell (r, c): the mark of its pin, the state of its tile, the counts of its sides, the bytes of its 15 links, and the loads at its places. A link's byte is held
--- against the room that each of its two ways has. Every definition of this file is shut: a crate above sees its name and the laws. Assumes nothing.
+-- The tests of a cell (r, c): the mark of its pin, the state of its tile, the counts of its sides, its tile's own D, the bytes of its 15 links, and the loads at its places. A
+-- link's byte is held against the room that each of its two ways has. Every definition of this file is shut: a crate above sees its name and the laws. Assumes nothing.
 pub mod Tests
 pub mod Values
 pub mod Counts
+pub mod Own
 pub mod Links
 pub mod Rooms
 pub mod Sums
@@ -14,7 +15,7 @@ use mathlib.Core.Option.{Option, none, some}
 use Prim.Native.Nat.{ℕ, _+_}
 use lib.Dec.{eqb, leb, ltb}
 use Rattle.sums.specs.Counting.{when}
-use Rattle.model.specs.Job.{Job, isPin, isTile, isOpen, isChosen, isMissing, hasNorth, hasWest, centreLimit, tileD, extraLimit}
+use Rattle.model.specs.Job.{Job, isPin, isTile, isOpen, isChosen, isMissing, hasNorth, hasWest, ownDFits, centreLimit, tileD, extraLimit}
 use Rattle.model.specs.Links.{Compass, north, east, south, west, pin, missing, centre, side, Place, at, LinkKind, northSide, westSide, corner, spoke, leg, direct, Step, go, come, may, limit}
 use Rattle.model.specs.Loads.{arrivals, departures}
 use Rattle.model.specs.Record.{loadPlane, cell, jobOf, load}
@@ -53,6 +54,10 @@ module _ (rec : List ℕ) where
   -- the counts of wires already laid on the sides that stand at the cell are at most O, and 0 where there is no side
   pub countsFit : ℕ → ℕ → Bool
   countsFit r c = leb (J .added .laidNorth r c) (when (hasNorth J r c) (J .O)) && leb (J .added .laidWest r c) (when (hasWest J r c) (J .O))
+
+  -- the tile's own D is one that it may have, or 0, and 0 where there is no tile
+  pub ownFits : ℕ → ℕ → Bool
+  ownFits r c = elim (isTile J r c) [ true ↦ ownDFits J (J .added .ownD r c) | false ↦ eqb (J .added .ownD r c) 0 ]
 
   -- ---- links
 

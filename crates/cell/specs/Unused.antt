@@ -1,5 +1,4 @@
--- The bytes of a record that nothing uses yet, those behind the header's five numbers and the plane of own diagonals, and when all of them are 0. The
--- definitions are shut. Assumes nothing.
+-- The bytes of a record that nothing uses yet, those behind the header's five numbers, and when all of them are 0. The definitions are shut. Assumes nothing.
 use mathlib.Core.Path.{_≡_, refl, sym, ap, subst, _∙_}
 use mathlib.Core.Logic.{_⊎_, inl, inr}
 use mathlib.Core.Bool.{Bool, true, _&&_}
@@ -14,10 +13,9 @@ use Rattle.sums.specs.Counting.{when, sum}
 use Rattle.sums.specs.Sums.{when-none, sum-none, sum-tight}
 use Rattle.sums.specs.Tests.{below-or, and-left, and-right, and-both, so, both-ways}
 use Rattle.model.specs.Job.{AddedFits}
-use Rattle.model.specs.Record.{recordSize, ownDPlane, offset, cell, addedOf, jobOf, Unused}
+use Rattle.model.specs.Record.{addedOf, jobOf, Unused}
 use Rattle.model.proofs.Added.{Unset, fits-unset}
-use Rattle.model.proofs.RecordOf.{inCells, cells-row, cells-column}
-use Rattle.model.proofs.JobBytes.{cell-get, seen-get}
+use Rattle.model.proofs.JobBytes.{seen-get}
 
 module _ (rec : List ℕ) where
   -- n bytes from `start` on are 0
@@ -25,7 +23,7 @@ module _ (rec : List ℕ) where
   isClear start n = eqb (sum n (λ i. getD rec (start + i) 0)) 0
 
   pub unusedClear : Bool
-  unusedClear = isClear 5 763 && isClear 31168 1600
+  unusedClear = isClear 5 763
 
   -- as a program reads them, byte by byte
   pub clear-none : (start : ℕ) → true ≡ isClear start 0
@@ -42,7 +40,7 @@ module _ (rec : List ℕ) where
           (λ t. so (eq-eqb (a + b) 0 (omega (arith, eqb→eq a 0 (and-left (eqb a 0) (eqb b 0) t), eqb→eq b 0 (and-right (eqb a 0) (eqb b 0) t)))))
           (λ t. and-both (eqb a 0) (eqb b 0) (so (eq-eqb a 0 (omega (arith, eqb→eq (a + b) 0 t)))) (so (eq-eqb b 0 (omega (arith, eqb→eq (a + b) 0 t)))))
 
-  pub unused-is : (isClear 5 763 && isClear 31168 1600) ≡ unusedClear
+  pub unused-is : isClear 5 763 ≡ unusedClear
   unfolding unusedClear
   unused-is = refl
 
@@ -66,20 +64,11 @@ module _ (rec : List ℕ) where
   module _ (t : T unusedClear) where
     pub header-clear : (i : ℕ) → 5 ≤ i → i < 768 → getD rec i 0 ≡ 0
     unfolding unusedClear
-    header-clear = clear-at 5 763 (and-left (isClear 5 763) (isClear 31168 1600) t)
+    header-clear = clear-at 5 763 t
 
-    plane-clear : (i : ℕ) → offset ownDPlane 0 0 ≤ i → i < recordSize → getD rec i 0 ≡ 0
-    unfolding unusedClear
-    plane-clear = clear-at 31168 1600 (and-right (isClear 5 763) (isClear 31168 1600) t)
-
-  -- ---- what requests add, of which but the counts all is 0 yet
+  -- ---- what requests add: but for counts and own diagonals all is 0 yet
 
   module _ (t : T unusedClear) where
-    own-clear : (r c : ℕ) → cell rec ownDPlane r c ≡ 0
-    unfolding cell
-    own-clear r c =
-        when-none (inCells r c) _ (λ u. plane-clear t (offset ownDPlane r c) (omega arith) (omega (arith, cells-row r c u, cells-column r c u)))
-
     seen-clear : (p k : ℕ) → when (ltb p 4 && ltb k 4) (getD rec (6 + 4 * p + k) 0) ≡ 0
     seen-clear p k =
         when-none (ltb p 4 && ltb k 4) _
@@ -89,7 +78,7 @@ module _ (rec : List ℕ) where
 
     pub none-set : Unset (jobOf rec .added)
     unfolding jobOf addedOf
-    none-set = record { ownD = own-clear; upward = header-clear t 5 (omega arith) (omega arith); seen = seen-clear }
+    none-set = record { upward = header-clear t 5 (omega arith) (omega arith); seen = seen-clear }
 
   module _ (f : AddedFits (jobOf rec)) (u : Unused rec) where
     unset : Unset (jobOf rec .added)
@@ -98,10 +87,6 @@ module _ (rec : List ℕ) where
     upward-none : getD rec 5 0 ≡ 0
     unfolding jobOf addedOf
     upward-none = unset .upward
-
-    own-none : (r c : ℕ) → cell rec ownDPlane r c ≡ 0
-    unfolding jobOf addedOf
-    own-none = unset .ownD
 
     header-none : (i : ℕ) → 5 ≤ i → i < 768 → getD rec i 0 ≡ 0
     header-none i l h = by (below-or i 6) (below-or i 22)
@@ -114,14 +99,6 @@ module _ (rec : List ℕ) where
             ap (λ (n : ℕ). getD rec n 0) k ∙ (sym (seen-get rec j (omega arith)) ∙ unset .seen (j / 4) (j % 4))
         by (inr m) (inr s) = u .header i s h
 
-    plane-none : (i : ℕ) → offset ownDPlane 0 0 ≤ i → i < recordSize → getD rec i 0 ≡ 0
-    plane-none i l h =
-        let j : ℕ = i - 768 in
-        let k : i ≡ 768 + j = omega arith in
-        let p : j / 1600 ≡ ownDPlane = omega arith in
-        ap (λ (n : ℕ). getD rec n 0) k
-        ∙ (sym (cell-get rec j (omega arith)) ∙ (ap (λ (n : ℕ). cell rec n (j % 1600 / 40) (j % 40)) p ∙ own-none (j % 1600 / 40) (j % 40)))
-
     pub unused-pass : T unusedClear
     unfolding unusedClear
-    unused-pass = and-both (isClear 5 763) (isClear 31168 1600) (clear-so 5 763 header-none) (clear-so 31168 1600 plane-none)
+    unused-pass = clear-so 5 763 header-none

@@ -56,10 +56,10 @@ pub fn near(rec: &[u8], p: usize, x: usize) -> u8
 
 // The byte of a plane at the cell x.
 pub fn byte(rec: &[u8], p: usize, x: usize) -> u8
-    requires { ⌜ (32768 ≤ length (now rec)) × (p < 19) × (41 ≤ x) × (x < 1641) ⌝ }
+    requires { ⌜ (32768 ≤ length (now rec)) × (p < 20) × (41 ≤ x) × (x < 1641) ⌝ }
     ensures { λ b. ⌜ b ≡ cell (now (rec .entry)) p (rowOf x) (columnOf x) ⌝ }
 {
-    near(rec, p, x)
+    rec[727 + 1600 * p + x]
 }
 
 // Whether the cell x is an open tile.

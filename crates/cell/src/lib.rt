@@ -1,4 +1,4 @@
-// The tests of a record's cells, by the numbers of the cells: a cell's values and counts, the bytes of its links, and the loads at its places. No test has a way out
+// The tests of a record's cells, by the numbers of the cells: a cell's values, counts and own D, the bytes of its links, and the loads at its places. No test has a way out
 // and none divides, so that a loop over the cells can be made one of vectors. The test of the bytes that nothing uses stands beside them.
 mod grid; // the pins and the tiles by number
 mod links; // the bytes of a cell's links
@@ -15,8 +15,9 @@ ghost use lib.ListN.{length};
 ghost use Rattle.model.specs.Job.{capsFit};
 ghost use Rattle.model.specs.Record.{jobOf};
 ghost use Rattle.channel.specs.Map.{rowOf, columnOf};
-ghost use Rattle.cell.specs.Cell.{valuesFit, countsFit, linksFit, placesEven};
+ghost use Rattle.cell.specs.Cell.{valuesFit, countsFit, ownFits, linksFit, placesEven};
 ghost use Rattle.cell.specs.Cell.Grid.{Pins, Tiles};
+use channel::diagonal;
 use channel::orthogonal;
 use grid::byte;
 use links::corners;
@@ -50,6 +51,20 @@ pub fn counts_fit(rec: &[u8], tile: &[bool; 1641], x: usize) -> bool
     north & west
 }
 
+// Whether the tile's own D is in range and not the job's, or 0 for none; and 0 where there is no tile.
+pub fn own_fits(rec: &[u8], tile: &[bool; 1641], x: usize) -> bool
+    requires { ⌜ (32768 ≤ length (now rec)) × (41 ≤ x) × (x < 1641) × Tiles (now rec) (now tile) ⌝ }
+    requires { ⌜ T (capsFit (jobOf (now rec) .O) (jobOf (now rec) .D) (jobOf (now rec) .E)) ⌝ }
+    ensures { λ t. ⌜ t ≡ ownFits (now (rec .entry)) (rowOf x) (columnOf x) ⌝ }
+{
+    let own = byte(rec, 19, x);
+    let least = orthogonal(rec) as u8;
+    let most = (2 * orthogonal(rec)) as u8;
+    let range = (least <= own) & (own <= most);
+    let other = own != diagonal(rec) as u8;
+    (own == 0) | (tile[x] & (range & other))
+}
+
 // Whether the bytes of its links are in order: in range, and with no more wires each way than there is room.
 pub fn links_fit(rec: &[u8], pin: &[bool; 1641], tile: &[bool; 1641], x: usize) -> bool
     requires { ⌜ (32768 ≤ length (now rec)) × (41 ≤ x) × (x < 1641) × Pins (now rec) (now pin) × Tiles (now rec) (now tile) ⌝ }
@@ -63,7 +78,6 @@ pub fn links_fit(rec: &[u8], pin: &[bool; 1641], tile: &[bool; 1641], x: usize) 
 // Whether the loads at its places are: as many wires come as leave, and no more than may pass.
 pub fn places_even(rec: &[u8], pin: &[bool; 1641], tile: &[bool; 1641], x: usize) -> bool
     requires { ⌜ (32768 ≤ length (now rec)) × (41 ≤ x) × (x < 1641) × Pins (now rec) (now pin) × Tiles (now rec) (now tile) ⌝ }
-    requires { ⌜ T (capsFit (jobOf (now rec) .O) (jobOf (now rec) .D) (jobOf (now rec) .E)) ⌝ }
     ensures { λ t. ⌜ t ≡ placesEven (now (rec .entry)) (rowOf x) (columnOf x) ⌝ }
 {
     tile_even(rec, tile, x) & (centre(rec, tile, x) & pins(rec, pin, x))

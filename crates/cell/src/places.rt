@@ -4,7 +4,7 @@ ghost use mathlib.Core.Path.{_≡_};
 ghost use Prim.Native.Nat.{suc, _+_, _*_, _≤_, _<_};
 ghost use lib.Dec.{T};
 ghost use lib.ListN.{length, getD};
-ghost use Rattle.model.specs.Job.{capsFit, centreLimit, tileD};
+ghost use Rattle.model.specs.Job.{centreLimit, tileD};
 ghost use Rattle.model.specs.Links.{north, east, south, west, side, at};
 ghost use Rattle.model.specs.Record.{jobOf, forthPart, backPart};
 ghost use Rattle.channel.specs.Map.{rowOf, columnOf};
@@ -152,7 +152,7 @@ fn forth_sum(rec: &[u8], p: usize, x: usize) -> u16
 
 // How many wires pass the centre of the tile x at most.
 fn centre_room(rec: &[u8], x: usize) -> u16
-    requires { ⌜ (32768 ≤ length (now rec)) × (41 ≤ x) × (x < 1641) × T (capsFit (jobOf (now rec) .O) (jobOf (now rec) .D) (jobOf (now rec) .E)) ⌝ }
+    requires { ⌜ (32768 ≤ length (now rec)) × (41 ≤ x) × (x < 1641) ⌝ }
     ensures { λ n. ⌜ n ≡ centreLimit (jobOf (now (rec .entry)) .O) (tileD (jobOf (now (rec .entry))) (rowOf x) (columnOf x)) ⌝ }
 {
     centre_most(rec, x) as u16
@@ -161,7 +161,6 @@ fn centre_room(rec: &[u8], x: usize) -> u16
 // Whether as many wires come to the centre of an open tile as leave it, and no more than may pass.
 pub fn centre(rec: &[u8], tile: &[bool; 1641], x: usize) -> bool
     requires { ⌜ (32768 ≤ length (now rec)) × (41 ≤ x) × (x < 1641) × Tiles (now rec) (now tile) ⌝ }
-    requires { ⌜ T (capsFit (jobOf (now rec) .O) (jobOf (now rec) .D) (jobOf (now rec) .E)) ⌝ }
     ensures { λ t. ⌜ t ≡ centreEven (now (rec .entry)) (rowOf x) (columnOf x) ⌝ }
 {
     let come = back_sum(rec, 8, x);

@@ -16,10 +16,10 @@ fn is_clear(rec: &[u8], start: usize, n: usize) -> bool
     clear
 }
 
-// Whether the bytes that nothing uses yet, behind the header's numbers and in the last plane, are all 0.
+// Whether the bytes that nothing uses yet, behind the header's numbers, are all 0.
 pub fn unused_clear(rec: &[u8]) -> bool
     requires { ⌜ 32768 ≤ length (now rec) ⌝ }
     ensures { λ t. ⌜ t ≡ unusedClear (now (rec .entry)) ⌝ }
 {
-    is_clear(rec, 5, 763) & is_clear(rec, 31168, 1600)
+    is_clear(rec, 5, 763)
 }
