@@ -13,9 +13,10 @@ use Rattle.flow.specs.Residual.{Residual, Closed}
 use Rattle.flow.specs.Push.{push, more}
 use Rattle.flow.specs.Kept.{closed-kept, path-avoids}
 use Rattle.flow.specs.Less.{less-closed}
-use Rattle.model.specs.Job.{Job, arrayFits, capsFit}
+use Rattle.model.specs.Job.{Job, arrayFits}
 use Rattle.model.specs.Loads.{Feasible}
 use Rattle.model.specs.Record.{recordSize, load}
+use Rattle.model.proofs.Own.{Capped}
 use Rattle.channel.specs.Map.{outside, view, starts}
 use Rattle.channel.specs.Map.Network.{net, node-spot, net-dart, inside-net, closed-move}
 use Rattle.channel.specs.Map.Network.Flows.{feasible-flow}
@@ -39,7 +40,7 @@ module _ (J : Job) (fits : T (arrayFits (J .rows) (J .columns))) (rec : List ℕ
   inside = inside-net J S none
 
   -- What is closed stays closed when a path to the outside is laid.
-  pub dead-laid : (caps : T (capsFit (J .O) (J .D) (J .E))) → recordSize ≤ length rec → BytesFit rec → (u v : ℕ) (ds : List ℕ)
+  pub dead-laid : (caps : Capped J) → recordSize ≤ length rec → BytesFit rec → (u v : ℕ) (ds : List ℕ)
       → Unstarted (net J) (starts J rec) u → Path (net J) (Residual (net J) (view rec)) ds u v → T (outside J v)
       → (es : List ℕ) → ((x : ℕ) → times es x ≡ times ds x) → ClosedUnderMoves J (laidAll rec es) S
   dead-laid caps long bytes u v ds h p o es e d l t m =

@@ -14,12 +14,13 @@ use Rattle.flow.specs.Network.{times, Path, path-once, path-dart, path-map}
 use Rattle.flow.specs.Flow.{Flow, Unstarted}
 use Rattle.flow.specs.Residual.{Residual}
 use Rattle.flow.specs.Push.{push, push-flow, more, sum-more}
-use Rattle.model.specs.Job.{Job, arrayFits, capsFit, isChosen}
+use Rattle.model.specs.Job.{Job, arrayFits, isChosen}
 use Rattle.model.specs.Links.{pin, at}
 use Rattle.model.specs.Near.{exit}
 use Rattle.model.specs.Loads.{Feasible}
 use Rattle.model.specs.Record.{recordSize, load}
 use Rattle.model.specs.Wires.{isWired, wireCount}
+use Rattle.model.proofs.Own.{Capped}
 use Rattle.channel.specs.Map.{spots, outside, view, starts, moves}
 use Rattle.channel.specs.Map.Network.{net, net-outside, net-dart, unstarted-spot}
 use Rattle.channel.specs.Map.Starts.{wanted-pin, pin-spot}
@@ -47,7 +48,7 @@ pub moves-path : (J : Job) (rec : List ℕ) {ds : List ℕ} {u v : ℕ} → Path
 moves-path J rec p = path-map (λ d l m t. move-residual J rec d t) p
 
 module _ (J : Job) (fits : T (arrayFits (J .rows) (J .columns))) (rec : List ℕ) (feasible : Feasible J (load rec)) where
-  module _ (caps : T (capsFit (J .O) (J .D) (J .E))) (long : recordSize ≤ length rec) (bytes : BytesFit rec) (u v : ℕ) (ds : List ℕ)
+  module _ (caps : Capped J) (long : recordSize ≤ length rec) (bytes : BytesFit rec) (u v : ℕ) (ds : List ℕ)
       (h : Unstarted (net J) (starts J rec) u) (p : Path (net J) (Residual (net J) (view rec)) ds u v) (o : T (outside J v)) where
     -- the flow that the bytes agree with
     pub path-flow : Flow (net J) (push (net J) (view rec) ds) (more (starts J rec) u)

@@ -7,11 +7,12 @@ use Prim.Native.Nat.{ℕ, _-_, _*_, _/_, _%_, _≤_, _<_}
 use borrow.Author.Tests.{eq-eqb, ne-eqb}
 use lib.Dec.{T, eqb}
 use lib.ListN.{length, getD}
-use Rattle.model.specs.Job.{Job, arrayFits, capsFit}
+use Rattle.model.specs.Job.{Job, arrayFits}
 use Rattle.model.specs.Links.{pin, at}
 use Rattle.model.specs.Near.{exit}
 use Rattle.model.specs.Loads.{Feasible}
 use Rattle.model.specs.Record.{recordSize, load}
+use Rattle.model.proofs.Own.{Capped}
 use Rattle.channel.specs.Map.{spots, isStart, want, starts}
 use Rattle.augment.specs.Laid.{BytesFit}
 use Rattle.augment.specs.OneMore.{OneMore}
@@ -24,7 +25,7 @@ use Rattle.augment.specs.declared.next.Next.the-variants.{Laid, Nothing}
 -- the loads are feasible, and every load byte is in range
 pub record Held (J : Job) (rec : List ℕ) : Type 0 where
   pub fits : T (arrayFits (J .rows) (J .columns))
-  pub caps : T (capsFit (J .O) (J .D) (J .E))
+  pub caps : Capped J
   pub long : recordSize ≤ length rec
   pub bytes : BytesFit rec
   pub feasible : Feasible J (load rec)

@@ -326,7 +326,7 @@ module _ (J K : Job) (f : Step → ℕ) (A : Alike J K f) where
     pass-same : SameCaps J K → (k : PlaceKind) (r c : ℕ) → passOf K k r c ≡ passOf J k r c
     pass-same e pin r c = refl
     pass-same e missing r c = ap some (e .E)
-    pass-same e centre r c = ap₂ (λ (o d : ℕ). some (centreLimit o d)) (e .O) (e .D)
+    pass-same e centre r c = λ i. some (centreLimit (e .O i) (elim (eqb (e .added i .ownD r c) 0) as (λ _. ℕ) [ true ↦ e .D i | false ↦ e .added i .ownD r c ]))
     pass-same e outside r c = refl
     pass-same e nowhere r c = refl
     pass-same e (side d) r c = refl

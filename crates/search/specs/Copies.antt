@@ -32,7 +32,7 @@ module _ (rec : List ℕ) (legal : Legal rec) where
   front-held =
       record {
         fits = legal .values .array;
-        caps = legal .values .caps;
+        caps = record { job = legal .values .caps; tiles = legal .values .added };
         long = omega (arith, front-length rec (legal .long));
         bytes = λ k r c.
             subst (λ (b : ℕ). (b < 64) × (b ≢ 32)) (sym (front-cell rec (loadPlane k) r c (omega (arith, plane-below k))))

@@ -77,7 +77,7 @@ pub legal-held : {rec : List ℕ} → Legal rec → Held (jobOf rec) rec
 legal-held g =
     record {
       fits = g .values .array;
-      caps = g .values .caps;
+      caps = record { job = g .values .caps; tiles = g .values .added };
       long = g .long;
       bytes = λ k r c. g .values .loads k r c;
       feasible = g .sound .feasible;

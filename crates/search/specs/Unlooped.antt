@@ -15,9 +15,10 @@ use Rattle.flow.specs.Flow.{Flow, flow-cong}
 use Rattle.flow.specs.Residual.{Residual, undo}
 use Rattle.flow.specs.Push.{push}
 use Rattle.flow.specs.Cancel.{Loaded, cancel, times-rev, cancel-flow, cancel-total, cancel-push}
-use Rattle.model.specs.Job.{Job, arrayFits, capsFit}
+use Rattle.model.specs.Job.{Job, arrayFits}
 use Rattle.model.specs.Loads.{Feasible}
 use Rattle.model.specs.Record.{recordSize, load}
+use Rattle.model.proofs.Own.{Capped}
 use Rattle.channel.specs.Map.{spots, darts, rev, view, starts}
 use Rattle.channel.specs.Map.Back.{rev<}
 use Rattle.channel.specs.Map.Network.{net, net-darts, net-rev, net-dart, dart-net}
@@ -46,7 +47,7 @@ reverse-darts (d ∷ ds) l x (List·Memᴰ·head e) = subst (λ (y : ℕ). y < d
 reverse-darts (d ∷ ds) l x (List·Memᴰ·tail m) = reverse-darts ds (λ y n. l y (List·Memᴰ·tail n)) x m
 
 module _ (J : Job) (fits : T (arrayFits (J .rows) (J .columns))) (rec : List ℕ) (feasible : Feasible J (load rec)) where
-  module _ (caps : T (capsFit (J .O) (J .D) (J .E))) (long : recordSize ≤ length rec) (bytes : BytesFit rec) (u d : ℕ) (ds : List ℕ)
+  module _ (caps : Capped J) (long : recordSize ≤ length rec) (bytes : BytesFit rec) (u d : ℕ) (ds : List ℕ)
       (p : Path (net J) (Loaded (view rec)) (d ∷ ds) u u) where
     abbrev loop : List ℕ
     loop = d ∷ ds

@@ -1,5 +1,6 @@
--- Document 01, "The array and its channels": routes that together exceed no limit cross each diagonal of a tile at most D times inside that tile. A
--- crossing goes along one of two corners, each at most O/2 rounded down, or through the centre, which passes at most the rest of D. Assumes nothing.
+-- Document 01, "The array and its channels", and document 02, K7: routes that together exceed no limit cross each diagonal of a tile inside that tile at most
+-- as often as the tile's D says, its own or the job's. A crossing goes along one of two corners, each at most O/2 rounded down, or through the centre, which
+-- passes at most the rest of the tile's D. Assumes nothing.
 use mathlib.Core.Path.{_≡_, refl}
 use mathlib.Core.Bool.{Bool, _&&_}
 use mathlib.Core.List.{List, [], _∷_}

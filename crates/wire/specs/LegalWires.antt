@@ -3,23 +3,22 @@
 -- Assumes nothing.
 use mathlib.Core.Path.{_≡_, refl, sym, ap, subst, _∙_}
 use mathlib.Core.Logic.{_↔_}
-use mathlib.Core.Bool.{_&&_}
 use mathlib.Core.List.{List}
 use mathlib.Core.Option.{none, some}
-use Prim.Native.Nat.{ℕ, suc, _+_, _*_, _≤_, _<_}
+use Prim.Native.Nat.{ℕ, suc, _+_, _≤_, _<_}
 use native.Mathlib.Omega.{arith}
-use lib.Dec.{T, leb, leb→le}
+use lib.Dec.{T}
 use lib.ListN.{length}
 use Rattle.sums.specs.Counting.{when, total}
-use Rattle.sums.specs.Tests.{and-left, and-right}
 use Rattle.sums.specs.Sums.{when-so}
 use Rattle.sums.specs.Totals.{total-has}
-use Rattle.model.specs.Job.{Job, inRange, tileD}
+use Rattle.model.specs.Job.{Job, tileD}
 use Rattle.model.specs.Links.{pin, Place, at, theOutside, samePlace, isPlace, LinkKind, northSide, westSide, link, Step, go, come, head}
 use Rattle.model.specs.Route.{Route, uses, visits, begun, Together}
 use Rattle.model.specs.Record.{loadPlane, jobOf, forthPart, backPart, load, Legal, planeByte, recordOf}
 use Rattle.model.specs.Wires.{Hop, Uncrossed, onward, hopAt, isWired, wireCount, Wire, Holds}
 use Rattle.model.specs.Length.{wireLength, lengthBound, Diagonal, crossings}
+use Rattle.model.proofs.Own.{tile-range}
 use Rattle.model.proofs.Same.{same-place}
 use Rattle.model.proofs.RecordOf.{inCells, plane-below, cell-is}
 use Rattle.model.proofs.FourPins.{job22, loads22, legal22}
@@ -125,12 +124,10 @@ module _ (rec : List ℕ) (legal : Legal rec) where
   pub length-within : total wires (λ p. wireLength J (p .steps)) ≤ lengthBound J
   length-within = length-bound J wires wires-together
 
-  -- "Each diagonal of a tile is crossed at most D times."
+  -- "Each diagonal of a tile is crossed at most D times", "held to each tile's own figure".
   pub diagonals-within : (g : Diagonal) (r c : ℕ) → total wires (λ p. crossings J g r c (p .steps)) ≤ tileD J r c
   diagonals-within g r c =
-      let t = and-right (inRange 1 8 (J .O)) (inRange (J .O) (2 * J .O) (J .D) && inRange 0 16 (J .E)) (legal .values .caps) in
-      let u = and-left (inRange (J .O) (2 * J .O) (J .D)) (inRange 0 16 (J .E)) t in
-      diagonal-bound J wires wires-together g r c (leb→le (J .O) (J .D) (and-left (leb (J .O) (J .D)) (leb (J .D) (2 * J .O)) u))
+      diagonal-bound J wires wires-together g r c (tile-range J (record { job = legal .values .caps; tiles = legal .values .added }) r c .0)
 
 -- ---- a record with wires: the four-pin job of "The listing"
 
