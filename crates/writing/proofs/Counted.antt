@@ -13,14 +13,14 @@ use lib.ListN.{length, length-append}
 use Rattle.sums.specs.Counting.{each}
 use Rattle.sums.specs.Tests.{Same, same, other, same?}
 use Rattle.model.specs.Job.{Job}
-use Rattle.model.specs.Text.{Group, chosenPins, missingPins, closedTiles, laidSides, decimal, sideLetter, arrayLine, groupLine, endLine, lineBytes, valueAt, valueLine}
+use Rattle.model.specs.Text.{Group, chosenPins, missingPins, closedTiles, ownDs, laidSides, decimal, sideLetter, arrayLine, groupLine, endLine, lineBytes, valueAt, valueLine}
 use Rattle.model.specs.Text.{groupText, textOf, groupOf}
 use Rattle.model.proofs.TextNames.{value-line}
 use Rattle.line.specs.Scan.{two}
 use Rattle.line.specs.Lines.{opening, stop, afterStop}
 use Rattle.writing.specs.Writer.{ended, arrayText, lineParts, sideText, cellText, rowText, groupsText}
 use Rattle.line.proofs.Scanned.{decimal-one, decimal-two}
-use Rattle.line.proofs.Lined.{group-bytes, behind-two, pinsPart, capsPart, endPart}
+use Rattle.line.proofs.Lined.{by-number, group-five, group-bytes, behind-two, pinsPart, capsPart, endPart}
 
 -- ---- entry by entry
 
@@ -65,23 +65,30 @@ tail-parts : (g : Group) (d v : ℕ) (X : List ℕ) → afterStop g d v X ≡ af
 tail-parts chosenPins d v X = refl
 tail-parts missingPins d v X = refl
 tail-parts closedTiles d v X = refl
+tail-parts ownDs d v X = simp append-assoc
 tail-parts laidSides d v X = simp append-assoc
 
--- where a space stands after the column, it is a side and a number
-pub tail-some : (g : Group) (d v : ℕ) → stop g ≡ 32 → (sideLetter d ∷ 32 ∷ []) ++ ended v 41 ≡ afterStop g d v []
-tail-some chosenPins d v e = absurd (omega arith)
-tail-some missingPins d v e = absurd (omega arith)
-tail-some closedTiles d v e = absurd (omega arith)
-tail-some laidSides d v e = refl
+-- it is a number of the own diagonals; where a space stands after the column of another group, a side and a number
+pub tail-own : (n d v : ℕ) → n ≡ 5 → ended v 41 ≡ afterStop (groupOf n) d v []
+tail-own n d v e = group-five (λ g. ended v 41 ≡ afterStop g d v []) n e refl
+
+pub tail-laid : (n d v : ℕ) → n ≢ 5 → stop (groupOf n) ≡ 32 → (sideLetter d ∷ 32 ∷ []) ++ ended v 41 ≡ afterStop (groupOf n) d v []
+tail-laid n d v f =
+    by-number (λ g. stop g ≡ 32 → (sideLetter d ∷ 32 ∷ []) ++ ended v 41 ≡ afterStop g d v []) n (λ x e. absurd (omega arith)) (λ x e. absurd (omega arith))
+    (λ x e. absurd (omega arith)) (λ x. absurd (f x)) (λ x y z w e. refl)
 
 pub tail-none : (g : Group) (d v : ℕ) → stop g ≢ 32 → [] ≡ afterStop g d v []
 tail-none chosenPins d v n = refl
 tail-none missingPins d v n = refl
 tail-none closedTiles d v n = refl
+tail-none ownDs d v n = absurd (n refl)
 tail-none laidSides d v n = absurd (n refl)
 
-pub tail-counted : (g : Group) (d v : ℕ) → stop g ≡ 32 → 2 + length (decimal v) + 1 ≡ length (afterStop g d v [])
-tail-counted g d v e = omega (arith, ap length (tail-some g d v e), ended-length v 41)
+pub own-counted : (n d v : ℕ) → n ≡ 5 → length (decimal v) + 1 ≡ length (afterStop (groupOf n) d v [])
+own-counted n d v e = sym (ended-length v 41) ∙ ap length (tail-own n d v e)
+
+pub laid-counted : (n d v : ℕ) → n ≢ 5 → stop (groupOf n) ≡ 32 → 2 + length (decimal v) + 1 ≡ length (afterStop (groupOf n) d v [])
+laid-counted n d v f e = omega (arith, ap length (tail-laid n d v f e), ended-length v 41)
 
 line-parts : (g : Group) (r c d v : ℕ) → lineBytes (groupLine g r c d v) ≡ lineParts g r c d v
 line-parts g r c d v =
@@ -155,18 +162,18 @@ group-rows K g = refl
 
 -- ---- the text
 
-pub text-parts : (K : Job) → arrayText K ++ (groupsText K 4 ++ lineBytes endLine) ≡ textOf K
+pub text-parts : (K : Job) → arrayText K ++ (groupsText K 5 ++ lineBytes endLine) ≡ textOf K
 unfolding textOf arrayText groupsText each groupOf
 text-parts K = simp append-assoc
 
-pub text-counted : (K : Job) → length (textOf K) ≡ length (arrayText K) + length (groupsText K 4) + 6
+pub text-counted : (K : Job) → length (textOf K) ≡ length (arrayText K) + length (groupsText K 5) + 6
 unfolding lineBytes
 text-counted K =
     omega (
       arith,
       ap length (text-parts K),
-      length-append (arrayText K) (groupsText K 4 ++ lineBytes endLine),
-      length-append (groupsText K 4) (lineBytes endLine),
+      length-append (arrayText K) (groupsText K 5 ++ lineBytes endLine),
+      length-append (groupsText K 5) (lineBytes endLine),
     )
 
 pub end-word : lineBytes endLine ≡ 40 ∷ 101 ∷ 110 ∷ 100 ∷ 41 ∷ 10 ∷ []

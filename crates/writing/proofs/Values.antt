@@ -1,5 +1,6 @@
 -- The values that a job in range has in its groups: each below 100, and the count of a side by whether its tile writes it. Assumes nothing.
 use mathlib.Core.Path.{_≡_, sym, ap}
+use mathlib.Core.Logic.{_⊎_, inl, inr}
 use mathlib.Core.Bool.{Bool, true, false, _&&_}
 use Prim.Native.Nat.{ℕ, suc, _*_, _≤_, _<_}
 use native.Mathlib.Omega.{arith}
@@ -7,8 +8,9 @@ use lib.Dec.{T, eqb, leb, ltb, leb→le, ltb→lt}
 use borrow.Author.Tests.{lt-ltb}
 use Rattle.sums.specs.Counting.{when}
 use Rattle.sums.specs.Tests.{so, and-left, and-right}
-use Rattle.model.specs.Job.{Job, Proper, sideOf, laidOn, isTile, isChosen, isMissing, isClosed, inRange}
-use Rattle.model.specs.Text.{Group, chosenPins, missingPins, closedTiles, laidSides, writesSide, valueAt}
+use Rattle.model.specs.Job.{Job, Proper, sideOf, laidOn, isTile, isChosen, isMissing, isClosed, isOwnD, inRange}
+use Rattle.model.specs.Text.{Group, chosenPins, missingPins, closedTiles, ownDs, laidSides, writesSide, valueAt}
+use Rattle.model.proofs.Own.{own-range, own-or-none}
 use Rattle.model.proofs.Sides.{value-most}
 use Rattle.model.proofs.TextNames.{proper-size}
 
@@ -26,6 +28,11 @@ pub value-small : (K : Job) → Proper K → (g : Group) (r c d : ℕ) → value
 value-small K p chosenPins r c d = omega (arith, at-most (eqb d 0 && isChosen K r c) 1)
 value-small K p missingPins r c d = omega (arith, at-most (eqb d 0 && isMissing K r c) 2)
 value-small K p closedTiles r c d = omega (arith, at-most (eqb d 0 && isClosed K r c) 1)
+value-small K p ownDs r c d = own-small (own-or-none K (p .added) r c)
+  where
+    own-small : (K .added .ownD r c ≡ 0) ⊎ T (isOwnD K (K .added .ownD r c)) → valueAt K ownDs r c d < 100
+    own-small (inl e) = omega (arith, at-most (eqb d 0 && isTile K r c) (K .added .ownD r c))
+    own-small (inr t) = omega (arith, at-most (eqb d 0 && isTile K r c) (K .added .ownD r c), own-range K (K .added .ownD r c) t .1, caps-most K p)
 value-small K p laidSides r c d = omega (arith, caps-most K p, leb→le (valueAt K laidSides r c d) (K .O) (value-most K p r c d))
 
 -- a tile of a job in range

@@ -10,11 +10,13 @@ use line::words::END;
 use line::words::GROUP_END;
 use line::words::LAID;
 use line::words::MISSING;
+use line::words::OWN;
 ghost use mathlib.Core.Path.{_≡_};
 ghost use mathlib.Core.List.{[]};
 ghost use Prim.Native.Nat.{ℕ, _≤_, _<_};
 ghost use lib.ListN.{length};
 ghost use Rattle.sums.specs.Counting.{when};
+ghost use Rattle.model.specs.Job.{isTile};
 ghost use Rattle.model.specs.Record.{jobOf};
 ghost use Rattle.model.specs.Text.{laidSides, decimal, valueAt, groupText, textOf, groupOf};
 ghost use Rattle.line.specs.Lines.{opening, afterStop};
@@ -32,6 +34,17 @@ fn number_if(test: bool, n: usize) -> usize
     ensures { λ r. ⌜ r ≡ when test n ⌝ }
 {
     if test { n } else { 0 }
+}
+
+// The D that a tile has of its own: 0 for none, and where there is no tile.
+fn own_at(rec: &[u8], row: usize, column: usize) -> usize
+    requires { ⌜ Sized (now rec) ⌝ }
+    ensures { λ r. ⌜ r ≡ when (isTile (jobOf (now (rec .entry))) row column) (jobOf (now (rec .entry)) .added .ownD row column) ⌝ }
+{
+    if !channel::is_tile(rec, row, column) {
+        return 0;
+    }
+    channel::header::byte(rec, 19, row, column)
 }
 
 // The count of a side that its tile writes: 0 for none.
@@ -64,6 +77,9 @@ pub fn value_at(rec: &[u8], group: usize, row: usize, column: usize, side: usize
             & (channel::state_of(rec, row, column) == 1);
         return number_if((side == 0) & closed, 1);
     }
+    if group == 5 {
+        return number_if(side == 0, own_at(rec, row, column));
+    }
     laid_at(rec, row, column, side)
 }
 
@@ -80,13 +96,19 @@ fn count_opening(group: usize) -> usize
     if group == 4 {
         return CLOSED.len();
     }
+    if group == 5 {
+        return OWN.len();
+    }
     LAID.len()
 }
 
-// The length of a line's tail behind the byte after the column: nothing, or a side and a value.
+// The length of a line's tail behind the byte after the column: nothing, a value, or a side and a value.
 fn count_tail(group: usize, value: usize) -> usize
     ensures { λ r. ⌜ ((d : ℕ) → r ≡ length (afterStop (groupOf group) d value [])) × (r ≤ 5) ⌝ }
 {
+    if group == 5 {
+        return digits(value) + 1;
+    }
     if stop_of(group) == b' ' {
         2 + digits(value) + 1
     } else {
@@ -156,10 +178,10 @@ fn count_group(rec: &[u8], group: usize) -> usize
 // The length of the groups' lines.
 fn count_groups(rec: &[u8]) -> usize
     requires { ⌜ Sized (now rec) ⌝ }
-    ensures { λ r. ⌜ (r ≡ length (groupsText (jobOf (now (rec .entry))) 4)) × (r ≤ 33554432) ⌝ }
+    ensures { λ r. ⌜ (r ≡ length (groupsText (jobOf (now (rec .entry))) 5)) × (r ≤ 41943040) ⌝ }
 {
     let mut n = 0;
-    for k in 0..4 {
+    for k in 0..5 {
         n += count_group(rec, 2 + k);
     }
     n

@@ -15,6 +15,7 @@ use line::words::END;
 use line::words::GROUP_END;
 use line::words::LAID;
 use line::words::MISSING;
+use line::words::OWN;
 ghost use mathlib.Core.Path.{_≡_};
 ghost use mathlib.Core.List.{[]};
 ghost use Prim.Native.Nat.{_<_};
@@ -44,15 +45,21 @@ fn put_opening(out: &mut [u8], at: usize, group: usize) -> usize
     if group == 4 {
         return put_word(out, at, &CLOSED);
     }
+    if group == 5 {
+        return put_word(out, at, &OWN);
+    }
     put_word(out, at, &LAID)
 }
 
-// A line's tail behind the byte after the column: nothing, or a side and a value.
+// A line's tail behind the byte after the column: nothing, a value, or a side and a value.
 fn put_tail(out: &mut [u8], at: usize, group: usize, side: usize, value: usize) -> usize
     requires { ⌜ (side < 4) × (value < 100) ⌝ }
     requires { ⌜ Room (now out) at (afterStop (groupOf group) side value []) ⌝ }
     ensures { λ r. ⌜ Puts (now (out .entry)) at (afterStop (groupOf group) side value []) (now (out .exit)) r ⌝ }
 {
+    if group == 5 {
+        return put_number(out, at, value, b')');
+    }
     if stop_of(group) == b' ' {
         let second = put_side(out, at, side);
         return put_number(out, second, value, b')');
@@ -146,11 +153,11 @@ fn put_group(rec: &[u8], out: &mut [u8], at: usize, group: usize) -> usize
 // The groups' lines.
 fn put_groups(rec: &[u8], out: &mut [u8], at: usize) -> usize
     requires { ⌜ Sized (now rec) ⌝ }
-    requires { ⌜ Room (now out) at (groupsText (jobOf (now rec)) 4) ⌝ }
-    ensures { λ r. ⌜ Puts (now (out .entry)) at (groupsText (jobOf (now (rec .entry))) 4) (now (out .exit)) r ⌝ }
+    requires { ⌜ Room (now out) at (groupsText (jobOf (now rec)) 5) ⌝ }
+    ensures { λ r. ⌜ Puts (now (out .entry)) at (groupsText (jobOf (now (rec .entry))) 5) (now (out .exit)) r ⌝ }
 {
     let mut next = at;
-    for k in 0..4 {
+    for k in 0..5 {
         next = put_group(rec, out, next, 2 + k);
     }
     next

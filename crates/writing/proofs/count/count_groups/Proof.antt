@@ -14,10 +14,10 @@ use Rattle.writing.proofs.count.count_groups.Statement.{statement}
 use Rattle.writing.proofs.count.count_groups.Tie as tie
 
 abbrev Inv-loop : tie.InvT-loop
-Inv-loop rec n₀ k₀ n k = (k ≤ 4) × (n ≡ length (groupsText (jobOf rec) k)) × (n ≤ 8388608 * k)
+Inv-loop rec n₀ k₀ n k = (k ≤ 5) × (n ≡ length (groupsText (jobOf rec) k)) × (n ≤ 8388608 * k)
 
 abbrev μ-loop : tie.MeasureT-loop
-μ-loop rec n₀ k₀ n k = 4 - k
+μ-loop rec n₀ k₀ n k = 5 - k
 
 loop-holds : tie.Need-loop-holds Inv-loop μ-loop
 unfolding groupsText each
@@ -52,7 +52,7 @@ returns : tie.Need-returns Inv-loop μ-loop
 returns c =
     let l = c .before .loop in
     let a = c .before .before .before .args in
-    let e : l .k ≡ 4 = omega arith in
+    let e : l .k ≡ 5 = omega arith in
     (l .inv .1 ∙ ap (λ (n : ℕ). length (groupsText (jobOf (now (a .rec))) n)) e, omega arith)
 
 pub count-groups-spec : {M : Type 1} → statement M

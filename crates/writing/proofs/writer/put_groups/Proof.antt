@@ -13,10 +13,10 @@ use Rattle.writing.proofs.writer.put_groups.Statement.{statement}
 use Rattle.writing.proofs.writer.put_groups.Tie as tie
 
 abbrev Inv-loop : tie.InvT-loop
-Inv-loop rec out₀ at next₀ k₀ out next k = (k ≤ 4) × Puts out₀ at (groupsText (jobOf rec) k) out next
+Inv-loop rec out₀ at next₀ k₀ out next k = (k ≤ 5) × Puts out₀ at (groupsText (jobOf rec) k) out next
 
 abbrev μ-loop : tie.MeasureT-loop
-μ-loop rec out₀ at next₀ k₀ out next k = 4 - k
+μ-loop rec out₀ at next₀ k₀ out next k = 5 - k
 
 loop-holds : tie.Need-loop-holds Inv-loop μ-loop
 unfolding groupsText each
@@ -30,7 +30,7 @@ unfolding groupsText
 put-group-requires c κs =
     let l = c .before .before .loop in
     let s = c .before .before .before .before .before in
-    (s .pre .0, room-each 4 (l .k) (λ k. groupText (jobOf (now (s .args .rec))) (groupOf (2 + k))) (c .before .loop-test .taken) (l .inv .1) (s .pre .1))
+    (s .pre .0, room-each 5 (l .k) (λ k. groupText (jobOf (now (s .args .rec))) (groupOf (2 + k))) (c .before .loop-test .taken) (l .inv .1) (s .pre .1))
 
 add-k : tie.Need-add-k Inv-loop μ-loop
 add-k c = search needs
@@ -53,7 +53,7 @@ returns : tie.Need-returns Inv-loop μ-loop
 returns c =
     let l = c .before .loop in
     let a = c .before .before .before .before .args in
-    let e : l .k ≡ 4 = omega arith in
+    let e : l .k ≡ 5 = omega arith in
     puts-as (l .inv .1) (ap (groupsText (jobOf (now (a .rec)))) e)
 
 pub put-groups-spec : {M : Type 1} → statement M

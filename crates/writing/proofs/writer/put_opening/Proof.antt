@@ -1,9 +1,9 @@
 -- `put_opening` puts the word that the group's number stands for. Assumes nothing.
 use mathlib.Core.Path.{_≡_, refl}
 use borrow.Author.Needs.{needs}
-use Rattle.model.specs.Text.{Group, chosenPins, missingPins, closedTiles, laidSides}
+use Rattle.model.specs.Text.{Group, chosenPins, missingPins, closedTiles, ownDs, laidSides}
 use Rattle.line.specs.Lines.{opening}
-use Rattle.line.proofs.Lined.{group-two, group-three, group-four, group-else}
+use Rattle.line.proofs.Lined.{group-two, group-three, group-four, group-five, group-else}
 use Rattle.writing.proofs.Placed.{puts-as, room-as}
 use Rattle.writing.proofs.writer.put_opening.Statement.{statement}
 use Rattle.writing.proofs.writer.put_opening.Tie as tie
@@ -74,11 +74,9 @@ slice-aggregate-put-word-4 c = search needs
 put-word-requires-4 : tie.Need-put-word-requires-4
 put-word-requires-4 c κs =
     let c2 = c .before .before in
-    let c3 = c2 .before in
-    let c4 = c3 .before in
-    let c6 = c4 .before .before in
-    let s = c6 in
-    room-as (group-else (λ (g : Group). opening laidSides ≡ opening g) (s .args .group) (c4 .if1 .left) (c3 .if2 .left) (c2 .if3 .left) refl) (s .pre)
+    let c7 = c2 .before .before .before .before .before in
+    let s = c7 in
+    room-as (group-five (λ (g : Group). opening ownDs ≡ opening g) (s .args .group) (c2 .if4 .taken) refl) (s .pre)
 
 same-length-4 : tie.Need-same-length-4
 same-length-4 c = search needs
@@ -87,10 +85,35 @@ returns-4 : tie.Need-returns-4
 returns-4 c =
     let c2 = c .before .before in
     let c5 = c2 .before .before .before in
+    let c10 = c5 .before .before .before .before .before in
+    puts-as (c2 .put-word4 .ensures) (group-five (λ (g : Group). opening ownDs ≡ opening g) (c10 .args .group) (c5 .if4 .taken) refl)
+
+slice-aggregate-put-word-5 : tie.Need-slice-aggregate-put-word-5
+slice-aggregate-put-word-5 c = search needs
+
+put-word-requires-5 : tie.Need-put-word-requires-5
+put-word-requires-5 c κs =
+    let c2 = c .before .before in
+    let c3 = c2 .before in
+    let c4 = c3 .before in
+    let c5 = c4 .before in
+    let c7 = c5 .before .before in
+    let s = c7 in
+    room-as (group-else (λ (g : Group). opening laidSides ≡ opening g) (s .args .group) (c5 .if1 .left) (c4 .if2 .left) (c3 .if3 .left) (c2 .if4 .left) refl) (s .pre)
+
+same-length-5 : tie.Need-same-length-5
+same-length-5 c = search needs
+
+returns-5 : tie.Need-returns-5
+returns-5 c =
+    let c2 = c .before .before in
+    let c5 = c2 .before .before .before in
     let c6 = c5 .before in
     let c7 = c6 .before in
-    let c9 = c7 .before .before in
-    puts-as (c2 .put-word4 .ensures) (group-else (λ (g : Group). opening laidSides ≡ opening g) (c9 .args .group) (c7 .if1 .left) (c6 .if2 .left) (c5 .if3 .left) refl)
+    let c8 = c7 .before in
+    let c10 = c8 .before .before in
+    puts-as (c2 .put-word5 .ensures)
+    (group-else (λ (g : Group). opening laidSides ≡ opening g) (c10 .args .group) (c8 .if1 .left) (c7 .if2 .left) (c6 .if3 .left) (c5 .if4 .left) refl)
 
 pub put-opening-spec : {M : Type 1} → statement M
 put-opening-spec =
@@ -111,4 +134,8 @@ put-opening-spec =
     slice-aggregate-put-word-4
     put-word-requires-4
     same-length-4
-    returns-4)
+    returns-4
+    slice-aggregate-put-word-5
+    put-word-requires-5
+    same-length-5
+    returns-5)

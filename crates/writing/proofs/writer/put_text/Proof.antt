@@ -16,7 +16,7 @@ put-array-requires c κs =
     let s = c .before .before .before in
     let J = jobOf (now (s .args .rec)) in (
       s .pre .0,
-      room-front (arrayText J) (groupsText J 4 ++ lineBytes endLine)
+      room-front (arrayText J) (groupsText J 5 ++ lineBytes endLine)
           (room-as (text-parts J) (s .pre .1)),
     )
 
@@ -26,8 +26,8 @@ put-groups-requires c κs =
     let s = p0 .before .before .before .before in
     let J = jobOf (now (s .args .rec)) in (
       s .pre .0,
-      room-front (groupsText J 4) (lineBytes endLine)
-          (room-rest (groupsText J 4 ++ lineBytes endLine) (p0 .put-array .ensures)
+      room-front (groupsText J 5) (lineBytes endLine)
+          (room-rest (groupsText J 5 ++ lineBytes endLine) (p0 .put-array .ensures)
           (room-as (text-parts J) (s .pre .1))),
     )
 
@@ -42,7 +42,7 @@ put-word-requires c κs =
     let J = jobOf (now (s .args .rec)) in
     room-as (sym end-word)
     (room-rest (lineBytes endLine) (p1 .put-groups .ensures)
-    (room-rest (groupsText J 4 ++ lineBytes endLine) (p0 .put-array .ensures)
+    (room-rest (groupsText J 5 ++ lineBytes endLine) (p0 .put-array .ensures)
     (room-as (text-parts J) (s .pre .1))))
 
 same-length : tie.Need-same-length
