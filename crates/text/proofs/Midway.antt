@@ -12,7 +12,7 @@ use lib.Seq.{getD-set-same, getD-set-other}
 use Rattle.sums.specs.Counting.{when}
 use Rattle.sums.specs.Tests.{Same, same, other, same?, and-left, and-right, and-both}
 use Rattle.model.specs.Job.{fresh, put, arrayFits, capsAdmitted, isPin}
-use Rattle.model.specs.Text.{Group, chosenPins, missingPins, closedTiles, laidSides, Line, arrayLine, groupLine, endLine, lineBytes, Stage, begin, afterArray, finished}
+use Rattle.model.specs.Text.{Group, chosenPins, missingPins, closedTiles, ownDs, laidSides, Line, arrayLine, groupLine, endLine, lineBytes, Stage, begin, afterArray, finished}
 use Rattle.model.specs.Text.{within, rank, Reader, start, asking, inTurn, names, named, admit, Verdict, reads, wrongAt, Reads, ended, line, wrong}
 use Rattle.model.specs.Text.{Reading, says, keyOf}
 use Rattle.model.proofs.TextUnique.{line-some}
@@ -46,7 +46,7 @@ line-length text at next l a b e =
 
 -- ---- the last stage
 
-rank-last : (t : Stage) → 6 ≤ rank t → t ≡ finished
+rank-last : (t : Stage) → 7 ≤ rank t → t ≡ finished
 rank-last begin l = absurd (omega arith)
 rank-last afterArray l = absurd (omega arith)
 rank-last (within g) l = absurd (omega (arith, rank-group g .1))
@@ -68,9 +68,9 @@ finished-none R (groupLine g r c d v) R′ z q =
     omega (arith, ap rank z, rank-group g .1, leb→le (rank (R .stage)) (rank (within g)) (and-left u w p))
 finished-none R endLine R′ z q =
     let x : Bool = leb 1 (rank (R .stage)) in
-    let u : Bool = ltb (rank (R .stage)) 6 in
+    let u : Bool = ltb (rank (R .stage)) 7 in
     let (t, y) = asked (x && u) _ R′ q in
-    omega (arith, ap rank z, ltb→lt (rank (R .stage)) 6 (and-right x u t))
+    omega (arith, ap rank z, ltb→lt (rank (R .stage)) 7 (and-right x u t))
 
 asking-so : (b : Bool) (R : Reader) → T b → asking b R ≡ some R
 asking-so true R t = refl
@@ -78,9 +78,9 @@ asking-so false R t = absurd t
 
 -- ---- a text read up to an offset
 
-pub record Midway (text : List ℕ) (at s f rows columns o : ℕ) (chosen : List ℕ) : Type 0 where
+pub record Midway (text : List ℕ) (at s f rows columns o D : ℕ) (chosen : List ℕ) : Type 0 where
   pub reader : Reader
-  pub follows : Follows reader s f rows columns o chosen
+  pub follows : Follows reader s f rows columns o D chosen
   pub begun : 1 ≤ s
   pub within : at ≤ length text
   pub high : rows ≤ 40
@@ -90,7 +90,7 @@ pub record Midway (text : List ℕ) (at s f rows columns o : ℕ) (chosen : List
   pub on : (v : Verdict) → Reads reader at (drop at text) v → Reading text v
 
 -- after the array line
-pub midway-open : (text : List ℕ) (a b o d e next : ℕ) → Opens text (Array a b o d e next) → Midway text next 1 0 a b o (replicate 1600 0)
+pub midway-open : (text : List ℕ) (a b o d e next : ℕ) → Opens text (Array a b o d e next) → Midway text next 1 0 a b o d (replicate 1600 0)
 unfolding admit
 midway-open text a b o d e next (s, t, l, q) =
     record {
@@ -101,6 +101,7 @@ midway-open text a b o d e next (s, t, l, q) =
         high = refl;
         wide = refl;
         most = refl;
+        usual = refl;
         marks = λ r c lr lc. ap (λ (x : ℕ). eqb x 1) (getD-replicate 1600 (40 * r + c) 0 0 (omega arith));
       };
       begun = omega arith;
@@ -119,19 +120,19 @@ midway-open text a b o d e next (s, t, l, q) =
     stands : admit start (arrayLine a b o d e) ≡ some R
     stands = asking-so (arrayFits a b && capsAdmitted o d e) R (and-both (arrayFits a b) (capsAdmitted o d e) s t)
 
-module _ {text : List ℕ} {at s f rows columns o : ℕ} {chosen : List ℕ} (m : Midway text at s f rows columns o chosen) where
+module _ {text : List ℕ} {at s f rows columns o D : ℕ} {chosen : List ℕ} (m : Midway text at s f rows columns o D chosen) where
   abbrev R : Reader
   R = m .reader
 
-  abbrev w : Follows R s f rows columns o chosen
+  abbrev w : Follows R s f rows columns o D chosen
   w = m .follows
 
   -- where the line leads, by an answer for every reader that stands there
-  pub midway-step : {x y : Step} → ((S : Reader) → Follows S s f rows columns o chosen → Stepped text S at x) → x ≡ y → Stepped text R at y
+  pub midway-step : {x y : Step} → ((S : Reader) → Follows S s f rows columns o D chosen → Stepped text S at x) → x ≡ y → Stepped text R at y
   midway-step a e = subst (Stepped text R at) e (a R w)
 
   -- a line that may not stand
-  pub midway-wrong : s < 6 → Stepped text R at Wrong → Reading text (wrongAt at)
+  pub midway-wrong : s < 7 → Stepped text R at Wrong → Reading text (wrongAt at)
   midway-wrong l (stops n) = m .on (wrongAt at) (wrong (λ e. absurd (omega (arith, w .stage, ap rank e))) n)
 
   -- ---- a line that may stand
@@ -198,12 +199,12 @@ module _ {text : List ℕ} {at s f rows columns o : ℕ} {chosen : List ℕ} (m 
       → k .stage ≡ rank (within g) → k .from ≡ keyOf r c d + 1 → k .at ≤ length text → drop at text ≡ lineBytes (groupLine g r c d v) ++ drop (k .at) text
       → length chosen′ ≡ 1600
       → ((x y : ℕ) → x < 40 → y < 40 → eqb (getD chosen′ (40 * x + y) 0) 1 ≡ eqb (named (R .job) g r c d v .mark x y) 1)
-      → Midway text (k .at) (k .stage) (k .from) rows columns o chosen′
+      → Midway text (k .at) (k .stage) (k .from) rows columns o D chosen′
   further k g r c d v chosen′ a i j l q long marks =
       let s : Alike (named (R .job) g r c d v) (R .job) = named-alike (R .job) (R .job) g r c d v (record { rows = refl; columns = refl; O = refl; D = refl; E = refl }) in
       record {
         reader = afterGroup R g r c d v;
-        follows = record { stage = i; from = j; high = s .rows ∙ w .high; wide = s .columns ∙ w .wide; most = s .O ∙ w .most; marks = marks };
+        follows = record { stage = i; from = j; high = s .rows ∙ w .high; wide = s .columns ∙ w .wide; most = s .O ∙ w .most; usual = s .D ∙ w .usual; marks = marks };
         begun = omega (arith, rank-group g .0);
         within = l;
         high = m .high;
@@ -215,10 +216,11 @@ module _ {text : List ℕ} {at s f rows columns o : ℕ} {chosen : List ℕ} (m 
 
   -- the chosen pin's mark is set
   pub midway-chosen : {k : Cursor} → Stepped text R at (To k) → k .stage ≡ 2
-      → (k .from / 4 < 1600) × Midway text (k .at) (k .stage) (k .from) rows columns o (set chosen (k .from / 4) 1)
+      → (k .from / 4 < 1600) × Midway text (k .at) (k .stage) (k .from) rows columns o D (set chosen (k .from / 4) 1)
   midway-chosen {k} (byEnd a i j l q) e = absurd (omega arith)
   midway-chosen {k} (byGroup missingPins r c d v a i j l q) e = absurd (omega arith)
   midway-chosen {k} (byGroup closedTiles r c d v a i j l q) e = absurd (omega arith)
+  midway-chosen {k} (byGroup ownDs r c d v a i j l q) e = absurd (omega arith)
   midway-chosen {k} (byGroup laidSides r c d v a i j l q) e = absurd (omega arith)
   midway-chosen {k} (byGroup chosenPins r c d v a i j l q) e =
       let (t, lr, lc) = group-named chosenPins r c d v a in
@@ -232,7 +234,7 @@ module _ {text : List ℕ} {at s f rows columns o : ℕ} {chosen : List ℕ} (m 
       )
 
   -- any other line leaves the marks
-  pub midway-other : {k : Cursor} → Stepped text R at (To k) → (k .stage ≡ 2 → ⊥) → Midway text (k .at) (k .stage) (k .from) rows columns o chosen
+  pub midway-other : {k : Cursor} → Stepped text R at (To k) → (k .stage ≡ 2 → ⊥) → Midway text (k .at) (k .stage) (k .from) rows columns o D chosen
   midway-other {k} (byGroup chosenPins r c d v a i j l q) n = absurd (n i)
   midway-other {k} (byGroup missingPins r c d v a i j l q) n =
       let (t, lr, lc) = group-named missingPins r c d v a in
@@ -242,11 +244,12 @@ module _ {text : List ℕ} {at s f rows columns o : ℕ} {chosen : List ℕ} (m 
       further k missingPins r c d v chosen a i j l q (m .marked)
       (λ x y lx ly. marks-missing r c lr lc u x y lx ly ∙ ap (λ (n : ℕ). eqb (put (R .job .mark) r c n x y) 1) (sym two))
   midway-other {k} (byGroup closedTiles r c d v a i j l q) n = further k closedTiles r c d v chosen a i j l q (m .marked) (w .marks)
+  midway-other {k} (byGroup ownDs r c d v a i j l q) n = further k ownDs r c d v chosen a i j l q (m .marked) (w .marks)
   midway-other {k} (byGroup laidSides r c d v a i j l q) n = further k laidSides r c d v chosen a i j l q (m .marked) (w .marks)
   midway-other {k} (byEnd a i j l q) n =
       record {
         reader = afterEnd R;
-        follows = record { stage = i; from = j; high = w .high; wide = w .wide; most = w .most; marks = w .marks };
+        follows = record { stage = i; from = j; high = w .high; wide = w .wide; most = w .most; usual = w .usual; marks = w .marks };
         begun = omega arith;
         within = l;
         high = m .high;
@@ -258,13 +261,13 @@ module _ {text : List ℕ} {at s f rows columns o : ℕ} {chosen : List ℕ} (m 
 
   -- ---- after the end line
 
-  finished-so : 6 ≤ s → R .stage ≡ finished
+  finished-so : 7 ≤ s → R .stage ≡ finished
   finished-so l = rank-last (R .stage) (omega (arith, w .stage))
 
-  pub midway-ended : 6 ≤ s → length text ≤ at → Judges text ReadsWell
+  pub midway-ended : 7 ≤ s → length text ≤ at → Judges text ReadsWell
   midway-ended l e = (R .job, m .on (reads (R .job)) (ended (finished-so l) (drop-of-length-le text e)))
 
-  pub midway-longer : 6 ≤ s → at < length text → Judges text (WrongAt at)
+  pub midway-longer : 7 ≤ s → at < length text → Judges text (WrongAt at)
   midway-longer l e =
       m .on (wrongAt at)
       (wrong (λ x y. omega (arith, ap length y, length-drop at text)) (λ k R′ rest a q. finished-none R k R′ (finished-so l) a))

@@ -11,13 +11,14 @@ use lib.Dec.{T, eqb, leb, eqb→eq, leb→le}
 use borrow.Author.Tests.{le-leb, lt-ltb}
 use lib.ListN.{length, getD, drop}
 use Rattle.sums.specs.Tests.{and-left, and-right, and-both}
-use Rattle.model.specs.Job.{Job, fresh, arrayFits, capsAdmitted, isPin, isTile}
-use Rattle.model.specs.Text.{Group, chosenPins, missingPins, closedTiles, laidSides, Line, arrayLine, groupLine, endLine, lineBytes, begin, afterArray, finished}
+use Rattle.model.specs.Job.{Job, fresh, arrayFits, capsAdmitted, isPin, isTile, isOwnD}
+use Rattle.model.specs.Text.{Group, chosenPins, missingPins, closedTiles, ownDs, laidSides, Line, arrayLine, groupLine, endLine, lineBytes, begin, afterArray, finished}
 use Rattle.model.specs.Text.{within, rank, Reader}
 use Rattle.model.specs.Text.{start, asking, inTurn, names, writesSide, admit, wrongAt, wrong, Reading, says, keyOf}
 use Rattle.model.proofs.TextUnique.{Says, admit-says, line-unique}
-use Rattle.model.proofs.TextProper.{asked, by-word, names-says, names-laid}
+use Rattle.model.proofs.TextProper.{asked, by-word, names-says, names-own, names-laid}
 use Rattle.model.proofs.TextNames.{names-inside}
+use Rattle.model.proofs.Own.{own-range}
 use Rattle.line.specs.declared.lines.Line.the-variants.{Wrong as WrongLine}
 use Rattle.line.specs.declared.lines.Opening.the-variants.{Wrong as WrongOpening}
 use Rattle.text.specs.declared.reader.Cursor.{Cursor}
@@ -88,6 +89,7 @@ names-small : (J : Job) (g : Group) (r c d v : ℕ) → J .O ≤ 8 → T (names 
 names-small J chosenPins r c d v l t = let (x, y) = by-word d v 1 (names-says J chosenPins r c d v t) in omega arith
 names-small J missingPins r c d v l t = let (x, y) = by-word d v 2 (names-says J missingPins r c d v t) in omega arith
 names-small J closedTiles r c d v l t = let (x, y) = by-word d v 1 (names-says J closedTiles r c d v t) in omega arith
+names-small J ownDs r c d v l t = omega (arith, own-range J v (names-own J r c d v t .1) .1)
 names-small J laidSides r c d v l t = let (x, y, z) = names-laid J r c d v t in omega (arith, leb→le v (J .O) z)
 
 -- where no line of a group and no end line begins, none begins that may stand after the array line
@@ -105,7 +107,7 @@ none-stands R text at k x y z (f, h) (groupLine g r c d v) R′ rest q p =
 none-stands R text at k x y z (f, h) endLine R′ rest q p = h rest p
 
 -- the code's tests are those of the definitions
-module _ {R : Reader} {s f rows columns o : ℕ} {chosen : List ℕ} (w : Follows R s f rows columns o chosen) (begun : 1 ≤ s) (a : rows ≤ 40) (b : columns ≤ 40)
+module _ {R : Reader} {s f rows columns o D : ℕ} {chosen : List ℕ} (w : Follows R s f rows columns o D chosen) (begun : 1 ≤ s) (a : rows ≤ 40) (b : columns ≤ 40)
     (m : o ≤ 8) where
   abbrev bit : ℕ → ℕ → Bool
   bit r c = eqb (getD chosen (40 * r + c) 0) 1
@@ -115,8 +117,8 @@ module _ {R : Reader} {s f rows columns o : ℕ} {chosen : List ℕ} (w : Follow
       (λ i. turnFits (w .stage i) (w .from i) (rank (within g)) (keyOf r c d))
       ∙ sym (ap (λ (b : Bool). b && turnFits (rank (R .stage)) (R .from) (rank (within g)) (keyOf r c d)) (le-leb 1 (rank (R .stage)) (omega (arith, w .stage))))
 
-  names-same : (g : Group) (r c d v : ℕ) → T (says g d v) → namesFit rows columns o (bit r c) (rank (within g)) r c d v ≡ names (R .job) g r c d v
-  names-same g r c d v told = (λ i. namesFit (sym (w .high) i) (sym (w .wide) i) (sym (w .most) i) (bit r c) (rank (within g)) r c d v) ∙ by g told
+  names-same : (g : Group) (r c d v : ℕ) → T (says g d v) → namesFit rows columns o D (bit r c) (rank (within g)) r c d v ≡ names (R .job) g r c d v
+  names-same g r c d v told = (λ i. namesFit (sym (w .high) i) (sym (w .wide) i) (sym (w .most) i) (sym (w .usual) i) (bit r c) (rank (within g)) r c d v) ∙ by g told
     where
       kept : (a x y : Bool) → (T a → x ≡ y) → (a && not x) ≡ (a && not y)
       kept true x y e = ap not (e tt)
@@ -127,12 +129,13 @@ module _ {R : Reader} {s f rows columns o : ℕ} {chosen : List ℕ} (w : Follow
           let (x, y, z) = names-inside (R .job) chosenPins r c 0 1 (and-both (isPin (R .job) r c) true t tt) in
           w .marks r c (omega (arith, w .high)) (omega (arith, w .wide))
 
-      by : (h : Group) → T (says h d v) → namesFit (R .job .rows) (R .job .columns) (R .job .O) (bit r c) (rank (within h)) r c d v ≡ names (R .job) h r c d v
+      by : (h : Group) → T (says h d v) → namesFit (R .job .rows) (R .job .columns) (R .job .O) (R .job .D) (bit r c) (rank (within h)) r c d v ≡ names (R .job) h r c d v
       by chosenPins t = and-so (isPin (R .job) r c) true (says chosenPins d v) tt t
       by missingPins t =
           kept (isPin (R .job) r c) (bit r c) (eqb (R .job .mark r c) 1) inside
           ∙ and-more (isPin (R .job) r c && not (eqb (R .job .mark r c) 1)) (says missingPins d v) t
       by closedTiles t = and-more (isTile (R .job) r c) (says closedTiles d v) t
+      by ownDs t = and-more (isTile (R .job) r c && isOwnD (R .job) v) (says ownDs d v) t
       by laidSides t = and-more (isTile (R .job) r c && (writesSide r c d && leb v (R .job .O))) (says laidSides d v) t
 
   -- a line of a group at the offset
@@ -141,11 +144,11 @@ module _ {R : Reader} {s f rows columns o : ℕ} {chosen : List ℕ} (w : Follow
     turn-is : {x : Bool} → turnFits s f n (keyOf r c d) ≡ x → inTurn R g r c d ≡ x
     turn-is t = sym (turn-same g r c d) ∙ (ap (λ (m : ℕ). turnFits s f m (keyOf r c d)) (sym is) ∙ t)
 
-    names-is : {x : Bool} → namesFit rows columns o (bit r c) n r c d v ≡ x → names (R .job) g r c d v ≡ x
-    names-is u = sym (names-same g r c d v told) ∙ (ap (λ (m : ℕ). namesFit rows columns o (bit r c) m r c d v) (sym is) ∙ u)
+    names-is : {x : Bool} → namesFit rows columns o D (bit r c) n r c d v ≡ x → names (R .job) g r c d v ≡ x
+    names-is u = sym (names-same g r c d v told) ∙ (ap (λ (m : ℕ). namesFit rows columns o D (bit r c) m r c d v) (sym is) ∙ u)
 
     pub step-group : (k : Cursor) → next ≤ length text → k .at ≡ next → k .stage ≡ n → k .from ≡ keyOf r c d + 1
-        → turnFits s f n (keyOf r c d) ≡ true → namesFit rows columns o (bit r c) n r c d v ≡ true → Stepped text R at (To k)
+        → turnFits s f n (keyOf r c d) ≡ true → namesFit rows columns o D (bit r c) n r c d v ≡ true → Stepped text R at (To k)
     unfolding admit
     step-group k l i j p t u =
         byGroup {k = k} g r c d v (λ z. asking (turn-is t z && names-is u z) (afterGroup R g r c d v)) (j ∙ is) p (omega arith)
@@ -157,7 +160,7 @@ module _ {R : Reader} {s f rows columns o : ℕ} {chosen : List ℕ} (w : Follow
         stops (line-refused R (drop at text) (groupLine g r c d v) (drop next text) told here
         (λ z. asking (turn-is t z && names (R .job) g r c d v) (afterGroup R g r c d v)))
 
-    pub step-unnamed : namesFit rows columns o (bit r c) n r c d v ≡ false → Stepped text R at Wrong
+    pub step-unnamed : namesFit rows columns o D (bit r c) n r c d v ≡ false → Stepped text R at Wrong
     unfolding admit
     step-unnamed u =
         stops (line-refused R (drop at text) (groupLine g r c d v) (drop next text) told here
@@ -165,11 +168,11 @@ module _ {R : Reader} {s f rows columns o : ℕ} {chosen : List ℕ} (w : Follow
         ∙ ap (λ (b : Bool). asking b (afterGroup R g r c d v)) (and-false (inTurn R g r c d))))
 
   -- the end line at the offset
-  pub step-end : (text : List ℕ) (at next : ℕ) (k : Cursor) → s < 6 → next ≤ length text → k .at ≡ next → k .stage ≡ 6 → k .from ≡ 0
+  pub step-end : (text : List ℕ) (at next : ℕ) (k : Cursor) → s < 7 → next ≤ length text → k .at ≡ next → k .stage ≡ 7 → k .from ≡ 0
       → drop at text ≡ lineBytes endLine ++ drop next text → Stepped text R at (To k)
   unfolding admit
   step-end text at next k l n i j e q =
-      byEnd {k = k} (λ z. asking (le-leb 1 (rank (R .stage)) (omega (arith, w .stage)) z && lt-ltb (rank (R .stage)) 6 (omega (arith, w .stage)) z)
+      byEnd {k = k} (λ z. asking (le-leb 1 (rank (R .stage)) (omega (arith, w .stage)) z && lt-ltb (rank (R .stage)) 7 (omega (arith, w .stage)) z)
       (afterEnd R)) j e
       (omega arith) (q ∙ ap (λ (p : ℕ). lineBytes endLine ++ drop p text) (sym i))
 

@@ -11,15 +11,15 @@ use lib.Dec.{T, leb, ltb, ltb→lt}
 use lib.ListN.{length, drop, set}
 use Rattle.sums.specs.Tests.{and-left, and-right}
 use Rattle.model.specs.Job.{Job, fresh, sideOf, arrayFits, capsAdmitted}
-use Rattle.model.specs.Record.{recordSize, markPlane, statePlane, offset, noLoads, unwiredRecord, over}
-use Rattle.model.specs.Text.{Group as TextGroup, chosenPins, missingPins, closedTiles, laidSides, Line, arrayLine, groupLine, endLine, lineBytes, afterArray}
+use Rattle.model.specs.Record.{recordSize, markPlane, statePlane, ownDPlane, offset, noLoads, unwiredRecord, over}
+use Rattle.model.specs.Text.{Group as TextGroup, chosenPins, missingPins, closedTiles, ownDs, laidSides, Line, arrayLine, groupLine, endLine, lineBytes, afterArray}
 use Rattle.model.specs.Text.{finished, within, rank, Reader}
 use Rattle.model.specs.Text.{inTurn, names, named, admit, Verdict, reads, wrongAt, Reads, ended, line, wrong, Reading}
 use Rattle.model.proofs.TextUnique.{Says, admit-says, line-unique, line-some, reads-unique}
 use Rattle.model.proofs.TextProper.{asked, names-laid}
 use Rattle.model.proofs.TextNames.{rank-group, names-inside, Alike, named-alike}
 use Rattle.channel.specs.Laid.{sideOffset, side-inside}
-use Rattle.channel.specs.Written.{marked-over, closed-over, laid-over, over-over}
+use Rattle.channel.specs.Written.{marked-over, closed-over, own-over, laid-over, over-over}
 use Rattle.line.specs.declared.lines.Line.the-variants.{Group, End, Wrong as WrongLine}
 use Rattle.line.specs.Lines.{LineAt}
 use Rattle.text.specs.Reader.{afterGroup, afterEnd}
@@ -57,7 +57,7 @@ pub same-job : (K L : Job) → reads K ≡ reads L → K ≡ L
 same-job K L e = cc
 
 -- one that is not finished stands before a line
-none-read : {R : Reader} {o : ℕ} {text : List ℕ} {v : Verdict} → rank (R .stage) ≤ 5
+none-read : {R : Reader} {o : ℕ} {text : List ℕ} {v : Verdict} → rank (R .stage) ≤ 6
     → ((l : Line) (R′ : Reader) (rest : List ℕ) → admit R l ≡ some R′ → text ≡ lineBytes l ++ rest → ⊥) → Well v → Reads R o text v → ⊥
 none-read l n t (ended g e) = omega (arith, ap rank g)
 none-read l n t (line m S more b p r) = n m S more b p
@@ -77,20 +77,31 @@ module _ (J : Job) (under : List ℕ) (r c d v : ℕ) (high : r < 40) (wide : c 
   named-closed chosenPins e = absurd (omega arith)
   named-closed missingPins e = absurd (omega arith)
   named-closed closedTiles e = closed-over J under r c v long high wide
+  named-closed ownDs e = absurd (omega arith)
   named-closed laidSides e = absurd (omega arith)
 
-  pub named-marked : (g : TextGroup) → rank (within g) ≢ 5 → rank (within g) ≢ 4
-      → set (over (unwiredRecord J) under) (offset markPlane r c) v ≡ over (unwiredRecord (named J g r c d v)) under
-  named-marked chosenPins f e = marked-over J under r c v long high wide
-  named-marked missingPins f e = marked-over J under r c v long high wide
-  named-marked closedTiles f e = absurd (e refl)
-  named-marked laidSides f e = absurd (f refl)
+  pub named-own : (g : TextGroup) → rank (within g) ≡ 5
+      → set (over (unwiredRecord J) under) (offset ownDPlane r c) v ≡ over (unwiredRecord (named J g r c d v)) under
+  named-own chosenPins e = absurd (omega arith)
+  named-own missingPins e = absurd (omega arith)
+  named-own closedTiles e = absurd (omega arith)
+  named-own ownDs e = own-over J under r c v long high wide
+  named-own laidSides e = absurd (omega arith)
 
-  pub named-laid : r < 39 → c < 39 → (g : TextGroup) → rank (within g) ≡ 5
+  pub named-marked : (g : TextGroup) → rank (within g) ≢ 6 → rank (within g) ≢ 5 → rank (within g) ≢ 4
+      → set (over (unwiredRecord J) under) (offset markPlane r c) v ≡ over (unwiredRecord (named J g r c d v)) under
+  named-marked chosenPins f o e = marked-over J under r c v long high wide
+  named-marked missingPins f o e = marked-over J under r c v long high wide
+  named-marked closedTiles f o e = absurd (e refl)
+  named-marked ownDs f o e = absurd (o refl)
+  named-marked laidSides f o e = absurd (f refl)
+
+  pub named-laid : r < 39 → c < 39 → (g : TextGroup) → rank (within g) ≡ 6
       → set (over (unwiredRecord J) under) (sideOffset (sideOf r c d)) v ≡ over (unwiredRecord (named J g r c d v)) under
   named-laid lr lc chosenPins e = absurd (omega arith)
   named-laid lr lc missingPins e = absurd (omega arith)
   named-laid lr lc closedTiles e = absurd (omega arith)
+  named-laid lr lc ownDs e = absurd (omega arith)
   named-laid lr lc laidSides e = let (x, y) = side-inside r c d lr lc in laid-over J under (sideOf r c d) v long x y
 
 -- ---- the record so far
@@ -98,7 +109,7 @@ module _ (J : Job) (under : List ℕ) (r c d v : ℕ) (high : r < 40) (wide : c 
 pub record Writing (text rec : List ℕ) (K : Job) (at : ℕ) (out : List ℕ) : Type 0 where
   pub reader : Reader
   pub begun : 1 ≤ rank (reader .stage)
-  pub going : rank (reader .stage) ≤ 5
+  pub going : rank (reader .stage) ≤ 6
   pub high : reader .job .rows ≤ 40
   pub wide : reader .job .columns ≤ 40
   pub most : reader .job .O ≤ 8
@@ -158,13 +169,14 @@ module _ {text rec : List ℕ} {K : Job} {at : ℕ} {out : List ℕ} (w : Writin
         (omega (arith, w .high), omega (arith, w .wide))
 
     -- a side is a tile's
-    pub group-tile : n ≡ 5 → (r < 39) × (c < 39)
+    pub group-tile : n ≡ 6 → (r < 39) × (c < 39)
     group-tile e = by g (sym (f .1) ∙ e) (group-read .0)
       where
-        by : (h : TextGroup) → rank (within h) ≡ 5 → T (names (R .job) h r c d v) → (r < 39) × (c < 39)
+        by : (h : TextGroup) → rank (within h) ≡ 6 → T (names (R .job) h r c d v) → (r < 39) × (c < 39)
         by chosenPins i t = absurd (omega arith)
         by missingPins i t = absurd (omega arith)
         by closedTiles i t = absurd (omega arith)
+        by ownDs i t = absurd (omega arith)
         by laidSides i t =
             let a : Bool = ltb (suc r) (R .job .rows) in
             let b : Bool = ltb (suc c) (R .job .columns) in
@@ -193,7 +205,7 @@ module _ {text rec : List ℕ} {K : Job} {at : ℕ} {out : List ℕ} (w : Writin
   unfolding admit
   writing-ended next (l, q) =
       let (R′, s, x) = reads-on endLine (drop next text) tt q tt (w .rest) in
-      let (t, z) = asked (leb 1 (rank (R .stage)) && ltb (rank (R .stage)) 6) (afterEnd R) R′ s in
+      let (t, z) = asked (leb 1 (rank (R .stage)) && ltb (rank (R .stage)) 7) (afterEnd R) R′ s in
       let e : R .job ≡ K = same-job (R .job) K (ap (λ (S : Reader). reads (S .job)) z ∙ finished-job (ap (λ (S : Reader). S .stage) (sym z)) tt x) in
       w .here ∙ ap (λ (J : Job). over (unwiredRecord J) rec) e
 

@@ -11,14 +11,18 @@ ghost use lib.ListN.{length};
 ghost use Rattle.model.specs.Record.{recordSize};
 ghost use Rattle.text.specs.Into.{Names, Readable, Holds, ReadsInto};
 
-// The value of a group's line in the record: a side's count, a closed tile's state, or a pin's mark.
+// The value of a group's line in the record: a side's count, a tile's own D, a closed tile's state, or a pin's mark.
 fn write_line(rec: &mut [u8], group: usize, row: usize, column: usize, side: usize, value: usize)
     requires { ⌜ recordSize ≤ length (now rec) ⌝ }
-    requires { ⌜ (row < 40) × (column < 40) × (group ≡ 5 → (row < 39) × (column < 39)) × (value < 100) ⌝ }
+    requires { ⌜ (row < 40) × (column < 40) × (group ≡ 6 → (row < 39) × (column < 39)) × (value < 100) ⌝ }
     ensures { λ _. ⌜ Names (now (rec .entry)) group row column side value (now (rec .exit)) ⌝ }
 {
-    if group == 5 {
+    if group == 6 {
         channel::set_laid(rec, row, column, side, value);
+        return;
+    }
+    if group == 5 {
+        channel::set_own(rec, row, column, value);
         return;
     }
     if group == 4 {

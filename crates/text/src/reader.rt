@@ -6,6 +6,7 @@ use line::lines::array_at;
 use line::lines::writes_side;
 use model::Array;
 use model::Capacities;
+use model::in_range;
 ghost use mathlib.Core.Path.{_≡_};
 ghost use mathlib.Core.Bool.{_&&_};
 ghost use Prim.Native.Nat.{suc, _+_, _*_, _≤_, _<_};
@@ -64,11 +65,13 @@ fn has_tile(rows: usize, columns: usize, row: usize, column: usize) -> bool
     (row + 1 < rows) & (column + 1 < columns)
 }
 
-// Whether the array has the pin, tile or side that a line of a group names, and no other group names the pin; a count is at most O.
+// Whether the array has the pin, tile or side that a line of a group names, and no other group names the pin; an own D is in range and not the job's, a count at
+// most O.
 fn names(
     rows: usize,
     columns: usize,
     o: usize,
+    diagonal: usize,
     chosen: &[u8; 1600],
     group: usize,
     row: usize,
@@ -76,12 +79,16 @@ fn names(
     side: usize,
     value: usize,
 ) -> bool
-    requires { ⌜ (rows ≤ 40) × (columns ≤ 40) × (row < 100) × (column < 100) ⌝ }
-    ensures { λ r. ⌜ r ≡ namesFit rows columns o (eqb (getD (now (chosen .entry)) (40 * row + column) 0) 1) group row column side value ⌝ }
+    requires { ⌜ (rows ≤ 40) × (columns ≤ 40) × (row < 100) × (column < 100) × (o ≤ 8) ⌝ }
+    ensures { λ r. ⌜ r ≡ namesFit rows columns o diagonal (eqb (getD (now (chosen .entry)) (40 * row + column) 0) 1) group row column side value ⌝ }
 {
-    if group == 5 {
+    if group == 6 {
         let counted = writes_side(row, column, side) & (value <= o);
         return has_tile(rows, columns, row, column) & counted;
+    }
+    if group == 5 {
+        let own = in_range(o, 2 * o, value) & (value != diagonal);
+        return has_tile(rows, columns, row, column) & own;
     }
     if group == 4 {
         return has_tile(rows, columns, row, column);
@@ -98,7 +105,7 @@ fn names(
     true
 }
 
-// The offset of the next line; the stage: 1 after the array, 2 to 5 in a group, 6 after the end; the least key that the group may still have.
+// The offset of the next line; the stage: 1 after the array, 2 to 6 in a group, 7 after the end; the least key that the group may still have.
 pub struct Cursor {
     pub at: usize,
     pub stage: usize,
@@ -132,10 +139,11 @@ impl Cursor {
         rows: usize,
         columns: usize,
         o: usize,
+        diagonal: usize,
         chosen: &[u8; 1600],
     ) -> Step
-        requires { ⌜ (self .at ≤ length (now text)) × (1 ≤ self .stage) × (self .stage < 6) × (rows ≤ 40) × (columns ≤ 40) × (o ≤ 8) ⌝ }
-        ensures { λ r. ⌜ Leads (now (text .entry)) self rows columns o (now (chosen .entry)) r ⌝ }
+        requires { ⌜ (self .at ≤ length (now text)) × (1 ≤ self .stage) × (self .stage < 7) × (rows ≤ 40) × (columns ≤ 40) × (o ≤ 8) ⌝ }
+        ensures { λ r. ⌜ Leads (now (text .entry)) self rows columns o diagonal (now (chosen .entry)) r ⌝ }
     {
         let at = self.at;
         match next_line(text, at) {
@@ -151,7 +159,18 @@ impl Cursor {
                 if !self.in_turn(group, key) {
                     return Step::Wrong;
                 }
-                if !names(rows, columns, o, chosen, group, row, column, side, value) {
+                if !names(
+                    rows,
+                    columns,
+                    o,
+                    diagonal,
+                    chosen,
+                    group,
+                    row,
+                    column,
+                    side,
+                    value,
+                ) {
                     return Step::Wrong;
                 }
                 Step::To(Cursor {
@@ -162,7 +181,7 @@ impl Cursor {
             }
             Line::End { next } => Step::To(Cursor {
                 at: next,
-                stage: 6,
+                stage: 7,
                 from: 0,
             }),
             Line::Wrong => Step::Wrong,
@@ -178,7 +197,7 @@ pub fn judge(text: &[u8]) -> Judged
         rows,
         columns,
         o,
-        d: _,
+        d,
         e: _,
         next,
     } = opened(text)
@@ -191,8 +210,8 @@ pub fn judge(text: &[u8]) -> Judged
         stage: 1,
         from: 0,
     };
-    while cursor.stage < 6 {
-        let Step::To(then) = cursor.next(text, rows, columns, o, &chosen) else {
+    while cursor.stage < 7 {
+        let Step::To(then) = cursor.next(text, rows, columns, o, d, &chosen) else {
             return Judged::WrongAt(cursor.at);
         };
         if then.stage == 2 {

@@ -1,4 +1,4 @@
--- `write_line` names a pin, tile or side in a record: a side by its count, a closed tile by its state, any other line by its mark. Assumes nothing.
+-- `write_line` names a pin, tile or side in a record: a side by its count, a tile by its own D or its state, any other line by its mark. Assumes nothing.
 use mathlib.Core.Path.{sym, ap, _∙_}
 use mathlib.Core.List.{List}
 use Prim.Native.Nat.{ℕ}
@@ -6,9 +6,9 @@ use native.Mathlib.Omega.{arith}
 use lib.ListN.{set}
 use borrow.Author.Needs.{needs}
 use Rattle.model.specs.Job.{sideOf}
-use Rattle.model.specs.Record.{markPlane, statePlane, offset}
+use Rattle.model.specs.Record.{markPlane, statePlane, ownDPlane, offset}
 use Rattle.channel.specs.Laid.{sideOffset}
-use Rattle.text.proofs.Writing.{named-laid, named-closed, named-marked}
+use Rattle.text.proofs.Writing.{named-laid, named-own, named-closed, named-marked}
 use Rattle.text.proofs.into.write_line.Statement.{statement}
 use Rattle.text.proofs.into.write_line.Tie as tie
 
@@ -36,8 +36,8 @@ returns c =
     ∙ (ap (λ (b : List ℕ). set b (sideOffset (sideOf (a .row) (a .column) (a .side))) (a .value)) e
     ∙ named-laid J under (a .row) (a .column) (a .side) (a .value) (p .0) (p .1) l (t .0) (t .1) g (sym i ∙ c4 .if1 .taken))
 
-set-state-requires : tie.Need-set-state-requires
-set-state-requires c κs = search needs
+set-own-requires : tie.Need-set-own-requires
+set-own-requires c κs = search needs
 
 same-length-2 : tie.Need-same-length-2
 same-length-2 c = search needs
@@ -51,12 +51,12 @@ returns-2 c =
     let a = s .args in
     let p = s .pre .1 in
     λ J under g i l e.
-    c2 .set-state .ensures
-    ∙ (ap (λ (b : List ℕ). set b (offset statePlane (a .row) (a .column)) (a .value)) e
-    ∙ named-closed J under (a .row) (a .column) (a .side) (a .value) (p .0) (p .1) l g (sym i ∙ c4 .if2 .taken))
+    c2 .set-own .ensures
+    ∙ (ap (λ (b : List ℕ). set b (offset ownDPlane (a .row) (a .column)) (a .value)) e
+    ∙ named-own J under (a .row) (a .column) (a .side) (a .value) (p .0) (p .1) l g (sym i ∙ c4 .if2 .taken))
 
-set-mark-requires : tie.Need-set-mark-requires
-set-mark-requires c κs = search needs
+set-state-requires : tie.Need-set-state-requires
+set-state-requires c κs = search needs
 
 same-length-3 : tie.Need-same-length-3
 same-length-3 c = search needs
@@ -65,15 +65,36 @@ returns-3 : tie.Need-returns-3
 returns-3 c =
     let c2 = c .before .before in
     let c4 = c2 .before .before in
+    let c8 = c4 .before .before .before .before in
+    let s = c8 in
+    let a = s .args in
+    let p = s .pre .1 in
+    λ J under g i l e.
+    c2 .set-state .ensures
+    ∙ (ap (λ (b : List ℕ). set b (offset statePlane (a .row) (a .column)) (a .value)) e
+    ∙ named-closed J under (a .row) (a .column) (a .side) (a .value) (p .0) (p .1) l g (sym i ∙ c4 .if3 .taken))
+
+set-mark-requires : tie.Need-set-mark-requires
+set-mark-requires c κs = search needs
+
+same-length-4 : tie.Need-same-length-4
+same-length-4 c = search needs
+
+returns-4 : tie.Need-returns-4
+returns-4 c =
+    let c2 = c .before .before in
+    let c4 = c2 .before .before in
     let c5 = c4 .before in
-    let c7 = c5 .before .before in
-    let s = c7 in
+    let c6 = c5 .before in
+    let c8 = c6 .before .before in
+    let s = c8 in
     let a = s .args in
     let p = s .pre .1 in
     λ J under g i l e.
     c2 .set-mark .ensures
     ∙ (ap (λ (b : List ℕ). set b (offset markPlane (a .row) (a .column)) (a .value)) e
-    ∙ named-marked J under (a .row) (a .column) (a .side) (a .value) (p .0) (p .1) l g (λ x. c5 .if1 .left (i ∙ x)) (λ x. c4 .if2 .left (i ∙ x)))
+    ∙ named-marked J under (a .row) (a .column) (a .side) (a .value) (p .0) (p .1) l g (λ x. c6 .if1 .left (i ∙ x)) (λ x. c5 .if2 .left (i ∙ x))
+    (λ x. c4 .if3 .left (i ∙ x)))
 
 pub write-line-spec : {M : Type 1} → statement M
 write-line-spec =
@@ -82,9 +103,12 @@ write-line-spec =
     set-laid-requires
     same-length
     returns
-    set-state-requires
+    set-own-requires
     same-length-2
     returns-2
-    set-mark-requires
+    set-state-requires
     same-length-3
-    returns-3)
+    returns-3
+    set-mark-requires
+    same-length-4
+    returns-4)

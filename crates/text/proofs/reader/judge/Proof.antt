@@ -12,10 +12,10 @@ use Rattle.text.proofs.reader.judge.Statement.{statement}
 use Rattle.text.proofs.reader.judge.Tie as tie
 
 abbrev Inv-loop : tie.InvT-loop
-Inv-loop text rows columns o next chosen₀ cursor₀ chosen cursor = Midway text (cursor .at) (cursor .stage) (cursor .from) rows columns o chosen
+Inv-loop text rows columns o d next chosen₀ cursor₀ chosen cursor = Midway text (cursor .at) (cursor .stage) (cursor .from) rows columns o d chosen
 
 abbrev μ-loop : tie.MeasureT-loop
-μ-loop text rows columns o next chosen₀ cursor₀ chosen cursor = length text - cursor .at
+μ-loop text rows columns o d next chosen₀ cursor₀ chosen cursor = length text - cursor .at
 
 opened-requires : tie.Need-opened-requires Inv-loop μ-loop
 opened-requires c κs = search needs

@@ -74,7 +74,7 @@ names-requires c κs =
     let s = c7 in
     let a = s .args in
     let f = subst (LineAt (now (a .text)) (a .self .at)) (c3 .group .given .1) (c5 .next-line .ensures) in
-    (s .pre .3, s .pre .4, f .3, f .4)
+    (s .pre .3, s .pre .4, f .3, f .4, s .pre .5)
 
 returns-2 : tie.Need-returns-2
 returns-2 c =
