@@ -15,12 +15,12 @@ use crate::sheet::read;
 use crate::sheet::write;
 use oracle_text::job::CHOSEN;
 use oracle_text::job::COLUMNS;
-use oracle_text::job::DIAGONAL;
 use oracle_text::job::EXTRA;
 use oracle_text::job::Job;
 use oracle_text::job::MISSING;
 use oracle_text::job::ROWS;
 use oracle_text::job::SIDE;
+use oracle_text::job::figure;
 use oracle_text::job::is_open;
 use oracle_text::job::is_pin;
 use oracle_text::job::is_rim;
@@ -209,7 +209,7 @@ fn tile(m: &mut Sheet, job: &Job, t: usize)
     let r = t / 39;
     let c = t % 39;
     let half = number(job, SIDE) / 2;
-    let diagonal = number(job, DIAGONAL);
+    let diagonal = figure(job, 40 * r + c);
     if is_open(job, r, c) && 2 * half <= diagonal {
         corners(
             m,

@@ -1,8 +1,9 @@
-// A job as plain data: rows, columns, O, D, E, a mark for each pin and a state for each tile at 40 r + c, and counts of laid wires. A side lies between two
-// pins, and its count stands at the western or northern one of them: first the wires laid between each pin and the next to the east, then the next to the south.
+// A job as plain data: rows, columns, O, D, E, a mark for each pin and a state for each tile at 40 r + c, counts of laid wires, and each tile's own D. A side lies
+// between two pins, and its count stands at the western or northern one of them: first the wires laid between each pin and the next to the east, then the next to the
+// south.
 ghost use Prim.Native.Nat.{_<_};
 
-pub type Job = [u8; 6405];
+pub type Job = [u8; 8005];
 
 pub const ROWS: usize = 0;
 
@@ -20,6 +21,8 @@ const STATES: usize = 1605;
 
 const EASTWARD: usize = 3205;
 
+const OWN: usize = 6405;
+
 pub const CHOSEN: usize = 1;
 
 pub const MISSING: usize = 2;
@@ -34,11 +37,11 @@ fn wide(x: u8) -> usize
 pub fn number(job: &Job, k: usize) -> usize
     ensures { λ r. ⌜ r < 256 ⌝ }
 {
-    if k < 6405 { wide(job[k]) } else { 0 }
+    if k < 8005 { wide(job[k]) } else { 0 }
 }
 
 pub fn set_number(job: &mut Job, k: usize, v: usize) {
-    if k < 6405 {
+    if k < 8005 {
         if v < 256 {
             job[k] = v as u8;
         }
@@ -68,6 +71,33 @@ pub fn set_state(job: &mut Job, p: usize, v: usize) {
     if p < 1600 {
         set_number(job, STATES + p, v);
     }
+}
+
+// The D that the tile `p` has of its own, 0 for none.
+pub fn own(job: &Job, p: usize) -> usize
+    ensures { λ r. ⌜ r < 256 ⌝ }
+{
+    if p < 1600 { number(job, OWN + p) } else { 0 }
+}
+
+pub fn set_own(job: &mut Job, p: usize, v: usize) {
+    if p < 1600 {
+        set_number(job, OWN + p, v);
+    }
+}
+
+// The D of the tile `p`: its own, or else that of the job.
+pub fn figure(job: &Job, p: usize) -> usize
+    ensures { λ r. ⌜ r < 256 ⌝ }
+{
+    let v = own(job, p);
+    if v == 0 { number(job, DIAGONAL) } else { v }
+}
+
+// A tile may have the D of its own: from O to twice O, and not that of the job.
+pub fn may_own(job: &Job, v: usize) -> bool {
+    let o = number(job, SIDE);
+    v >= o && v <= 2 * o && v != number(job, DIAGONAL)
 }
 
 // The pin at row r, column c is one of the array.
@@ -107,9 +137,9 @@ pub fn is_open(job: &Job, r: usize, c: usize) -> bool {
     false
 }
 
-// How far behind EASTWARD the count of a side of the tile `p` stands, the side by its letter: 3200 for no side.
+// How far behind EASTWARD the count of a side of the tile `p` stands, the side by its letter: 4800 for no side.
 fn gap(p: usize, letter: u8) -> usize
-    ensures { λ k. ⌜ k < 3201 ⌝ }
+    ensures { λ k. ⌜ k < 4801 ⌝ }
 {
     if p < 1559 {
         if letter == b'n' {
@@ -125,19 +155,19 @@ fn gap(p: usize, letter: u8) -> usize
             return 1601 + p;
         }
     }
-    3200
+    4800
 }
 
-// The byte of the count of a side; 6405 for no side.
+// The byte of the count of a side; 8005 for no side.
 fn count_of(r: usize, c: usize, letter: u8) -> usize
-    ensures { λ k. ⌜ k < 6406 ⌝ }
+    ensures { λ k. ⌜ k < 8006 ⌝ }
 {
     if r < 39 {
         if c < 39 {
             return EASTWARD + gap(40 * r + c, letter);
         }
     }
-    6405
+    8005
 }
 
 // The wires already laid on a side of the tile.
@@ -162,7 +192,7 @@ pub fn set_laid(job: &mut Job, r: usize, c: usize, letter: u8, n: usize) {
 
 // A job of zeros, to be filled.
 pub fn blank() -> Job {
-    [0u8; 6405]
+    [0u8; 8005]
 }
 
 // The job with these five numbers, every pin idle, every tile open and nothing laid.

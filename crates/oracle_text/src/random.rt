@@ -6,9 +6,11 @@ use crate::job::SIDE;
 use crate::job::fresh;
 use crate::job::is_pin;
 use crate::job::is_tile;
+use crate::job::may_own;
 use crate::job::number;
 use crate::job::set_laid;
 use crate::job::set_mark;
+use crate::job::set_own;
 use crate::job::set_state;
 ghost use Prim.Native.Nat.{_<_, _+_};
 
@@ -130,6 +132,27 @@ pub fn random_laid(seed: u32, rate: usize, job: &mut Job) -> u32 {
         let b = draw_side(job, a, p, b'e', rate);
         let c = draw_side(job, b, p, b's', rate);
         x = draw_side(job, c, p, b'w', rate);
+    }
+    x
+}
+
+// Gives the tile `p` a D of its own, as often of 1,000 as the rate says and not where the number drawn is the job's; gives the generator's number afterwards.
+fn draw_own(job: &mut Job, seed: u32, p: usize, rate: usize) -> u32 {
+    let a = xorshift(seed);
+    let b = xorshift(a);
+    let o = number(job, SIDE);
+    let v = o + below(b, o + 1);
+    if is_tile(job, p / 40, p % 40) && happens(a, rate) && may_own(job, v) {
+        set_own(job, p, v);
+    }
+    b
+}
+
+// Gives tiles of a job at random a D of their own; gives the generator's number afterwards.
+pub fn random_own(seed: u32, rate: usize, job: &mut Job) -> u32 {
+    let mut x = seed;
+    for p in 0..1600 {
+        x = draw_own(job, x, p, rate);
     }
     x
 }

@@ -12,9 +12,12 @@ use crate::job::is_pin;
 use crate::job::is_tile;
 use crate::job::laid;
 use crate::job::mark;
+use crate::job::may_own;
 use crate::job::number;
+use crate::job::own;
 use crate::job::set_laid;
 use crate::job::set_mark;
+use crate::job::set_own;
 use crate::job::set_state;
 use crate::job::state;
 use crate::page::Page;
@@ -27,18 +30,19 @@ use crate::scan::scan;
 use crate::scan::value;
 ghost use Prim.Native.Nat.{_<_};
 
-// How far a reading is. `at` is the offset of the next line; stages 0 to 5 have read no line, the array, a chosen pin,
-// a missing pin, a closed tile and laid wires, 6 the end; 7 is accepted and 8 refused. `next` is the first pin or tile,
-// 40 r + c, that may stand in the group, and of laid wires the first side: four times its tile and 0 to 3 for n, e, s, w.
+// How far a reading is. `at` is the offset of the next line; stages 0 to 6 have read no line, the array, a chosen pin,
+// a missing pin, a closed tile, a tile's own D and laid wires, 7 the end; 8 is accepted and 9 refused. `next` is the first
+// pin or tile, 40 r + c, that may stand in the group, and of laid wires the first side: four times its tile and 0 to 3 for
+// n, e, s, w.
 pub struct Reading {
     pub at: usize,
     pub stage: usize,
     pub next: usize,
 }
 
-pub const ACCEPTED: usize = 7;
+pub const ACCEPTED: usize = 8;
 
-pub const REFUSED: usize = 8;
+pub const REFUSED: usize = 9;
 
 fn refused(s: Reading) -> Reading {
     Reading {
@@ -79,7 +83,7 @@ fn named(job: &Job, s: Reading, f: Found, stage: usize) -> usize
         if c < 40 {
             let p = 40 * r + c;
             let later = s.stage < stage || (s.stage == stage && p >= s.next);
-            let there = if stage == 4 {
+            let there = if stage >= 4 {
                 is_tile(job, r, c)
             } else {
                 is_pin(job, r, c) && mark(job, p) == 0
@@ -108,6 +112,21 @@ fn group_line(job: &mut Job, s: Reading, f: Found, stage: usize) -> Reading {
     Reading {
         at: f.at,
         stage: stage,
+        next: p + 1,
+    }
+}
+
+// A line of a tile's own D, found as `f`, sets the value it names.
+fn own_line(job: &mut Job, s: Reading, f: Found) -> Reading {
+    let p = named(job, s, f, 5);
+    let v = value(f, 2);
+    if p == 1600 || !may_own(job, v) {
+        return refused(s);
+    }
+    set_own(job, p, v);
+    Reading {
+        at: f.at,
+        stage: 5,
         next: p + 1,
     }
 }
@@ -145,12 +164,12 @@ fn laid_line(job: &mut Job, s: Reading, f: Found) -> Reading {
     let k = turn(value(f, 2));
     let n = value(f, 3);
     let key = 4 * (40 * r + c) + k;
-    let later = s.stage < 5 || key >= s.next;
+    let later = s.stage < 6 || key >= s.next;
     if k < 4 && later && is_written(job, r, c, k) && in_range(n, 1, number(job, SIDE)) {
         set_laid(job, r, c, LETTERS[k % 4], n);
         return Reading {
             at: f.at,
-            stage: 5,
+            stage: 6,
             next: key + 1,
         };
     }
@@ -171,6 +190,10 @@ fn later_line(text: &[u8], job: &mut Job, s: Reading) -> Reading {
     if closed.fits {
         return group_line(job, s, closed, 4);
     }
+    let own = scan(text, s.at, b"(d # # #)\n");
+    if own.fits {
+        return own_line(job, s, own);
+    }
     let laid = scan(text, s.at, b"(laid # # @ #)\n");
     if laid.fits {
         return laid_line(job, s, laid);
@@ -179,7 +202,7 @@ fn later_line(text: &[u8], job: &mut Job, s: Reading) -> Reading {
     if end.fits {
         return Reading {
             at: end.at,
-            stage: 6,
+            stage: 7,
             next: 0,
         };
     }
@@ -191,10 +214,10 @@ fn line(text: &[u8], job: &mut Job, s: Reading) -> Reading {
     if s.stage == 0 {
         return array_line(text, job, s);
     }
-    if s.stage < 6 {
+    if s.stage < 7 {
         return later_line(text, job, s);
     }
-    if s.stage == 6 && s.at == text.len() {
+    if s.stage == 7 && s.at == text.len() {
         return Reading {
             at: s.at,
             stage: ACCEPTED,
@@ -259,6 +282,27 @@ fn state_line(job: &Job, out: &mut Page, at: usize, p: usize) -> usize {
     word(out, b, b")\n")
 }
 
+fn owns_text(job: &Job, out: &mut Page, at: usize) -> usize {
+    let mut n = at;
+    for p in 0..1600 {
+        n = own_text(job, out, n, p);
+    }
+    n
+}
+
+// The line of the tile `p`, if it has a D of its own.
+fn own_text(job: &Job, out: &mut Page, at: usize, p: usize) -> usize {
+    let v = own(job, p);
+    if v == 0 {
+        return at;
+    }
+    let a = word(out, at, b"(d ");
+    let b = pair(out, a, p / 40, p % 40);
+    let c = byte(out, b, b' ');
+    let d = decimal(out, c, v);
+    word(out, d, b")\n")
+}
+
 fn counts_text(job: &Job, out: &mut Page, at: usize) -> usize {
     let mut n = at;
     for i in 0..6400 {
@@ -297,6 +341,7 @@ pub fn write_text(job: &Job, out: &mut Page) -> usize {
     let h = marks_text(job, out, g, CHOSEN);
     let i = marks_text(job, out, h, MISSING);
     let j = states_text(job, out, i);
-    let k = counts_text(job, out, j);
-    word(out, k, b"(end)\n")
+    let k = owns_text(job, out, j);
+    let l = counts_text(job, out, k);
+    word(out, l, b"(end)\n")
 }

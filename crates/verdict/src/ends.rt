@@ -64,6 +64,13 @@ pub fn load(rec: &[u8], i: usize) -> usize
     if i < 24000 { number(rec, 3968 + i) } else { 0 }
 }
 
+// The D that the tile p has of its own, 0 for none.
+pub fn own(rec: &[u8], p: usize) -> usize
+    ensures { λ r. ⌜ r < 256 ⌝ }
+{
+    if p < 1600 { number(rec, 31168 + p) } else { 0 }
+}
+
 // The wires already laid on the side i.
 pub fn laid(rec: &[u8], i: usize) -> usize
     ensures { λ r. ⌜ r < 256 ⌝ }

@@ -12,6 +12,7 @@ use crate::ends::extra;
 use crate::ends::laid;
 use crate::ends::load;
 use crate::ends::mark;
+use crate::ends::own;
 use crate::ends::rows;
 use crate::ends::side;
 use crate::ends::state;
@@ -101,7 +102,14 @@ fn header_fits(rec: &[u8]) -> bool {
         && in_range(diagonal(rec), o, 2 * o)
         && extra(rec) <= 16
         && all(span(rec, 5, 763), 0)
-        && all(span(rec, 31168, 1600), 0)
+}
+
+// The own D of the tile p, 40 r + c, is a value that may stand there: none, or from O to twice O and not the job's.
+fn own_fits(rec: &[u8], p: usize) -> bool {
+    let v = own(rec, p);
+    let o = side(rec);
+    let tile = p / 40 + 1 < rows(rec) && p % 40 + 1 < columns(rec);
+    v == 0 || (tile && in_range(v, o, 2 * o) && v != diagonal(rec))
 }
 
 // The counts of the sides at the cell p, 40 r + c, are values that may stand there.
@@ -138,7 +146,10 @@ fn cell_fits(rec: &[u8], p: usize) -> bool {
     } else {
         0
     };
-    mark(rec, p) <= most_mark && state(rec, p) <= most_state && counts_fit(rec, p)
+    mark(rec, p) <= most_mark
+        && state(rec, p) <= most_state
+        && counts_fit(rec, p)
+        && own_fits(rec, p)
 }
 
 // The load byte p is in order, or the cell p.
@@ -196,12 +207,18 @@ fn tally_loads(rec: &[u8], into: &mut Counts, out: &mut Counts) {
     }
 }
 
+// The D of the tile p.
+fn figure(rec: &[u8], p: usize) -> usize {
+    let v = own(rec, p);
+    if v == 0 { diagonal(rec) } else { v }
+}
+
 // How many wires may pass the place u.
 fn pass_limit(rec: &[u8], u: usize) -> usize {
     let half = side(rec) / 2;
     match u % 8 {
         0 => extra(rec),
-        6 => std::num::wrapping_sub_usize(diagonal(rec), 2 * half),
+        6 => std::num::wrapping_sub_usize(figure(rec, u / 8), 2 * half),
         _ => 1000,
     }
 }

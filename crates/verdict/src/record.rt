@@ -21,8 +21,7 @@ pub fn holds_job(rec: &Record, job: &[u8]) -> bool {
     same(span(rec, 0, 5), span(job, 0, 5))
         && all(span(rec, 5, 763), 0)
         && same(span(rec, 768, 3200), span(job, 5, 3200))
-        && same(span(rec, 27968, 3200), span(job, 3205, 3200))
-        && all(span(rec, 31168, 1600), 0)
+        && same(span(rec, 27968, 4800), span(job, 3205, 4800))
         && all(rest(rec, 32768), BEYOND)
 }
 
