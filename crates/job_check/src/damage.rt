@@ -9,6 +9,7 @@ use oracle_text::job::blank;
 use oracle_text::random::below;
 use oracle_text::random::random_job;
 use oracle_text::random::random_laid;
+use oracle_text::random::random_own;
 use oracle_text::random::xorshift;
 use oracle_text::text::write_text;
 use service::Answer;
@@ -337,7 +338,8 @@ fn draw(tally: &mut Tally, kept: &mut Tally, seed: u32) -> u32 {
     let mut rec = [BEYOND; 32800];
     let wrong = tally[1];
     let y = random_job(seed, 8, &mut job);
-    let x = random_laid(y, 150, &mut job);
+    let z = random_laid(y, 150, &mut job);
+    let x = random_own(z, 150, &mut job);
     let n = write_text(&job, &mut sheet);
     service::read_text(&mut rec, held(&sheet, n));
     routed(&mut rec, &mut near);

@@ -26,6 +26,7 @@ use oracle_text::job::count_marked;
 use oracle_text::job::set_mark;
 use oracle_text::random::random_job;
 use oracle_text::random::random_laid;
+use oracle_text::random::random_own;
 use oracle_text::text::write_text;
 use verdict::bytes::Tally;
 use verdict::bytes::all;
@@ -283,12 +284,21 @@ fn lay_some(seed: u32, k: usize, job: &mut Job) -> u32 {
     random_laid(seed, 250, job)
 }
 
+// Tiles have their own D in every third job, a third of them at most.
+fn own_some(seed: u32, k: usize, job: &mut Job) -> u32 {
+    if k % 3 != 0 {
+        return seed;
+    }
+    random_own(seed, 333, job)
+}
+
 // The k-th job; gives the generator's number afterwards.
 fn draw(tally: &mut Tally, exits: &mut Tally, page: &mut Page, seed: u32, k: usize) -> u32 {
     let mut job = blank();
     let wrong = tally[1];
     let then = random_job(seed, size(k), &mut job);
-    let next = lay_some(then, k, &mut job);
+    let last = lay_some(then, k, &mut job);
+    let next = own_some(last, k, &mut job);
     judge(tally, exits, &job, page, k % 32 == 0);
     if tally[1] != wrong {
         line(b"in the random job", seed as u64);

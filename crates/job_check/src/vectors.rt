@@ -86,4 +86,6 @@ pub fn vectors(tally: &mut Tally) {
     series(tally, &mut page, b"K2/text", 4);
     series(tally, &mut page, b"K3/job", 12);
     series(tally, &mut page, b"K3/text", 8);
+    series(tally, &mut page, b"K7/job", 12);
+    series(tally, &mut page, b"K7/text", 8);
 }

@@ -12,6 +12,7 @@ use oracle_text::page::word;
 use oracle_text::random::below;
 use oracle_text::random::random_job;
 use oracle_text::random::random_laid;
+use oracle_text::random::random_own;
 use oracle_text::text::ACCEPTED;
 use text::Judged;
 use text::Written;
@@ -26,8 +27,9 @@ const EXCHANGED: [u8; 64] =
 // A byte after its end.
 const LONGER: [u8; 65] = *b"(array (pins 2 2) (caps 1 2 0))\n(chosen 0 0)\n(closed 0 0)\n(end)\n\n";
 
-// One tile with wires laid on two of its sides.
-const LAID: [u8; 68] = *b"(array (pins 2 2) (caps 2 3 0))\n(laid 0 0 n 1)\n(laid 0 0 s 2)\n(end)\n";
+// One tile with its own D, and with wires laid on two of its sides.
+const ADDED: [u8; 78] =
+    *b"(array (pins 2 2) (caps 2 3 0))\n(d 0 0 4)\n(laid 0 0 n 1)\n(laid 0 0 s 2)\n(end)\n";
 
 // An output one byte shorter than the first.
 const NARROW: [u8; 63] = [7; 63];
@@ -189,12 +191,14 @@ fn vectors(counts: &mut [u64; 5]) {
     series(counts, b"K2/text", 4);
     series(counts, b"K3/job", 12);
     series(counts, b"K3/text", 8);
+    series(counts, b"K7/job", 12);
+    series(counts, b"K7/text", 8);
 }
 
 // The examples that document 01 gives, and an output that is too short for the first.
 fn examples(counts: &mut [u64; 5]) {
     tally_right(counts, comes_back(&EXAMPLE), READ);
-    tally_right(counts, comes_back(&LAID), READ);
+    tally_right(counts, comes_back(&ADDED), READ);
     tally_right(counts, is_refused(&EXCHANGED, 45), REFUSED);
     tally_right(counts, is_refused(b"", 0), REFUSED);
     tally_right(counts, is_refused(&LONGER, 64), REFUSED);
@@ -257,6 +261,27 @@ fn wrong_sides(counts: &mut [u64; 5]) {
     wrong(counts, b"(laid 0 0 n 1)\n(chosen 1 1)\n", 47);
 }
 
+// Lines of an own D that are none: values that no tile may have of its own, parts and numbers that may not stand, and lines out of their order.
+fn wrong_owns(counts: &mut [u64; 5]) {
+    wrong(counts, b"(d 0 0 3)\n", 32);
+    wrong(counts, b"(d 0 0 1)\n", 32);
+    wrong(counts, b"(d 0 0 5)\n", 32);
+    wrong(counts, b"(d 0 0 0)\n", 32);
+    wrong(counts, b"(d 0 0 04)\n", 32);
+    wrong(counts, b"(d 0 0 104)\n", 32);
+    wrong(counts, b"(d 0 0)\n", 32);
+    wrong(counts, b"(d 0 0 n 4)\n", 32);
+    wrong(counts, b"(d 0 0 4 )\n", 32);
+    wrong(counts, b"(d  0 0 4)\n", 32);
+    wrong(counts, b"(D 0 0 4)\n", 32);
+    wrong(counts, b"(d 2 0 4)\n", 32);
+    wrong(counts, b"(d 0 2 4)\n", 32);
+    wrong(counts, b"(d 0 0 4)\n(d 0 0 2)\n", 42);
+    wrong(counts, b"(d 0 1 4)\n(d 0 0 4)\n", 42);
+    wrong(counts, b"(d 0 0 4)\n(closed 1 1)\n", 42);
+    wrong(counts, b"(laid 0 0 n 1)\n(d 0 0 4)\n", 47);
+}
+
 // The example with bit k % 8 of its byte k / 8 changed.
 fn change(counts: &mut [u64; 5], k: usize) {
     if k < 512 {
@@ -266,28 +291,29 @@ fn change(counts: &mut [u64; 5], k: usize) {
     }
 }
 
-// The text with laid wires, changed in the same way.
-fn change_laid(counts: &mut [u64; 5], k: usize) {
-    if k < 544 {
-        let mut text = LAID;
+// The text with an own D and laid wires, changed in the same way.
+fn change_added(counts: &mut [u64; 5], k: usize) {
+    if k < 624 {
+        let mut text = ADDED;
         text[k / 8] = text[k / 8] ^ (1 << (k % 8));
         tally_right(counts, agrees(&text), CHANGED);
     }
 }
 
 fn changes(counts: &mut [u64; 5]) {
-    for k in 0..544 {
+    for k in 0..624 {
         change(counts, k);
-        change_laid(counts, k);
+        change_added(counts, k);
     }
 }
 
-// The text of a random job with laid wires; gives the generator's number afterwards.
+// The text of a random job with laid wires and tiles that have their own D; gives the generator's number afterwards.
 fn draw(counts: &mut [u64; 5], seed: u32) -> u32 {
     let mut job = blank();
     let mut page = [0u8; 262144];
     let then = random_job(seed, 40, &mut job);
-    let next = random_laid(then, below(then, 1001), &mut job);
+    let last = random_laid(then, below(then, 1001), &mut job);
+    let next = random_own(last, below(last, 1001), &mut job);
     let n = oracle_text::text::write_text(&job, &mut page);
     tally_right(counts, comes_back(bytes(&page, n)), RANDOM);
     next
@@ -311,6 +337,7 @@ fn main() {
     examples(&mut counts);
     wrong_forms(&mut counts);
     wrong_sides(&mut counts);
+    wrong_owns(&mut counts);
     changes(&mut counts);
     draws(&mut counts);
     number(b"refused ", counts[0]);
