@@ -63,7 +63,7 @@ module _ (rec : List ℕ) (g : Legal rec) where
       let t = tail J (h .step) in
       let y = head J (h .step) in
       entered-fits J (g .values .array) t (and-left (isPlace J t) (isEntered J y) m) (y .kind) (y .row) (y .column) (h .lane)
-      (and-right (isPlace J t) (isEntered J y) m) (omega (arith, step-small (g .sound .feasible) (g .values .caps) (h .step)))
+      (and-right (isPlace J t) (isEntered J y) m) (omega (arith, step-small (g .sound .feasible) (record { job = g .values .caps; tiles = g .values .added }) (h .step)))
 
   pub part-fits : (r c i : ℕ) → T (partFits (partAt J f r c i))
   unfolding partAt

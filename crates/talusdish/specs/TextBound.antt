@@ -1,4 +1,4 @@
--- Document 01, "Job text": a text is read or refused within its first 576,240 bytes, for the lines that may stand have rising turns, 14,406 at most, and no
+-- Document 01, "Job text": a text is read or refused within its first 640,280 bytes, for the lines that may stand have rising turns, 16,007 at most, and no
 -- line has more than 40 bytes. Assumes nothing.
 use mathlib.Core.Path.{_≡_, refl, sym, ap, subst, _∙_}
 use mathlib.Core.Bool.{Bool, true, false, _&&_}
@@ -12,7 +12,7 @@ use borrow.Author.Tests.{eq-eqb}
 use Rattle.sums.specs.Counting.{when, only}
 use Rattle.sums.specs.Tests.{Same, same, other, same?, and-left, and-right}
 use Rattle.model.specs.Job.{Job, inRange, arrayFits, capsAdmitted, Proper}
-use Rattle.model.specs.Text.{Group, chosenPins, missingPins, closedTiles, laidSides, Line, arrayLine, groupLine, endLine, decimal, numbers, form, arrayWord, pinsWord}
+use Rattle.model.specs.Text.{Group, chosenPins, missingPins, closedTiles, ownDs, laidSides, Line, arrayLine, groupLine, endLine, decimal, numbers, form, arrayWord, pinsWord}
 use Rattle.model.specs.Text.{capsWord, groupWord, endWord, tailOf, says, formOf, lineBytes, within, rank, keyOf, Reader, names, named, admit, Verdict, reads}
 use Rattle.model.specs.Text.{wrongAt, Reads, ended, line, wrong, Reading, textOf}
 use Rattle.model.proofs.RecordOf.{range-most}
@@ -41,12 +41,14 @@ group-short : (g : Group) → length (groupWord g) ≤ 7
 group-short chosenPins = omega arith
 group-short missingPins = omega arith
 group-short closedTiles = omega arith
+group-short ownDs = omega arith
 group-short laidSides = omega arith
 
 tail-short : (g : Group) (d v : ℕ) → length (tailOf g d v) ≤ 5
 tail-short chosenPins d v = omega arith
 tail-short missingPins d v = omega arith
 tail-short closedTiles d v = omega arith
+tail-short ownDs d v = omega (arith, numbers-short (v ∷ []))
 tail-short laidSides d v = omega (arith, numbers-short (v ∷ []))
 
 forms-short : (l : Line) → length (formOf l) ≤ 39
@@ -82,18 +84,18 @@ line-short l = omega (arith, length-append (formOf l) (10 ∷ []), forms-short l
 
 -- how many lines may still follow: in the groups without sides one for every fourth turn, of laid sides one for each
 abbrev leftAt : ℕ → ℕ
-leftAt t = (8000 - (t + 3) / 4) + (6400 - (t - 32000))
+leftAt t = (9600 - (t + 3) / 4) + (6400 - (t - 38400))
 
 abbrev left : Reader → ℕ
-left R = leftAt (due R) + (6 - rank (R .stage))
+left R = leftAt (due R) + (7 - rank (R .stage))
 
 left-falls : (t u : ℕ) → t ≤ u → leftAt u ≤ leftAt t
 left-falls t u l = omega arith
 
-plain-less : (t x n : ℕ) → n ≡ 4 * x + 1 → t < n → x < 8000 → leftAt n < leftAt t
+plain-less : (t x n : ℕ) → n ≡ 4 * x + 1 → t < n → x < 9600 → leftAt n < leftAt t
 plain-less t x n e l m = omega arith
 
-side-less : (t x n : ℕ) → n ≡ 32000 + x + 1 → t < n → x < 6400 → leftAt n < leftAt t
+side-less : (t x n : ℕ) → n ≡ 38400 + x + 1 → t < n → x < 6400 → leftAt n < leftAt t
 side-less t x n e l m = omega arith
 
 -- after a line of a group
@@ -102,6 +104,9 @@ group-less : (g : Group) (t r c d v : ℕ) → T (says g d v) → r < 40 → c <
 group-less chosenPins t r c d v s lr lc ld l = let (z, i) = by-word d v 1 s in plain-less t (3200 + 40 * r + c) _ (omega arith) (omega arith) (omega arith)
 group-less missingPins t r c d v s lr lc ld l = let (z, i) = by-word d v 2 s in plain-less t (4800 + 40 * r + c) _ (omega arith) (omega arith) (omega arith)
 group-less closedTiles t r c d v s lr lc ld l = let (z, i) = by-word d v 1 s in plain-less t (6400 + 40 * r + c) _ (omega arith) (omega arith) (omega arith)
+group-less ownDs t r c d v s lr lc ld l =
+    let z : d ≡ 0 = eqb→eq d 0 (and-left (eqb d 0) (ltb 0 v) s) in
+    plain-less t (8000 + 40 * r + c) _ (omega arith) (omega arith) (omega arith)
 group-less laidSides t r c d v s lr lc ld l = side-less t (keyOf r c d) _ (omega arith) (omega arith) (omega arith)
 
 add-less : (a b c d : ℕ) → a < b → c ≤ d → a + c < b + d
@@ -109,13 +114,14 @@ add-less a b c d l m = omega arith
 
 record Midst (R : Reader) : Type 0 where
   from : R .from ≤ 6400
-  turn : due R ≤ 38400
+  turn : due R ≤ 44800
   size : 1 ≤ rank (R .stage) → (R .job .rows ≤ 40) × (R .job .columns ≤ 40)
 
 named-rows : (J : Job) (g : Group) (r c d v : ℕ) → (named J g r c d v .rows ≡ J .rows) × (named J g r c d v .columns ≡ J .columns)
 named-rows J chosenPins r c d v = (refl, refl)
 named-rows J missingPins r c d v = (refl, refl)
 named-rows J closedTiles r c d v = (refl, refl)
+named-rows J ownDs r c d v = (refl, refl)
 named-rows J laidSides r c d v = (refl, refl)
 
 when-same : (s t f : ℕ) → s ≡ t → when (eqb s t) f ≡ f
@@ -169,10 +175,10 @@ goes-on R (groupLine g r c k v) R′ m e =
     )
 goes-on R endLine R′ m e =
     let s : ℕ = rank (R .stage) in
-    let (t, q) = asked (leb 1 s && ltb s 6) _ R′ e in
-    let l : s < 6 = ltb→lt s 6 (and-right (leb 1 s) (ltb s 6) t) in
-    let k : 1 ≤ s = leb→le 1 s (and-left (leb 1 s) (ltb s 6) t) in
-    let h : leftAt 38400 ≤ leftAt (due R) = left-falls (due R) 38400 (m .turn) in
+    let (t, q) = asked (leb 1 s && ltb s 7) _ R′ e in
+    let l : s < 7 = ltb→lt s 7 (and-right (leb 1 s) (ltb s 7) t) in
+    let k : 1 ≤ s = leb→le 1 s (and-left (leb 1 s) (ltb s 7) t) in
+    let h : leftAt 44800 ≤ leftAt (due R) = left-falls (due R) 44800 (m .turn) in
     subst (λ S. Midst S × (left S < left R)) q (record { from = omega arith; turn = omega arith; size = λ i. m .size k }, omega arith)
 
 -- ---- the whole text
@@ -193,8 +199,8 @@ reads-within (line {R = R} {o = o} {text = text} {v = v} l R′ rest a q r) m =
     farther text rest v o (length (lineBytes l)) (left R) (left R′) (ap length q ∙ length-append (lineBytes l) rest) (line-short l) d (reads-within r m′)
 reads-within (wrong f n) m = omega arith
 
-pub reading-within : (text : List ℕ) (v : Verdict) → Reading text v → Within text v 0 14406
+pub reading-within : (text : List ℕ) (v : Verdict) → Reading text v → Within text v 0 16007
 reading-within text v r = reads-within r (record { from = omega arith; turn = omega arith; size = λ k. absurd (omega arith) })
 
-pub text-short : (J : Job) → Proper J → length (textOf J) ≤ 576240
+pub text-short : (J : Job) → Proper J → length (textOf J) ≤ 640280
 text-short J p = reading-within (textOf J) (reads J) (round-trip .reads-written J p)

@@ -36,7 +36,13 @@ module _ (rec : List ℕ) (g : Legal rec) where
 
   held : Held J rec
   held =
-      record { fits = g .values .array; caps = g .values .caps; long = g .long; bytes = g .values .loads; feasible = g .sound .feasible }
+      record {
+        fits = g .values .array;
+        caps = record { job = g .values .caps; tiles = g .values .added };
+        long = g .long;
+        bytes = g .values .loads;
+        feasible = g .sound .feasible;
+      }
 
   -- ---- other loads
 

@@ -14,9 +14,10 @@ use lib.ListN.{length, getD, drop, length-append}
 use Rattle.sums.specs.Tests.{and-left, and-right}
 use Rattle.sums.specs.Entries.{none-some}
 use Rattle.model.specs.Job.{inRange, arrayFits, capsAdmitted}
-use Rattle.model.specs.Text.{Group, chosenPins, missingPins, closedTiles, laidSides, Line, arrayLine, groupLine, endLine, formOf, lineBytes, Stage, begin, afterArray}
+use Rattle.model.specs.Text.{Group, chosenPins, missingPins, closedTiles, ownDs, laidSides, Line, arrayLine, groupLine, endLine, formOf, lineBytes, Stage, begin, afterArray}
 use Rattle.model.specs.Text.{finished, within, rank, Reader, start, asking, inTurn, names, admit, Verdict, reads, wrongAt, Reads, ended, line, wrong, Reading}
-use Rattle.model.proofs.TextProper.{by-word, names-says, names-laid}
+use Rattle.model.proofs.Own.{own-range}
+use Rattle.model.proofs.TextProper.{by-word, names-says, names-own, names-laid}
 use Rattle.model.proofs.TextNames.{names-inside}
 use Rattle.witness.specs.Decide.{some?}
 
@@ -52,7 +53,7 @@ asked true R S e = tt
 asked false R S e = absurd (none-some S e)
 
 module _ (R : Reader) (text : List ℕ) where
-  group-bounds : (g : Group) (r c d v : ℕ) → Stands R text (groupLine g r c d v) → (r < R .job .rows) × (c < R .job .columns) × (d < 4) × (v < 3 + R .job .O)
+  group-bounds : (g : Group) (r c d v : ℕ) → Stands R text (groupLine g r c d v) → (r < R .job .rows) × (c < R .job .columns) × (d < 4) × (v < 3 + 2 * R .job .O)
   unfolding admit
   group-bounds g r c d v (S, rest, a, q) =
       let t : T (names (R .job) g r c d v) =
@@ -60,10 +61,11 @@ module _ (R : Reader) (text : List ℕ) where
       let (x, y, z) = names-inside (R .job) g r c d v t in
       (x, y, z, by g t)
     where
-      by : (g : Group) → T (names (R .job) g r c d v) → v < 3 + R .job .O
+      by : (g : Group) → T (names (R .job) g r c d v) → v < 3 + 2 * R .job .O
       by chosenPins t = let (x, y) = by-word d v 1 (names-says (R .job) chosenPins r c d v t) in omega arith
       by missingPins t = let (x, y) = by-word d v 2 (names-says (R .job) missingPins r c d v t) in omega arith
       by closedTiles t = let (x, y) = by-word d v 1 (names-says (R .job) closedTiles r c d v t) in omega arith
+      by ownDs t = omega (arith, own-range (R .job) v (names-own (R .job) r c d v t .1) .1)
       by laidSides t = omega (arith, leb→le v (R .job .O) (names-laid (R .job) r c d v t .2))
 
   top : (least most n : ℕ) → T (inRange least most n) → n ≤ most
@@ -93,10 +95,10 @@ module _ (R : Reader) (text : List ℕ) where
 
   abbrev InGroup : Group → Type 0
   InGroup g =
-      (r : ℕ) × (r < R .job .rows) × ((c : ℕ) × (c < R .job .columns) × ((d : ℕ) × (d < 4) × ((v : ℕ) × (v < 3 + R .job .O) × Stands R text (groupLine g r c d v))))
+      (r : ℕ) × (r < R .job .rows) × ((c : ℕ) × (c < R .job .columns) × ((d : ℕ) × (d < 4) × ((v : ℕ) × (v < 3 + 2 * R .job .O) × Stands R text (groupLine g r c d v))))
 
   group? : (g : Group) → Dec (InGroup g)
-  group? g = some? _ (λ r. some? _ (λ c. some? _ (λ d. some? _ (λ v. stands? R text (groupLine g r c d v)) (3 + R .job .O)) 4) (R .job .columns)) (R .job .rows)
+  group? g = some? _ (λ r. some? _ (λ c. some? _ (λ d. some? _ (λ v. stands? R text (groupLine g r c d v)) (3 + 2 * R .job .O)) 4) (R .job .columns)) (R .job .rows)
 
   abbrev ArrayFound : Type 0
   ArrayFound =
@@ -107,7 +109,7 @@ module _ (R : Reader) (text : List ℕ) where
       some? _ (λ a. some? _ (λ b. some? _ (λ O. some? _ (λ D. some? _ (λ E. stands? R text (arrayLine a b O D E)) 17) 17) 17) 41) 41
 
   line? : Dec Found
-  line? = by array? (group? chosenPins) (group? missingPins) (group? closedTiles) (group? laidSides) (stands? R text endLine)
+  line? = by array? (group? chosenPins) (group? missingPins) (group? closedTiles) (group? ownDs) (group? laidSides) (stands? R text endLine)
     where
       in-group : (g : Group) (r c d v : ℕ) → Stands R text (groupLine g r c d v) → InGroup g
       in-group g r c d v w = let (l, m, n, o) = group-bounds g r c d v w in (r, l, (c, m, (d, n, (v, o, w))))
@@ -115,24 +117,26 @@ module _ (R : Reader) (text : List ℕ) where
       found : (g : Group) → InGroup g → Found
       found g (r, l, (c, m, (d, n, (v, o, w)))) = (groupLine g r c d v, w)
 
-      none-found : (ArrayFound → ⊥) → (InGroup chosenPins → ⊥) → (InGroup missingPins → ⊥) → (InGroup closedTiles → ⊥) → (InGroup laidSides → ⊥)
+      none-found : (ArrayFound → ⊥) → (InGroup chosenPins → ⊥) → (InGroup missingPins → ⊥) → (InGroup closedTiles → ⊥) → (InGroup ownDs → ⊥) → (InGroup laidSides → ⊥)
           → (Stands R text endLine → ⊥) → (l : Line) → Stands R text l → ⊥
-      none-found p q r s u t (arrayLine a b O D E) w = let (i, j, k, l, m) = array-bounds a b O D E w in p (a, i, (b, j, (O, k, (D, l, (E, m, w)))))
-      none-found p q r s u t (groupLine chosenPins i j d v) w = q (in-group chosenPins i j d v w)
-      none-found p q r s u t (groupLine missingPins i j d v) w = r (in-group missingPins i j d v w)
-      none-found p q r s u t (groupLine closedTiles i j d v) w = s (in-group closedTiles i j d v w)
-      none-found p q r s u t (groupLine laidSides i j d v) w = u (in-group laidSides i j d v w)
-      none-found p q r s u t endLine w = t w
+      none-found p q r s o u t (arrayLine a b O D E) w = let (i, j, k, l, m) = array-bounds a b O D E w in p (a, i, (b, j, (O, k, (D, l, (E, m, w)))))
+      none-found p q r s o u t (groupLine chosenPins i j d v) w = q (in-group chosenPins i j d v w)
+      none-found p q r s o u t (groupLine missingPins i j d v) w = r (in-group missingPins i j d v w)
+      none-found p q r s o u t (groupLine closedTiles i j d v) w = s (in-group closedTiles i j d v w)
+      none-found p q r s o u t (groupLine ownDs i j d v) w = o (in-group ownDs i j d v w)
+      none-found p q r s o u t (groupLine laidSides i j d v) w = u (in-group laidSides i j d v w)
+      none-found p q r s o u t endLine w = t w
 
-      by : Dec ArrayFound → Dec (InGroup chosenPins) → Dec (InGroup missingPins) → Dec (InGroup closedTiles) → Dec (InGroup laidSides)
+      by : Dec ArrayFound → Dec (InGroup chosenPins) → Dec (InGroup missingPins) → Dec (InGroup closedTiles) → Dec (InGroup ownDs) → Dec (InGroup laidSides)
           → Dec (Stands R text endLine) → Dec Found
-      by (yes (a, i, (b, j, (O, k, (D, l, (E, m, w)))))) q r s u t = yes (arrayLine a b O D E, w)
-      by (no p) (yes q) r s u t = yes (found chosenPins q)
-      by (no p) (no q) (yes r) s u t = yes (found missingPins r)
-      by (no p) (no q) (no r) (yes s) u t = yes (found closedTiles s)
-      by (no p) (no q) (no r) (no s) (yes u) t = yes (found laidSides u)
-      by (no p) (no q) (no r) (no s) (no u) (yes w) = yes (endLine, w)
-      by (no p) (no q) (no r) (no s) (no u) (no t) = no (λ x. none-found p q r s u t (x .0) (x .1))
+      by (yes (a, i, (b, j, (O, k, (D, l, (E, m, w)))))) q r s o u t = yes (arrayLine a b O D E, w)
+      by (no p) (yes q) r s o u t = yes (found chosenPins q)
+      by (no p) (no q) (yes r) s o u t = yes (found missingPins r)
+      by (no p) (no q) (no r) (yes s) o u t = yes (found closedTiles s)
+      by (no p) (no q) (no r) (no s) (yes o) u t = yes (found ownDs o)
+      by (no p) (no q) (no r) (no s) (no o) (yes u) t = yes (found laidSides u)
+      by (no p) (no q) (no r) (no s) (no o) (no u) (yes w) = yes (endLine, w)
+      by (no p) (no q) (no r) (no s) (no o) (no u) (no t) = no (λ x. none-found p q r s o u t (x .0) (x .1))
 
 -- ---- verdicts
 
@@ -142,6 +146,7 @@ finished? afterArray = no (λ e. omega (arith, ap rank e))
 finished? (within chosenPins) = no (λ e. omega (arith, ap rank e))
 finished? (within missingPins) = no (λ e. omega (arith, ap rank e))
 finished? (within closedTiles) = no (λ e. omega (arith, ap rank e))
+finished? (within ownDs) = no (λ e. omega (arith, ap rank e))
 finished? (within laidSides) = no (λ e. omega (arith, ap rank e))
 finished? finished = yes refl
 
