@@ -1,5 +1,5 @@
 -- Document 02, K5, by examples: of two wires that leave by one rim side side by side, what a mark, a closed tile and a raised count take out, and the lane of
--- the wire that stays. Assumes nothing.
+-- the wire that stays. K7: a tile's D takes out the wires through its centre, and none that goes round it. Assumes nothing.
 use mathlib.Core.Path.{_≡_, refl}
 use mathlib.Core.List.{[], _∷_}
 use Prim.Native.Nat.{ℕ}
@@ -7,10 +7,11 @@ use native.Mathlib.Omega.{arith}
 use Rattle.sums.specs.Counting.{sum, each, those, total}
 use Rattle.sums.specs.Tests.{every}
 use Rattle.model.specs.Job.{Job, marked, sideOf, isOpen, isChosen, isMissing}
-use Rattle.model.specs.Links.{north, east, south, side, places, northSide, corner, leg, behindOf, aheadOf, Step, go, come, head}
+use Rattle.model.specs.Links.{north, east, south, west, side, places, northSide, corner, spoke, leg, behindOf, aheadOf, Step, go, come, head}
 use Rattle.model.specs.Loads.{departures}
 use Rattle.model.specs.Wires.{fallingEnds, endsOn, arrivalAt, leaving, firstLoaded, hopAt, isWired, wireCount, unwired, to, out, pastTheEnd, partAt}
-use Rattle.model.specs.Left.{hopCount, leftLoads, meets, avoids, hasLane, markLeft, closeLeft, laidLeft}
+use Rattle.model.specs.Left.{hopCount, leftLoads, meets, avoids, hasLane, markLeft, closeLeft, laidLeft, centreLeft}
+use Rattle.model.specs.Examples.{jobOwn}
 use Rattle.model.proofs.FourPins.{wiresAlong}
 use Rattle.model.proofs.LaneExamples.{jobPair, loadsPair}
 
@@ -38,6 +39,21 @@ pub count-leaves-one : (s : Step) → laidLeft jobPair loadsPair (sideOf 0 0 0) 
 unfolding laidLeft leftLoads hasLane hopCount sum hopAt leaving firstLoaded arrivalAt endsOn fallingEnds each isWired departures total places those
     isChosen isMissing isOpen head aheadOf behindOf
 count-leaves-one s = omega arith
+
+-- K7: "the wires through that tile's centre": neither is one
+pub diagonal-leaves-both : (s : Step) → centreLeft jobPair loadsPair 0 0 s ≡ loadsPair s
+unfolding centreLeft leftLoads avoids every meets hopCount sum hopAt leaving firstLoaded arrivalAt endsOn fallingEnds each isWired departures total places those
+    isChosen isMissing isOpen head aheadOf behindOf
+diagonal-leaves-both s = omega arith
+
+-- the wire that passes the centre of the one open tile of `jobOwn` is
+abbrev through : Step → ℕ
+through = wiresAlong (go (leg north) 1 1 ∷ come (spoke west) 0 1 ∷ go (spoke north) 0 1 ∷ go northSide 0 1 ∷ [])
+
+pub diagonal-leaves-none : (s : Step) → centreLeft jobOwn through 0 1 s ≡ 0
+unfolding centreLeft leftLoads avoids every meets hopCount sum hopAt leaving firstLoaded arrivalAt endsOn fallingEnds each isWired departures total places those
+    isChosen isMissing isOpen head aheadOf behindOf
+diagonal-leaves-none s = refl
 
 -- "Every other wire keeps its places, though its lane numbers may shrink": the eastern wire has lane 0 at the rim, where it had lane 1.
 pub lane-shrinks :

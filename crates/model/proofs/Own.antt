@@ -1,17 +1,17 @@
--- K7: the tiles' own D. A value that is given to a tile is there and no other changes; the values of a proper job are those that its text has; and the D of
+-- K7: the tiles' own D. A D that is given to a tile is there and no other changes; the values of a proper job are those that its text has; and the D of
 -- every tile, its own or the job's, lies from O to 2×O. Assumes nothing.
-use mathlib.Core.Path.{_≡_, refl, sym, subst, _∙_}
+use mathlib.Core.Path.{_≡_, refl, sym, ap, subst, _∙_}
 use mathlib.Core.Logic.{_≢_, _⊎_, inl, inr}
-use mathlib.Core.Bool.{Bool, true, false, not, _&&_}
+use mathlib.Core.Bool.{Bool, true, false, not, _&&_, _||_}
 use Prim.Native.Nat.{ℕ, _*_, _≤_, _<_}
 use native.Mathlib.Omega.{arith}
 use lib.Dec.{T, T-not, eqb, leb, eqb→eq, eqb-refl, leb→le}
 use Rattle.sums.specs.Counting.{when}
 use Rattle.sums.specs.Sums.{when-some}
-use Rattle.sums.specs.Tests.{Same, other, same?, and-left, and-right, or-by}
-use Rattle.model.specs.Job.{Job, Side, ofNorth, ofWest, laidOn, laidBy, withOwnD, tileD, inRange, capsFit, isTile, isOwnD, ownDFits, AddedFits, Proper}
+use Rattle.sums.specs.Tests.{Same, same, other, same?, and-left, and-right, and-both, or-by, so-not}
+use Rattle.model.specs.Job.{Job, Side, ofNorth, ofWest, laidOn, laidBy, put, withOwnD, ownFor, diagonalBy, tileD, inRange, capsFit, isTile, isOwnD, ownDFits, AddedFits, Proper}
 use Rattle.model.specs.Text.{ownDs, valueAt}
-use Rattle.model.proofs.Sides.{put-holds}
+use Rattle.model.proofs.Sides.{put-at, put-else, put-holds}
 
 -- ---- ranges
 
@@ -62,6 +62,10 @@ tile-range J p r c = by (eqb d 0) (same? d 0) (own-or-none J (p .tiles) r c)
 
 -- ---- a value given to a tile
 
+pub or-so : (a b : Bool) → T b → T (a || b)
+or-so true b t = tt
+or-so false b t = t
+
 pub own-proper : (J : Job) (r c d : ℕ) → Proper J → T (isTile J r c) → T (ownDFits J d) → Proper (withOwnD J r c d)
 own-proper J r c d p t u =
     let f : AddedFits J = p .added in
@@ -84,6 +88,73 @@ own-proper J r c d p t u =
     here : (b : Bool) → T b → T (elim b as (λ x. Bool) [ true ↦ ownDFits J d | false ↦ eqb d 0 ])
     here true s = u
     here false s = absurd s
+
+-- what is kept of a value is none of the job's D, and else the value
+pub for-same : (J : Job) (d : ℕ) → d ≡ J .D → ownFor J d ≡ 0
+for-same J d e = by (eqb d (J .D)) (same? d (J .D))
+  where
+    by : (b : Bool) → Same d (J .D) b → _≡_ {A = ℕ} (elim b as (λ x. ℕ) [ true ↦ 0 | false ↦ d ]) 0
+    by true s = refl
+    by false (other n) = absurd (n e)
+
+pub for-other : (J : Job) (d : ℕ) → d ≢ J .D → ownFor J d ≡ d
+for-other J d n = by (eqb d (J .D)) (same? d (J .D))
+  where
+    by : (b : Bool) → Same d (J .D) b → elim b as (λ x. ℕ) [ true ↦ 0 | false ↦ d ] ≡ d
+    by true (same e) = absurd (n e)
+    by false s = refl
+
+-- the D of a tile by what it has of its own
+figure-none : (J : Job) (r c : ℕ) → J .added .ownD r c ≡ 0 → tileD J r c ≡ J .D
+figure-none J r c e = ap (λ (n : ℕ). elim (eqb n 0) as (λ x. ℕ) [ true ↦ J .D | false ↦ n ]) e
+
+figure-own : (J : Job) (r c : ℕ) → J .added .ownD r c ≢ 0 → tileD J r c ≡ J .added .ownD r c
+figure-own J r c n = by (eqb d 0) (same? d 0)
+  where
+    d : ℕ
+    d = J .added .ownD r c
+
+    by : (b : Bool) → Same d 0 b → elim b as (λ x. ℕ) [ true ↦ J .D | false ↦ d ] ≡ d
+    by true (same e) = absurd (n e)
+    by false s = refl
+
+pub diagonal-proper : (J : Job) (r c d : ℕ) → Proper J → T (isTile J r c) → T (inRange (J .O) (2 * J .O) d) → Proper (diagonalBy J r c d)
+diagonal-proper J r c d p t u = own-proper J r c (ownFor J d) p t (by (eqb d (J .D)) refl)
+  where
+    by : (b : Bool) → eqb d (J .D) ≡ b → T (ownDFits J (elim b as (λ x. ℕ) [ true ↦ 0 | false ↦ d ]))
+    by true e = tt
+    by false e = or-so (eqb d 0) (isOwnD J d) (and-both (inRange (J .O) (2 * J .O) d) (not (eqb d (J .D))) u (so-not e))
+
+-- the tile has the D that it is given, and no other tile another
+pub diagonal-here : (J : Job) (r c d : ℕ) → Proper J → T (inRange (J .O) (2 * J .O) d) → tileD (diagonalBy J r c d) r c ≡ d
+diagonal-here J r c d p u = by (eqb d (J .D)) (same? d (J .D))
+  where
+    here : (v : ℕ) → ownFor J d ≡ v → put (J .added .ownD) r c (ownFor J d) r c ≡ v
+    here v e = put-at (J .added .ownD) r c (ownFor J d) ∙ e
+
+    some : d ≢ 0
+    some e = omega (arith, range-in (J .O) (2 * J .O) d u .0, range-in 1 8 (J .O) (and-left (inRange 1 8 (J .O)) (inRange (J .O) (2 * J .O) (J .D) && inRange 0 16 (J .E)) (p .caps)) .0)
+
+    by : (b : Bool) → Same d (J .D) b → tileD (diagonalBy J r c d) r c ≡ d
+    by true (same e) = figure-none (diagonalBy J r c d) r c (here 0 (for-same J d e)) ∙ sym e
+    by false (other n) =
+        let e : put (J .added .ownD) r c (ownFor J d) r c ≡ d = here d (for-other J d n) in
+        figure-own (diagonalBy J r c d) r c (λ z. some (sym e ∙ z)) ∙ e
+
+pub diagonal-other : (J : Job) (r c d i j : ℕ) → (i ≡ r → j ≡ c → ⊥) → tileD (diagonalBy J r c d) i j ≡ tileD J i j
+diagonal-other J r c d i j n = ap (λ (m : ℕ). elim (eqb m 0) as (λ x. ℕ) [ true ↦ J .D | false ↦ m ]) (put-else (J .added .ownD) r c (ownFor J d) i j n)
+
+-- the value in force is what the tile keeps already
+pub own-kept : (J : Job) (r c d : ℕ) → AddedFits J → tileD J r c ≡ d → J .added .ownD r c ≡ ownFor J d
+own-kept J r c d f = by (eqb v 0) (same? v 0) (own-or-none J f r c)
+  where
+    v : ℕ
+    v = J .added .ownD r c
+
+    by : (b : Bool) → Same v 0 b → (v ≡ 0) ⊎ T (isOwnD J v) → elim b as (λ x. ℕ) [ true ↦ J .D | false ↦ v ] ≡ d → v ≡ ownFor J d
+    by true (same e) k q = e ∙ sym (for-same J d (sym q))
+    by false (other n) (inl e) q = absurd (n e)
+    by false (other n) (inr t) q = q ∙ sym (for-other J d (λ z. own-range J v t .2 (q ∙ z)))
 
 -- a value does not touch the counts, nor a count the values
 pub counts-own : (K : Job) (r c d : ℕ) (s : Side) → laidOn (withOwnD K r c d) s ≡ laidOn K s

@@ -1,23 +1,23 @@
--- Document 01, "Settled by hand" and "Record and operations": with which number New, Mark, Close, Lay and a trial are refused, on rows with one fault and with more; that
+-- Document 01, "Settled by hand" and "Record and operations": with which number New, Mark, Close, Lay, `diagonal` and a trial are refused, on rows with one fault and with more; that
 -- a side named from either tile is the same call; that a value already there changes nothing; that Shortfall tests the scratch before the output; and how far the scratch is cleared. Assumes nothing.
 use mathlib.Core.Path.{_≡_, refl, sym, ap, _∙_}
 use mathlib.Core.Bool.{Bool, true, false, _&&_}
 use mathlib.Core.List.{List, [], _∷_, List·Memᴰ}
 use mathlib.Core.Option.{Option, none, some}
-use Prim.Native.Nat.{ℕ, suc, _+_, _-_, _≤_, _<_}
+use Prim.Native.Nat.{ℕ, suc, _+_, _-_, _*_, _≤_, _<_}
 use native.Mathlib.Omega.{arith}
 use borrow.Author.Tests.{le-leb}
 use lib.Dec.{T, eqb, leb, ltb, eqb→eq, eqb-refl, lt→ltb, ltb→lt}
 use lib.ListN.{length, getD, replicate, drop, length-replicate, getD-replicate, List·getD-append}
 use lib.Seq.{getD-append-add, getD-drop}
 use Rattle.sums.specs.Tests.{and-left, and-right, and-both, every, every-at}
-use Rattle.model.specs.Job.{Job, arrayFits, capsAdmitted, fresh, marked, closed, Side, sideOf, laidOn, laidBy, isPin, isTile}
+use Rattle.model.specs.Job.{Job, arrayFits, capsAdmitted, fresh, marked, closed, Side, sideOf, laidOn, laidBy, diagonalBy, tileD, inRange, isPin, isTile}
 use Rattle.model.specs.Links.{Step}
 use Rattle.model.specs.Record.{recordSize, scratchSize, jobOf, load, unwiredRecord, over}
-use Rattle.model.specs.Left.{markLeft, closeLeft, laidLeft}
-use Rattle.model.specs.Calls.{Answer, refused, done, refusal, After, after, cleared, Test, test, asked, newly, edited, markedBy, closedBy, laidIn, triedOn, Lacks}
+use Rattle.model.specs.Left.{markLeft, closeLeft, laidLeft, centreLeft}
+use Rattle.model.specs.Calls.{Answer, refused, done, refusal, After, after, cleared, Test, test, asked, newly, edited, markedBy, closedBy, laidIn, diagonalIn, triedOn, Lacks}
 use Rattle.model.specs.Trial.{Trial, seedFits, percentsFit, trialJob}
-use Rattle.model.specs.Examples.{Opening, openings, Edit, markings, closings, Laying, layings, Trying, tryings}
+use Rattle.model.specs.Examples.{Opening, openings, Edit, markings, closings, Laying, layings, diagonals, Trying, tryings}
 use Rattle.model.proofs.Asked.{hold-both, asked-holds, asked-all}
 
 -- the number of the first of two tests that fails
@@ -114,6 +114,18 @@ layings-hold x m rec e =
     ∙ same-number _ _
     (every-at layings (λ y. sameNumber (firstOfThree (isTile wider (y .row) (y .column)) 4 (leb (y .side) 3) 5 (leb (y .count) 2) 11) (y .number)) tt m))
 
+-- ---- `diagonal`, on the same
+
+pub diagonals-hold : (x : Edit) → List·Memᴰ x diagonals → (rec : List ℕ) → jobOf rec ≡ wider
+    → refusal (diagonalIn (x .row) (x .column) (x .value) rec .answer) ≡ x .number
+unfolding every
+diagonals-hold x m rec e =
+    let J : Job = jobOf rec in
+    two-tests (isTile J (x .row) (x .column)) 4 (inRange (J .O) (2 * J .O) (x .value)) 3 rec _
+    (edited-accepted (eqb (tileD J (x .row) (x .column)) (x .value)) (diagonalBy J (x .row) (x .column) (x .value)) (centreLeft J (load rec) (x .row) (x .column)) rec)
+    ∙ (ap (λ (J : Job). firstOf (isTile J (x .row) (x .column)) 4 (inRange (J .O) (2 * J .O) (x .value)) 3) e
+    ∙ same-number _ _ (every-at diagonals (λ y. sameNumber (firstOf (isTile wider (y .row) (y .column)) 4 (inRange 2 4 (y .value)) 3) (y .number)) tt m))
+
 -- ---- a trial
 
 -- the number of the first of four tests that fails
@@ -190,6 +202,14 @@ already-closed rec r c v t u e =
     let ts : List Test = test (isTile (jobOf rec) r c) 4 ∷ test (leb v 1) 5 ∷ [] in
     already ts rec (jobOf rec .state r c) v (closed (jobOf rec) r c v) (closeLeft (jobOf rec) (load rec) r c) e
     ∙ asked-all rec [] (after done rec [] []) ts (hold-both (isTile (jobOf rec) r c) (leb v 1) t u)
+
+pub already-diagonal : (rec : List ℕ) (r c d : ℕ) → T (isTile (jobOf rec) r c) → T (inRange (jobOf rec .O) (2 * jobOf rec .O) d) → tileD (jobOf rec) r c ≡ d
+    → diagonalIn r c d rec ≡ after done rec [] []
+already-diagonal rec r c d t u e =
+    let J : Job = jobOf rec in
+    let ts : List Test = test (isTile J r c) 4 ∷ test (inRange (J .O) (2 * J .O) d) 3 ∷ [] in
+    already ts rec (tileD J r c) d (diagonalBy J r c d) (centreLeft J (load rec) r c) e
+    ∙ asked-all rec [] (after done rec [] []) ts (hold-both (isTile J r c) (inRange (J .O) (2 * J .O) d) t u)
 
 -- ---- Shortfall
 

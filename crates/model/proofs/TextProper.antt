@@ -1,7 +1,7 @@
 -- Document 01, "Job text" and "Runs": a fresh job, a mark and a closed tile within the array are proper, so a text that is read gives a proper job: every
 -- line that may stand after the array names a pin or tile of it. Assumes nothing.
 use mathlib.Core.Path.{_≡_, refl, sym, ap, subst}
-use mathlib.Core.Bool.{Bool, true, false, not, _&&_, _||_}
+use mathlib.Core.Bool.{Bool, true, false, not, _&&_}
 use mathlib.Core.List.{List}
 use mathlib.Core.Option.{some}
 use Prim.Native.Nat.{ℕ, _≤_}
@@ -13,7 +13,7 @@ use Rattle.model.specs.Job.{Job, arrayFits, capsFit, capsAdmitted, fresh
 use Rattle.model.specs.Text.{Group, chosenPins, missingPins, closedTiles, ownDs, laidSides, Line, arrayLine, groupLine, endLine, says, begin, rank, Reader, asking, inTurn}
 use Rattle.model.specs.Text.{writesSide, names, named, admit, Verdict, reads, wrongAt, Reads, ended, line, wrong, Reading}
 use Rattle.model.proofs.Added.{fresh-fits, fits-kept}
-use Rattle.model.proofs.Own.{own-proper}
+use Rattle.model.proofs.Own.{or-so, own-proper}
 use Rattle.model.proofs.Sides.{put-fits, laid-proper}
 
 -- ---- proper jobs
@@ -60,10 +60,6 @@ closed-proper J r c v p t u =
 pub asked : (b : Bool) (R R′ : Reader) → asking b R ≡ some R′ → T b × (R ≡ R′)
 asked true R R′ e = (tt, cc)
 asked false R R′ e = let z : _≡_ {A = ℕ} 0 1 = cc in absurd (omega arith)
-
-or-so : (a b : Bool) → T b → T (a || b)
-or-so true b t = tt
-or-so false b t = t
 
 -- a line without a tail has no side, and the value that its word says
 pub by-word : (d v n : ℕ) → T (eqb d 0 && eqb v n) → (d ≡ 0) × (v ≡ n)

@@ -4,17 +4,17 @@ use mathlib.Core.Path.{_≡_}
 use mathlib.Core.Bool.{Bool, true, false, not, _&&_}
 use mathlib.Core.List.{List, [], _∷_}
 use mathlib.Core.Option.{Option, none, some}
-use Prim.Native.Nat.{ℕ, suc, _-_, _≤_, _<_}
+use Prim.Native.Nat.{ℕ, suc, _-_, _*_, _≤_, _<_}
 use lib.Dec.{T, eqb, leb}
 use lib.ListN.{length, replicate}
 use Rattle.sums.specs.Counting.{when}
-use Rattle.model.specs.Job.{Job, arrayFits, capsAdmitted, fresh, marked, closed, sideOf, laidOn, laidBy, isPin, isTile, isChosen}
+use Rattle.model.specs.Job.{Job, arrayFits, capsAdmitted, fresh, marked, closed, sideOf, laidOn, laidBy, diagonalBy, tileD, inRange, isPin, isTile, isChosen}
 use Rattle.model.specs.Links.{Step}
 use Rattle.model.specs.Route.{Greatest, chosenCount}
 use Rattle.model.specs.Near.{Smallest}
 use Rattle.model.specs.Record.{recordSize, scratchSize, jobOf, load, Legal, bytes, recordOf, unwiredRecord, over}
 use Rattle.model.specs.Wires.{Part, partAt, isWired, wireCount}
-use Rattle.model.specs.Left.{markLeft, closeLeft, laidLeft}
+use Rattle.model.specs.Left.{markLeft, closeLeft, laidLeft, centreLeft}
 use Rattle.model.specs.Text.{Verdict, reads, wrongAt, Reading, textOf}
 use Rattle.model.specs.Listing.{wiresListing}
 use Rattle.model.specs.Trial.{Trial, seedFits, percentsFit, trialJob}
@@ -27,6 +27,7 @@ pub data Call : Type 0 where
   mark : (row column mark : ℕ) → Call
   close : (row column state : ℕ) → Call
   lay : (row column side count : ℕ) → Call
+  diagonal : (row column d : ℕ) → Call
   step : (scratch : List ℕ) → Call
   shortfall : (scratch output : List ℕ) → Call
   part : (row column index : ℕ) → Call
@@ -134,6 +135,14 @@ laidIn r c d n rec =
     asked (test (isTile J r c) 4 ∷ test (leb d 3) 5 ∷ test (leb n (J .O)) 11 ∷ []) rec []
     (edited (eqb (laidOn J (sideOf r c d)) n) (laidBy J (sideOf r c d) n) (laidLeft J (load rec) (sideOf r c d) n) rec)
 
+-- K7: "A tile may have its own D, O to 2×O." "A changed value takes out the wires through that tile's centre", where it rises too. "4 no such tile; then 3 a value
+-- out of range."
+abbrev pub diagonalIn : ℕ → ℕ → ℕ → List ℕ → After
+diagonalIn r c d rec =
+    let J : Job = jobOf rec in
+    asked (test (isTile J r c) 4 ∷ test (inRange (J .O) (2 * J .O) d) 3 ∷ []) rec []
+    (edited (eqb (tileD J r c) d) (diagonalBy J r c d) (centreLeft J (load rec) r c) rec)
+
 -- "4 no such pin, or it is not chosen."
 abbrev pub listed : ℕ → ℕ → ℕ → List ℕ → After
 listed r c i rec = asked (test (isChosen (jobOf rec) r c) 4 ∷ []) rec [] (after (lists (partAt (jobOf rec) (load rec) r c i)) rec [] [])
@@ -222,6 +231,7 @@ Did (new rows columns O D E) rec a = a ≡ newly rows columns O D E rec
 Did (mark r c m) rec a = On rec [] [] a (a ≡ markedBy r c m rec)
 Did (close r c v) rec a = On rec [] [] a (a ≡ closedBy r c v rec)
 Did (lay r c d n) rec a = On rec [] [] a (a ≡ laidIn r c d n rec)
+Did (diagonal r c d) rec a = On rec [] [] a (a ≡ diagonalIn r c d rec)
 Did (step scratch) rec a = On rec scratch [] a (Steps scratch rec a)
 Did (shortfall scratch output) rec a = On rec scratch output a (Lacks scratch output rec a)
 Did (part r c i) rec a = On rec [] [] a (a ≡ listed r c i rec)

@@ -99,6 +99,12 @@ layings =
     laying 1 1 0 2 none ∷ laying 0 1 3 0 none ∷ laying 2 0 0 1 (some 4) ∷ laying 0 2 0 1 (some 4) ∷ laying 0 0 4 1 (some 5) ∷ laying 1 1 3 3 (some 11)
     ∷ laying 2 0 4 3 (some 4) ∷ laying 0 0 4 3 (some 5) ∷ []
 
+-- K7: `diagonal` on an idle, open job of 3 by 3 pins with O 2 and D 3: 4 before 3. The job's own D may be given, and any other from O to 2×O.
+abbrev pub diagonals : List Edit
+diagonals =
+    edit 1 1 4 none ∷ edit 0 1 2 none ∷ edit 0 0 3 none ∷ edit 2 0 2 (some 4) ∷ edit 0 2 2 (some 4) ∷ edit 0 0 1 (some 3) ∷ edit 1 1 5 (some 3)
+    ∷ edit 2 0 5 (some 4) ∷ []
+
 -- ---- pairing: which positions arrive, and the pairs in the order in which they are joined
 
 pub record Sequence : Type 0 where

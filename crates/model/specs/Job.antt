@@ -112,6 +112,13 @@ ownOver A r c d = record { laidNorth = A .laidNorth; laidWest = A .laidWest; own
 abbrev pub withOwnD : Job → ℕ → ℕ → ℕ → Job
 withOwnD J r c d = withAdded J (ownOver (J .added) r c d)
 
+-- "Giving a tile the job's D means it has none of its own": what the tile keeps of the value d, and the job with that value given
+abbrev pub ownFor : Job → ℕ → ℕ
+ownFor J d = elim (eqb d (J .D)) [ true ↦ 0 | false ↦ d ]
+
+abbrev pub diagonalBy : Job → ℕ → ℕ → ℕ → Job
+diagonalBy J r c d = withOwnD J r c (ownFor J d)
+
 -- ---- its limits
 
 -- how many wires the north and the west side of the tile (r, c) take: "its limit is O less that count"

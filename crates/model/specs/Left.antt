@@ -64,6 +64,10 @@ module _ (J : Job) (f : Step → ℕ) where
   unfoldable pub closeLeft : ℕ → ℕ → Step → ℕ
   closeLeft r c = leftLoads (avoids (tilePlaces r c))
 
+  -- K7: "A changed value takes out the wires through that tile's centre."
+  unfoldable pub centreLeft : ℕ → ℕ → Step → ℕ
+  centreLeft r c = leftLoads (avoids (at centre r c ∷ []))
+
   -- the wire of the pin (r, c) has a lane of the link from the k-th on; "All wires on a link run one way."
   unfoldable pub hasLane : Link → ℕ → ℕ → ℕ → Bool
   hasLane l k r c = ltb 0 (hopCount (λ h. sameLink l (h .step .link) && leb k (h .lane)) r c)
