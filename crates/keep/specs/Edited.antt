@@ -1,5 +1,5 @@
 -- Request K5: the loads that are left when exactly the wires that meet some places are taken out, for any places whose limits change, and for the edited pin
--- or the places of the edited tile. Every other wire keeps its places; and where an idle pin is marked or a closed tile opened, no wire meets what is edited, so the loads stay as they are.
+-- or the places of the edited tile; and for the centre of a tile whose D changes (K7). Every other wire keeps its places; and where an idle pin is marked or a closed tile opened, no wire meets what is edited, so the loads stay as they are.
 -- Assumes nothing.
 use mathlib.Core.Path.{_≡_, refl, sym, ap, ap₂, subst, _∙_}
 use mathlib.Core.Option.{some}
@@ -10,12 +10,13 @@ use Prim.Native.Nat.{ℕ, _≤_}
 use native.Mathlib.Omega.{arith}
 use lib.Dec.{T, eqb, eqb→eq}
 use Rattle.sums.specs.Counting.{total}
-use Rattle.sums.specs.Tests.{so, and-right, and-both, and-not, every, every-at}
-use Rattle.model.specs.Job.{Job, isPin, isTile, isOpen, isChosen, marked, closed}
-use Rattle.model.specs.Links.{Compass, north, east, south, west, pin, missing, centre, side, Place, at, theOutside, isPlace, pinAt, Link, limit, pass, Step, turn, around, placeCode}
+use Rattle.sums.specs.Tests.{Same, same, other, same?, so, and-right, and-both, and-not, every, every-at}
+use Rattle.model.specs.Job.{Job, isPin, isTile, isOpen, isChosen, marked, closed, diagonalBy, centreLimit}
+use Rattle.model.specs.Links.{Compass, north, east, south, west, PlaceKind, pin, missing, centre, outside, nowhere, side, Place, at, theOutside, isPlace, pinAt, LinkKind, northSide, westSide, corner, spoke, leg, direct, Link, limitOf, limit, passOf, pass, Step, turn, around, placeCode}
 use Rattle.model.specs.Loads.{arrivals, Feasible, Sound}
 use Rattle.model.specs.Wires.{isWired}
-use Rattle.model.specs.Left.{leftLoads, meets, avoids, tilePlaces, markLeft, closeLeft}
+use Rattle.model.specs.Left.{leftLoads, meets, avoids, tilePlaces, markLeft, closeLeft, centreLeft}
+use Rattle.model.proofs.Own.{diagonal-other}
 use Rattle.wire.specs.Around.{step-lands}
 use Rattle.wire.specs.Next.{hop-may}
 use Rattle.wire.specs.Threads.{wired-chosen}
@@ -31,6 +32,34 @@ pub record SamePlaces (J K : Job) : Type 0 where
   pub columns : K .columns ≡ J .columns
   pub marks : (r c : ℕ) → K .mark r c ≡ J .mark r c
   pub states : (r c : ℕ) → K .state r c ≡ J .state r c
+
+-- a tile's D is a limit of its centre, and of nothing else
+diagonal-limit : (J : Job) (r c d : ℕ) (k : LinkKind) (i j : ℕ) → limitOf (diagonalBy J r c d) k i j ≡ limitOf J k i j
+unfolding limitOf
+diagonal-limit J r c d northSide i j = refl
+diagonal-limit J r c d westSide i j = refl
+diagonal-limit J r c d (corner e) i j = refl
+diagonal-limit J r c d (spoke e) i j = refl
+diagonal-limit J r c d (leg e) i j = refl
+diagonal-limit J r c d direct i j = refl
+
+diagonal-pass : (J : Job) (r c d : ℕ) (k : PlaceKind) (i j : ℕ)
+    → (passOf (diagonalBy J r c d) k i j ≡ passOf J k i j) ⊎ List·Memᴰ (at k i j) (at centre r c ∷ [])
+diagonal-pass J r c d pin i j = inl refl
+diagonal-pass J r c d missing i j = inl refl
+diagonal-pass J r c d outside i j = inl refl
+diagonal-pass J r c d nowhere i j = inl refl
+diagonal-pass J r c d (side e) i j = inl refl
+diagonal-pass J r c d centre i j = by (eqb i r) (same? i r) (eqb j c) (same? j c)
+  where
+    other-tile : (i ≡ r → j ≡ c → ⊥) → passOf (diagonalBy J r c d) centre i j ≡ passOf J centre i j
+    other-tile n = ap (λ (m : ℕ). some (centreLimit (J .O) m)) (diagonal-other J r c d i j n)
+
+    by : (a : Bool) → Same i r a → (b : Bool) → Same j c b
+        → (passOf (diagonalBy J r c d) centre i j ≡ passOf J centre i j) ⊎ List·Memᴰ (at centre i j) (at centre r c ∷ [])
+    by true (same x) true (same y) = inr (List·Memᴰ·head (λ t. at centre (x t) (y t)))
+    by true (same x) false (other n) = inl (other-tile (λ p q. n q))
+    by false (other n) b s = inl (other-tile (λ p q. n p))
 
 module _ (J : Job) (f : Step → ℕ) (S : Sound J f) where
   -- the wires that avoid places do not meet them
@@ -98,6 +127,15 @@ module _ (J : Job) (f : Step → ℕ) (S : Sound J f) where
       subst (λ (g : Step → ℕ). Keeps J (closed J r c v) f g (avoids J f (tilePlaces r c))) (left-same J f S (avoids J f (tilePlaces r c)))
       (close-keeps J f S (avoids J f (tilePlaces r c)) r c v t
       (avoided (tilePlaces r c) (at centre r c) (centre-listed r c), λ d. avoided (tilePlaces r c) (at (side d) r c) (side-listed d r c)))
+
+  -- ---- K7: the edit of a tile's D
+
+  -- "A changed value takes out the wires through that tile's centre": only the limit of that centre changes.
+  pub diagonal-edit : (r c d : ℕ) → Keeps J (diagonalBy J r c d) f (centreLeft J f r c) (avoids J f (at centre r c ∷ []))
+  unfolding centreLeft
+  diagonal-edit r c d =
+      places-keep (at centre r c ∷ []) (diagonalBy J r c d) (record { rows = refl; columns = refl; marks = λ i j. refl; states = λ i j. refl })
+      (λ l. diagonal-limit J r c d (l .kind) (l .row) (l .column)) (λ x p. diagonal-pass J r c d (x .kind) (x .row) (x .column))
 
   -- ---- edits that take out none
 

@@ -2,21 +2,22 @@
 -- more than the loads before. Assumes nothing.
 use mathlib.Core.Path.{_≡_, ap}
 use mathlib.Core.Bool.{Bool, true, false, not}
-use mathlib.Core.List.{List}
-use Prim.Native.Nat.{ℕ, _≤_, _<_}
+use mathlib.Core.List.{List, [], _∷_}
+use Prim.Native.Nat.{ℕ, _*_, _≤_, _<_}
 use native.Mathlib.Omega.{arith}
 use lib.Dec.{T, leb}
 use Rattle.sums.specs.Sums.{when-none}
 use Rattle.sums.specs.Tests.{and-not, and-both}
-use Rattle.model.specs.Job.{Job, Side, sideOf, Proper, isPin, isTile, marked, closed, laidBy}
-use Rattle.model.specs.Links.{Link, Step, turn}
+use Rattle.model.specs.Job.{Job, Side, sideOf, Proper, inRange, isPin, isTile, marked, closed, laidBy, diagonalBy}
+use Rattle.model.specs.Links.{centre, at, Link, Step, turn}
 use Rattle.model.specs.Record.{loadPlane, cell, jobOf, forthPart, backPart, load, Legal, recordOf}
-use Rattle.model.specs.Left.{leftLoads, avoids, tilePlaces, markLeft, closeLeft, laidLeft}
+use Rattle.model.specs.Left.{leftLoads, avoids, tilePlaces, markLeft, closeLeft, laidLeft, centreLeft}
 use Rattle.model.proofs.RecordOf.{inCells, Storable, load-back, record-legal}
 use Rattle.model.proofs.TextProper.{marked-proper, closed-proper}
+use Rattle.model.proofs.Own.{diagonal-proper}
 use Rattle.model.proofs.Sides.{laid-proper}
 use Rattle.keep.specs.Staying.{left-part}
-use Rattle.keep.specs.Edited.{mark-edit, close-edit}
+use Rattle.keep.specs.Edited.{mark-edit, close-edit, diagonal-edit}
 use Rattle.keep.specs.Laid.{laidStays, laid-edit}
 
 less-storable : (f g : Step → ℕ) → ((s : Step) → g s ≤ f s) → Storable f → Storable g
@@ -71,6 +72,10 @@ module _ (was : List ℕ) (g : Legal was) where
   unfolding closeLeft
   close-storable r c = left-storable (avoids J f (tilePlaces r c))
 
+  pub centre-storable : (r c : ℕ) → Storable (centreLeft J f r c)
+  unfolding centreLeft
+  centre-storable r c = left-storable (avoids J f (at centre r c ∷ []))
+
   pub laid-storable : (s : Side) (n : ℕ) → Storable (laidLeft J f s n)
   unfolding laidLeft
   laid-storable s n = left-storable (laidStays J f (g .sound) s n)
@@ -88,6 +93,10 @@ module _ (was : List ℕ) (g : Legal was) where
     laid-legal d n t u =
         record-legal (laidBy J (sideOf r c d) n) (laidLeft J f (sideOf r c d) n) (laid-storable (sideOf r c d) n) (laid-proper J r c d n proper t u)
         (laid-edit J f (g .sound) (sideOf r c d) n .sound)
+
+    pub diagonal-legal : (d : ℕ) → T (isTile J r c) → T (inRange (J .O) (2 * J .O) d) → Legal (recordOf (diagonalBy J r c d) (centreLeft J f r c))
+    diagonal-legal d t u =
+        record-legal (diagonalBy J r c d) (centreLeft J f r c) (centre-storable r c) (diagonal-proper J r c d proper t u) (diagonal-edit J f (g .sound) r c d .sound)
 
     -- the loads that it gives back
     pub mark-back : (m : ℕ) (s : Step) → load (recordOf (marked J r c m) (markLeft J f r c)) s ≡ markLeft J f r c s

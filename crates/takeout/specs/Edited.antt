@@ -194,10 +194,18 @@ module _ (was : List ℕ) (g : Legal was) where
   -- ---- a tile
 
   module _ (r c : ℕ) where
+    -- its centre alone
+    pub centre-closed : (a : List ℕ) → isOpen J r c ≡ false → Marks was a [] → Marks was a (at centre r c ∷ [])
+    centre-closed a e = marks-nowhere (at centre r c) [] a (λ z. omega arith) (λ p. subst T e p)
+
+    pub centre-open : (a b : List ℕ) → isOpen J r c ≡ true → AddsAt was (8 * (41 + 40 * r + c) + 7) a b → Marks was a [] → Marks was b (at centre r c ∷ [])
+    unfolding exitOf
+    centre-open a b t A = marks-place (at centre r c) [] a b (so t) (A (at centre r c) (so t) (omega arith))
+
     pub tile-closed : (a : List ℕ) → isOpen J r c ≡ false → Marks was a [] → Marks was a (tilePlaces r c)
     tile-closed a e M =
         place (side north) (λ p. p) (λ z. omega arith) _ (place (side east) (λ p. p) (λ z. omega arith) _
-        (place (side south) (λ p. p) (λ z. omega arith) _ (place (side west) (λ p. p) (λ z. omega arith) _ (place centre (λ p. p) (λ z. omega arith) [] M))))
+        (place (side south) (λ p. p) (λ z. omega arith) _ (place (side west) (λ p. p) (λ z. omega arith) _ (centre-closed a e M))))
       where
         place : (k : PlaceKind) → (T (isPlace J (at k r c)) → T (isOpen J r c)) → placeCode k ≢ 3 → (xs : List Place) → Marks was a xs → Marks was a (at k r c ∷ xs)
         place k held o xs = marks-nowhere (at k r c) xs a o (λ p. subst T e (held p))
@@ -208,8 +216,7 @@ module _ (was : List ℕ) (g : Legal was) where
         → Marks was z (tilePlaces r c)
     unfolding exitOf
     tile-open m n s e w z t C W S E N M =
-        place north n z N (place east e n E (place south s e S (place west w s W
-        (marks-place (at centre r c) [] m w (so t) (C (at centre r c) (so t) (omega arith)) M))))
+        place north n z N (place east e n E (place south s e S (place west w s W (centre-open m w t C M))))
       where
         place : (d : Compass) (a b : List ℕ) {xs : List Place} → AddsAt was (8 * (41 + 40 * r + c) + (2 + compassCode d)) a b → Marks was a xs → Marks was b (at (side d) r c ∷ xs)
         place d a b {xs} A = marks-place (at (side d) r c) xs a b (so t) (A (at (side d) r c) (so t) refl)

@@ -1,15 +1,15 @@
--- The record after the edit of a mark, a state or a count: that of the edited job with the loads of the wires that stay. Assumes nothing.
+-- The record after the edit of a mark, a state, an own D or a count: that of the edited job with the loads of the wires that stay. Assumes nothing.
 use mathlib.Core.Path.{_≡_, ap, _∙_}
 use mathlib.Core.Bool.{not}
 use mathlib.Core.List.{List, [], _∷_}
 use Prim.Native.Nat.{ℕ, _≤_, _<_}
 use lib.ListN.{length, set}
-use Rattle.model.specs.Job.{Job, sideOf, marked, closed, laidBy}
-use Rattle.model.specs.Links.{pinAt, Step}
-use Rattle.model.specs.Record.{recordSize, markPlane, statePlane, offset, jobOf, load, Legal, recordOf, over}
+use Rattle.model.specs.Job.{Job, sideOf, marked, closed, laidBy, withOwnD}
+use Rattle.model.specs.Links.{centre, at, pinAt, Step}
+use Rattle.model.specs.Record.{recordSize, markPlane, statePlane, ownDPlane, offset, jobOf, load, Legal, recordOf, over}
 use Rattle.channel.specs.Laid.{sideOffset, side-inside}
-use Rattle.channel.specs.Written.{marked-with, closed-with, laid-with}
-use Rattle.model.specs.Left.{leftLoads, tilePlaces, markLeft, closeLeft, laidLeft}
+use Rattle.channel.specs.Written.{marked-with, closed-with, own-with, laid-with}
+use Rattle.model.specs.Left.{leftLoads, tilePlaces, markLeft, closeLeft, centreLeft, laidLeft}
 use Rattle.takeout.specs.Marks.{isMarked}
 use Rattle.takeout.specs.Edited.{Marks, left-avoids}
 
@@ -39,6 +39,14 @@ module _ (was taken rec rec′ rec″ : List ℕ) (g : Legal was) (r c v : ℕ) 
       k
       ∙ (ap (λ (z : List ℕ). set z (offset statePlane r c) v) (e ∙ ap (λ (h : Step → ℕ). over (recordOf J h) rec) (left-avoids was g (tilePlaces r c) taken M))
       ∙ closed-with J (closeLeft J f r c) rec r c v long lr lc)
+
+  pub diagonal-stored : r < 40 → c < 40 → Marks was taken (at centre r c ∷ []) → rec″ ≡ set rec′ (offset ownDPlane r c) v
+      → rec″ ≡ over (recordOf (withOwnD (jobOf was) r c v) (centreLeft (jobOf was) (load was) r c)) rec
+  unfolding centreLeft
+  diagonal-stored lr lc M k =
+      k
+      ∙ (ap (λ (z : List ℕ). set z (offset ownDPlane r c) v) (e ∙ ap (λ (h : Step → ℕ). over (recordOf J h) rec) (left-avoids was g (at centre r c ∷ []) taken M))
+      ∙ own-with J (centreLeft J f r c) rec r c v long lr lc)
 
   -- the count v of a side
   pub lay-stored : (d : ℕ) → r < 39 → c < 39 → leftLoads J f (λ q p. not (isMarked taken q p)) ≡ laidLeft J f (sideOf r c d) v

@@ -5,11 +5,11 @@ ghost use mathlib.Core.Path.{_≡_};
 ghost use mathlib.Core.List.{[], _∷_};
 ghost use lib.Dec.{T};
 ghost use lib.ListN.{length};
-ghost use Rattle.model.specs.Job.{isChosen, marked, closed, sideOf, laidBy};
-ghost use Rattle.model.specs.Links.{Place, isPlace, pinAt, turn};
+ghost use Rattle.model.specs.Job.{isChosen, marked, closed, sideOf, laidBy, withOwnD};
+ghost use Rattle.model.specs.Links.{centre, Place, isPlace, pinAt, turn, at};
 ghost use Rattle.model.specs.Near.{exit};
 ghost use Rattle.model.specs.Record.{jobOf, load, Legal, recordOf, over};
-ghost use Rattle.model.specs.Left.{tilePlaces, markLeft, closeLeft, laidLeft};
+ghost use Rattle.model.specs.Left.{tilePlaces, markLeft, closeLeft, centreLeft, laidLeft};
 ghost use Rattle.channel.specs.Map.{stepOf, isLinkDart, dartOf, laid};
 ghost use Rattle.takeout.specs.Taken.{TakesOut};
 ghost use Rattle.takeout.specs.LeftRecord.{SameRecord};
@@ -29,6 +29,7 @@ use channel::places::step_back;
 use channel::places::wires_in;
 use channel::set_laid;
 use channel::set_mark;
+use channel::set_own;
 use channel::set_state;
 use wire::Hop;
 use wire::first_hop;
@@ -161,6 +162,17 @@ fn mark_tile(was: &[u8], taken: &mut [u8], r: usize, c: usize)
     mark_place(was, taken, first + 2);
 }
 
+// Marks the pins of the wires that pass the centre of the tile (r, c); a closed tile has none.
+fn mark_centre(was: &[u8], taken: &mut [u8], r: usize, c: usize)
+    requires { ⌜ Legal (now was) × (1600 ≤ length (now taken)) × (r < 40) × (c < 40) ⌝ }
+    ensures { λ _. ⌜ (Marks (now (was .entry)) (now (taken .entry)) [] → Marks (now (was .entry)) (now (taken .exit)) (at centre r c ∷ [])) ⌝ }
+{
+    if !is_open(was, r, c) {
+        return;
+    }
+    mark_place(was, taken, 8 * (41 + 40 * r + c) + 7);
+}
+
 // The mark of a pin, in a record from which only the wires that start at the pin or pass it are taken out.
 pub fn mark_keeping(was: &[u8], rec: &mut [u8], r: usize, c: usize, m: usize)
     requires { ⌜ Legal (now was) × (32768 ≤ length (now rec)) × SameRecord (now was) (now rec) × (r < 40) × (c < 40) × (m ≤ 2) ⌝ }
@@ -183,6 +195,18 @@ pub fn close_keeping(was: &[u8], rec: &mut [u8], r: usize, c: usize, v: usize)
     mark_tile(was, &mut taken, r, c);
     take_marked(was, rec, &taken);
     set_state(rec, r, c, v);
+}
+
+// The own D of a tile, 0 for none, in a record from which only the wires through the tile's centre are taken out.
+pub fn diagonal_keeping(was: &[u8], rec: &mut [u8], r: usize, c: usize, d: usize)
+    requires { ⌜ Legal (now was) × (32768 ≤ length (now rec)) × SameRecord (now was) (now rec) × (r < 40) × (c < 40) × (d < 256) ⌝ }
+    ensures { λ _. ⌜ now (rec .exit) ≡ over (recordOf (withOwnD (jobOf (now (was .entry))) r c d) (centreLeft (jobOf (now (was .entry))) (load (now (was .entry))) r c))
+        (now (rec .entry)) ⌝ }
+{
+    let mut taken = [0u8; 1600];
+    mark_centre(was, &mut taken, r, c);
+    take_marked(was, rec, &taken);
+    set_own(rec, r, c, d);
 }
 
 // The count of a side of a tile, in a record from which only the wires in the side's highest lanes are taken out, just enough.
