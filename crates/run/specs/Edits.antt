@@ -3,20 +3,20 @@
 use mathlib.Core.Path.{_≡_, refl, sym, ap, subst, _∙_}
 use mathlib.Core.Bool.{Bool, true, false, _&&_}
 use mathlib.Core.List.{List, [], _∷_, _++_}
-use Prim.Native.Nat.{ℕ, _≤_}
+use Prim.Native.Nat.{ℕ, _*_, _≤_}
 use native.Mathlib.Omega.{arith}
 use lib.Dec.{T, eqb, leb}
 use Rattle.sums.specs.Tests.{and-both}
-use Rattle.model.specs.Job.{Job, marked, closed, sideOf, laidOn, laidBy, isPin, isTile}
+use Rattle.model.specs.Job.{Job, marked, closed, sideOf, laidOn, laidBy, diagonalBy, tileD, inRange, isPin, isTile}
 use Rattle.model.specs.Links.{Step}
 use Rattle.model.specs.Record.{jobOf, load, recordOf, over}
-use Rattle.model.specs.Left.{markLeft, closeLeft, laidLeft}
-use Rattle.model.specs.Calls.{Call, mark, close, lay, refusal, Accepted, After, Did, Test, test, asked, edited, wiresIn}
+use Rattle.model.specs.Left.{markLeft, closeLeft, laidLeft, centreLeft}
+use Rattle.model.specs.Calls.{Call, mark, close, lay, diagonal, refusal, Accepted, After, Did, Test, test, asked, edited, wiresIn}
 use Rattle.model.specs.Run.{Lent, Service, Sets, Follows}
 use Rattle.model.proofs.Asked.{allHold, hold-both, asked-all}
 use Rattle.run.specs.Invariant.{call-leaves}
 use Rattle.run.specs.Runs.{accepted-kept, becomes-set, recAfter}
-use Rattle.run.specs.OthersStay.{mark-stays, close-stays, lay-stays, stays-fewer}
+use Rattle.run.specs.OthersStay.{mark-stays, close-stays, lay-stays, diagonal-stays, stays-fewer}
 use Rattle.run.specs.Blank.{Blank}
 
 -- edits within the array, from the job J to the job K
@@ -28,6 +28,8 @@ pub data Edits : Job → List Call → Job → Type 0 where
       → Edits J (close r c v ∷ calls) K
   lays : {J K : Job} {calls : List Call} (r c d n : ℕ) → Lent (lay r c d n) → T (isTile J r c) → T (leb d 3) → T (leb n (J .O))
       → Edits (laidBy J (sideOf r c d) n) calls K → Edits J (lay r c d n ∷ calls) K
+  gives : {J K : Job} {calls : List Call} (r c d : ℕ) → Lent (diagonal r c d) → T (isTile J r c) → T (inRange (J .O) (2 * J .O) d)
+      → Edits (diagonalBy J r c d) calls K → Edits J (diagonal r c d ∷ calls) K
 
 -- where nothing is wired an edit takes nothing out
 edited-done : (ts : List Test) (already : Bool) (K : Job) (left : Step → ℕ) (rec : List ℕ) → T (allHold ts) → wiresIn rec ≡ 0
@@ -89,11 +91,23 @@ module _ (S : Service) where
       (and-both (isTile I r c) (leb d 3 && (leb n (I .O) && true)) y (hold-both (leb d 3) (leb n (I .O)) u z))
       (stays-fewer rec _ _ _ (lay-stays rec (k .kept .legal) r c d n y z))
 
+  diagonal-goes : (rec : List ℕ) (J : Job) (r c d : ℕ) → Blank rec J → Lent (diagonal r c d) → T (isTile J r c) → T (inRange (J .O) (2 * J .O) d)
+      → Goes (diagonal r c d) rec (diagonalBy J r c d)
+  diagonal-goes rec J r c d k w t u =
+      let I : Job = jobOf rec in
+      let x : Did (diagonal r c d) rec (S .does (diagonal r c d) rec) = S .did (diagonal r c d) rec w (k .kept .buffer) in
+      let y : T (isTile I r c) = subst (λ (X : Job). T (isTile X r c)) (sym (k .kept .job)) t in
+      let z : T (inRange (I .O) (2 * I .O) d) = subst (λ (X : Job). T (inRange (X .O) (2 * X .O) d)) (sym (k .kept .job)) u in
+      edit-goes (diagonal r c d) rec J (diagonalBy J r c d) k x refl (test (isTile I r c) 4 ∷ test (inRange (I .O) (2 * I .O) d) 3 ∷ []) (eqb (tileD I r c) d)
+      (diagonalBy I r c d) (centreLeft I (load rec) r c) (x .legal (k .kept .legal)) (hold-both (isTile I r c) (inRange (I .O) (2 * I .O) d) y z)
+      (stays-fewer rec _ _ _ (diagonal-stays rec (k .kept .legal) r c d y z))
+
   pub edits-blank : {J K : Job} {calls : List Call} → Edits J calls K → (rec : List ℕ) → Blank rec J → Blank (recAfter S calls rec) K
   edits-blank end rec k = k
   edits-blank (marks {J = J} r c m w t u es) rec k = edits-blank es (S .does (mark r c m) rec .rec) (mark-goes rec J r c m k w t u .1)
   edits-blank (closes {J = J} r c v w t u es) rec k = edits-blank es (S .does (close r c v) rec .rec) (close-goes rec J r c v k w t u .1)
   edits-blank (lays {J = J} r c d n w t u v es) rec k = edits-blank es (S .does (lay r c d n) rec .rec) (lay-goes rec J r c d n k w t u v .1)
+  edits-blank (gives {J = J} r c d w t u es) rec k = edits-blank es (S .does (diagonal r c d) rec .rec) (diagonal-goes rec J r c d k w t u .1)
 
   -- followed by more calls
   pub edits-follow : {J K : Job} {calls : List Call} → Edits J calls K → (rec : List ℕ) → Blank rec J → (others : List Call) (rec′ : List ℕ) (L : Job)
@@ -112,3 +126,8 @@ module _ (S : Service) where
       let a : After = S .does (lay r c d n) rec in
       let K : Job = laidBy J (sideOf r c d) n in
       (w, (K, becomes-set S (lay r c d n) J K (a .answer) x refl, edits-follow es (a .rec) k′ others rec′ L f))
+  edits-follow (gives {J = J} r c d w t u es) rec k others rec′ L f =
+      let (x, k′) = diagonal-goes rec J r c d k w t u in
+      let a : After = S .does (diagonal r c d) rec in
+      let K : Job = diagonalBy J r c d in
+      (w, (K, becomes-set S (diagonal r c d) J K (a .answer) x refl, edits-follow es (a .rec) k′ others rec′ L f))

@@ -12,9 +12,9 @@ use lib.ListN.{length, getD, replicate, length-replicate}
 use Rattle.sums.specs.Tests.{and-left, and-right, every}
 use Rattle.model.specs.Job.{Job, fresh, marked, isPin, isChosen}
 use Rattle.model.specs.Record.{recordSize}
-use Rattle.model.specs.Examples.{job64, job33, jobShut, shortShut, jobLaid, shortLaid}
+use Rattle.model.specs.Examples.{job64, job33, jobShut, shortShut, jobLaid, shortLaid, jobOwn, shortOwn}
 use Rattle.model.specs.Trial.{Trial, trialOf, trialJob}
-use Rattle.model.specs.Calls.{Call, new, mark, close, lay, step, readText, trial, Answer, allWired, Accepted}
+use Rattle.model.specs.Calls.{Call, new, mark, close, lay, diagonal, step, readText, trial, Answer, allWired, Accepted}
 use Rattle.model.specs.Run.{Buffer, Service, Starts, Follows, NeverOne, Stepping, Demand}
 use Rattle.model.proofs.TextExamples.{text64, reads64}
 use Rattle.run.specs.Buffers.{zeros-buffer, zeroScratch, scratch-buffer, scratch-long}
@@ -22,7 +22,7 @@ use Rattle.run.specs.Runs.{becomes-set, start-kept, AllLent, recAfter, f
 use Rattle.run.specs.Says.{enough-accepted}
 use Rattle.run.specs.Demand3.{demand3}
 use Rattle.run.specs.Blank.{Blank, new-begins, text-begins, trial-begins}
-use Rattle.run.specs.Edits.{Edits, end, marks, closes, lays, edits-blank, edits-follow}
+use Rattle.run.specs.Edits.{Edits, end, marks, closes, lays, gives, edits-blank, edits-follow}
 use Rattle.run.specs.Settled.{Answers, shorts-answers, WholeAnswers, wireds-answers, none-answers}
 
 -- ---- a record of zeros
@@ -183,6 +183,31 @@ module _ (S : Service) where
       shorts-answers shortLaid
       (List·Memᴰ·tail (List·Memᴰ·tail (List·Memᴰ·tail (List·Memᴰ·tail (List·Memᴰ·tail (List·Memᴰ·head refl)))))) S begunLaid (fresh 3 4 2 2 0) s editsLaid
       rec (edits-follow S toLaid begunLaid b [] rec jobLaid (refl, refl)) (edits-blank S toLaid begunLaid b .unwired)
+
+  -- ---- the same with caps 1 1 0 and the D of the open tile raised to 2
+
+  abbrev pub begunOwn : List ℕ
+  begunOwn = S .does (new 3 4 1 1 0) zeroRecord .rec
+
+  abbrev pub editsOwn : List Call
+  editsOwn = mark 1 1 1 ∷ mark 1 2 1 ∷ close 0 0 1 ∷ close 0 2 1 ∷ close 1 0 1 ∷ close 1 1 1 ∷ close 1 2 1 ∷ diagonal 0 1 2 ∷ []
+
+  toOwn : Edits (fresh 3 4 1 1 0) editsOwn jobOwn
+  toOwn =
+      marks 1 1 1 (omega arith) tt tt
+      (marks 1 2 1 (omega arith) tt tt
+      (closes 0 0 1 (omega arith) tt tt
+      (closes 0 2 1 (omega arith) tt tt
+      (closes 1 0 1 (omega arith) tt tt
+      (closes 1 1 1 (omega arith) tt tt (closes 1 2 1 (omega arith) tt tt (gives 0 1 2 (omega arith) tt tt end)))))))
+
+  pub answersOwn : Answers S (recAfter S editsOwn begunOwn) shortOwn
+  answersOwn =
+      let (s, b) = new-begins S zeroRecord zero-buffer zero-long 3 4 1 1 0 (omega arith) tt tt in
+      let rec : List ℕ = recAfter S editsOwn begunOwn in
+      shorts-answers shortOwn
+      (List·Memᴰ·tail (List·Memᴰ·tail (List·Memᴰ·tail (List·Memᴰ·tail (List·Memᴰ·tail (List·Memᴰ·tail (List·Memᴰ·head refl))))))) S begunOwn (fresh 3 4 1 1 0) s editsOwn
+      rec (edits-follow S toOwn begunOwn b [] rec jobOwn (refl, refl)) (edits-blank S toOwn begunOwn b .unwired)
 
   -- ---- a run that a trial starts
 

@@ -5,32 +5,33 @@ use mathlib.Core.Logic.{_≢_}
 use mathlib.Core.Bool.{Bool, true, false, not, _&&_}
 use mathlib.Core.List.{List, [], _∷_}
 use mathlib.Core.Option.{some}
-use Prim.Native.Nat.{ℕ, _≤_, _<_}
+use Prim.Native.Nat.{ℕ, _*_, _≤_, _<_}
 use native.Mathlib.Omega.{arith}
 use borrow.Author.Tests.{le-leb}
 use lib.Dec.{T, eqb, leb, eqb→eq, leb→le, nleb→lt}
 use lib.ListN.{length}
 use Rattle.sums.specs.Tests.{and-left, and-right}
-use Rattle.model.specs.Job.{Job, arrayFits, capsAdmitted, fresh, put, withAdded, marked, closed, Side, ofNorth, ofWest, sideOf, laidOn, laidBy, isPin, isTile, isChosen, Proper}
+use Rattle.model.specs.Job.{Job, arrayFits, capsAdmitted, fresh, put, withAdded, marked, closed, Side, ofNorth, ofWest, sideOf, laidOn, laidBy, ownFor, diagonalBy, tileD, inRange, isPin, isTile, isChosen, AddedFits, Proper}
 use Rattle.model.specs.Links.{Step}
 use Rattle.model.specs.Record.{recordSize, scratchSize, jobOf, load, Legal, recordOf, noLoads, unwiredRecord, over}
-use Rattle.model.specs.Left.{markLeft, closeLeft, laidLeft}
+use Rattle.model.specs.Left.{markLeft, closeLeft, laidLeft, centreLeft}
 use Rattle.model.specs.Wires.{partAt}
 use Rattle.model.specs.Text.{Verdict, reads, wrongAt, Reading, textOf}
 use Rattle.model.specs.Listing.{wiresListing}
 use Rattle.model.specs.Trial.{Trial, seedFits, percentsFit, trialJob}
-use Rattle.model.specs.Calls.{Call, new, mark, close, lay, step, shortfall, part, readText, writeText, listing, trial}
+use Rattle.model.specs.Calls.{Call, new, mark, close, lay, diagonal, step, shortfall, part, readText, writeText, listing, trial}
 use Rattle.model.specs.Calls.{Answer, refused, done, lists, wrote, refusal, Accepted, After, after}
-use Rattle.model.specs.Calls.{Test, test, asked, edited, newly, triedOn, markedBy, closedBy, laidIn, listed, readIn, putOut, Stepped, adds, stays, lacking, Steps, Lacks, Did}
+use Rattle.model.specs.Calls.{Test, test, asked, edited, newly, triedOn, markedBy, closedBy, laidIn, diagonalIn, listed, readIn, putOut, Stepped, adds, stays, lacking, Steps, Lacks, Did}
 use Rattle.model.specs.Run.{Buffer, Service, Sets}
 use Rattle.model.proofs.RecordOf.{length-record}
 use Rattle.model.proofs.Asked.{allHold, numbered, both-hold, asked-holds, asked-either}
 use Rattle.model.proofs.Unwired.{unwired-legal}
 use Rattle.model.proofs.Over.{legal-proper}
+use Rattle.model.proofs.Own.{own-kept, diagonal-proper}
 use Rattle.model.proofs.Sides.{laid-proper}
 use Rattle.model.proofs.TextProper.{fresh-proper, marked-proper, closed-proper, reading-proper}
 use Rattle.model.proofs.TrialProper.{trial-proper}
-use Rattle.keep.specs.Legality.{mark-legal, close-legal, laid-legal}
+use Rattle.keep.specs.Legality.{mark-legal, close-legal, laid-legal, diagonal-legal}
 use Rattle.run.specs.Buffers.{over-buffer}
 use Rattle.run.specs.OthersStay.{left-legal, left-job}
 
@@ -154,6 +155,17 @@ laid-same J (ofWest r c) n e =
       seen = J .added .seen;
     })
 
+diagonal-same : (J : Job) (r c d : ℕ) → AddedFits J → tileD J r c ≡ d → diagonalBy J r c d ≡ J
+diagonal-same J r c d f e =
+    λ i. withAdded J
+    (record {
+      laidNorth = J .added .laidNorth;
+      laidWest = J .added .laidWest;
+      ownD = λ x y. put-same (J .added .ownD) r c (ownFor J d) (own-kept J r c d f e) x y i;
+      upward = J .added .upward;
+      seen = J .added .seen;
+    })
+
 module _ (S : Service) (rec : List ℕ) (J : Job) (k : Kept rec J) where
   -- K is the edited job, `left` the loads of the wires that stay
   edit-leaves : (c : Call) (ts : List Test) (already : Bool) (K : Job) (left : Step → ℕ) → T (numbered notOne ts)
@@ -199,6 +211,15 @@ module _ (S : Service) (rec : List ℕ) (J : Job) (k : Kept rec J) where
       (laid-proper I r c d n proper u w, laid-legal rec (k .legal) proper r c d n u w))
       (λ t. laid-same I (sideOf r c d) n (eqb→eq (laidOn I (sideOf r c d)) n t) ∙ k .job)
       (ap (λ (X : Job). laidBy X (sideOf r c d) n) (k .job))
+
+  diagonal-leaves : (r c d : ℕ) → Leaves S (diagonal r c d) rec J (diagonalIn r c d rec)
+  diagonal-leaves r c d =
+      let I : Job = jobOf rec in
+      let b : Bool = inRange (I .O) (2 * I .O) d in
+      edit-leaves (diagonal r c d) (test (isTile I r c) 4 ∷ test b 3 ∷ []) (eqb (tileD I r c) d) (diagonalBy I r c d) (centreLeft I (load rec) r c) tt
+      (λ t. let (u, v) = both-hold (isTile I r c) b t in (diagonal-proper I r c d proper u v, diagonal-legal rec (k .legal) proper r c d u v))
+      (λ t. diagonal-same I r c d (k .legal .values .added) (eqb→eq (tileD I r c) d t) ∙ k .job)
+      (ap (λ (X : Job). diagonalBy X r c d) (k .job))
 
   part-leaves : (r c i : ℕ) → Leaves S (part r c i) rec J (listed r c i rec)
   part-leaves r c i =
@@ -255,6 +276,7 @@ module _ (S : Service) (rec : List ℕ) (J : Job) (k : Kept rec J) where
   call-leaves (mark r c m) a d = subst (Leaves S (mark r c m) rec J) (sym (d .legal (k .legal))) (mark-leaves r c m)
   call-leaves (close r c v) a d = subst (Leaves S (close r c v) rec J) (sym (d .legal (k .legal))) (close-leaves r c v)
   call-leaves (lay r c n m) a d = subst (Leaves S (lay r c n m) rec J) (sym (d .legal (k .legal))) (lay-leaves r c n m)
+  call-leaves (diagonal r c v) a d = subst (Leaves S (diagonal r c v) rec J) (sym (d .legal (k .legal))) (diagonal-leaves r c v)
   call-leaves (step scratch) a d = step-leaves scratch a (d .legal (k .legal))
   call-leaves (shortfall scratch output) a d = shortfall-leaves scratch output a (d .legal (k .legal))
   call-leaves (part r c i) a d = subst (Leaves S (part r c i) rec J) (sym (d .legal (k .legal))) (part-leaves r c i)

@@ -3,26 +3,27 @@
 use mathlib.Core.Path.{_≡_, refl, sym, ap, subst, _∙_}
 use mathlib.Core.Bool.{Bool, true, false, _&&_}
 use mathlib.Core.List.{List, [], _∷_}
-use Prim.Native.Nat.{ℕ, _≤_}
+use Prim.Native.Nat.{ℕ, _*_, _≤_}
 use native.Mathlib.Omega.{arith}
 use lib.Dec.{T, leb}
 use lib.ListN.{length, drop}
 use Rattle.sums.specs.Counting.{when}
 use Rattle.sums.specs.Totals.{total-le, total-cong}
-use Rattle.model.specs.Job.{Job, Proper, isPin, isTile, marked, closed, sideOf, laidBy}
-use Rattle.model.specs.Links.{isPinKind, places, pinAt, Step}
+use Rattle.model.specs.Job.{Job, Proper, isPin, isTile, marked, closed, sideOf, laidBy, inRange, diagonalBy}
+use Rattle.model.specs.Links.{isPinKind, places, pinAt, Step, centre, at}
 use Rattle.model.specs.Record.{jobOf, load, Legal, recordOf, over}
 use Rattle.model.specs.Wires.{isWired, wireCount}
-use Rattle.model.specs.Left.{avoids, tilePlaces, markLeft, closeLeft, laidLeft}
+use Rattle.model.specs.Left.{avoids, tilePlaces, markLeft, closeLeft, laidLeft, centreLeft}
 use Rattle.model.specs.Calls.{wiredIn, wiresIn}
 use Rattle.model.proofs.RecordOf.{Storable, length-record, job-back, load-back}
 use Rattle.model.proofs.Over.{job-over, load-over, legal-over, legal-proper}
+use Rattle.model.proofs.Own.{diagonal-proper}
 use Rattle.model.proofs.Sides.{laid-proper}
 use Rattle.model.proofs.TextProper.{marked-proper, closed-proper}
 use Rattle.keep.specs.Edits.{Keeps}
-use Rattle.keep.specs.Edited.{mark-edit, close-edit}
+use Rattle.keep.specs.Edited.{mark-edit, close-edit, diagonal-edit}
 use Rattle.keep.specs.Laid.{laidStays, laid-edit}
-use Rattle.keep.specs.Legality.{mark-storable, close-storable, laid-storable, mark-legal, close-legal, laid-legal}
+use Rattle.keep.specs.Legality.{mark-storable, close-storable, laid-storable, centre-storable, mark-legal, close-legal, laid-legal, diagonal-legal}
 
 -- `stays` says of each pin whether its wire stays
 pub record OthersStay (rec rec′ : List ℕ) (K : Job) (stays : ℕ → ℕ → Bool) : Type 0 where
@@ -81,6 +82,12 @@ module _ (rec : List ℕ) (g : Legal rec) (r c : ℕ) where
   lay-stays d n t u =
       left-stays rec (laidBy J (sideOf r c d) n) (laidLeft J f (sideOf r c d) n) (laid-proper J r c d n proper t u) (laid-legal rec g proper r c d n t u)
       (laidStays J f (g .sound) (sideOf r c d) n) (laid-storable rec g (sideOf r c d) n) (laid-edit J f (g .sound) (sideOf r c d) n)
+
+  pub diagonal-stays : (d : ℕ) → T (isTile J r c) → T (inRange (J .O) (2 * J .O) d)
+      → OthersStay rec (over (recordOf (diagonalBy J r c d) (centreLeft J f r c)) rec) (diagonalBy J r c d) (avoids J f (at centre r c ∷ []))
+  diagonal-stays d t u =
+      left-stays rec (diagonalBy J r c d) (centreLeft J f r c) (diagonal-proper J r c d proper t u) (diagonal-legal rec g proper r c d t u)
+      (avoids J f (at centre r c ∷ [])) (centre-storable rec g r c) (diagonal-edit J f (g .sound) r c d)
 
   -- the loads
   pub mark-loads : (m : ℕ) → T (isPin J r c) → T (leb m 2) → load (over (recordOf (marked J r c m) (markLeft J f r c)) rec) ≡ markLeft J f r c

@@ -15,7 +15,7 @@ use Rattle.model.specs.Job.{Job, arrayFits, capsAdmitted, fresh}
 use Rattle.model.specs.Record.{recordSize, unwiredRecord, over}
 use Rattle.model.specs.Text.{reads, Reading}
 use Rattle.model.specs.Trial.{Trial, seedFits, percentsFit, trialJob}
-use Rattle.model.specs.Calls.{Call, new, mark, close, lay, step, shortfall, part, readText, writeText, listing, trial}
+use Rattle.model.specs.Calls.{Call, new, mark, close, lay, diagonal, step, shortfall, part, readText, writeText, listing, trial}
 use Rattle.model.specs.Calls.{Answer, refused, done, refusal, Accepted, After, after, test, newly, triedOn, ReadIn}
 use Rattle.model.specs.Run.{Buffer, Service, Sets, Becomes, Lent, Starts, byNew, byText, byTrial, Follows, NeverOne}
 use Rattle.model.proofs.Asked.{asked-fails}
@@ -31,6 +31,7 @@ module _ (S : Service) where
   sets-one (mark r c m) J K L a b = a ∙ sym b
   sets-one (close r c v) J K L a b = a ∙ sym b
   sets-one (lay r c d n) J K L a b = a ∙ sym b
+  sets-one (diagonal r c d) J K L a b = a ∙ sym b
   sets-one (step scratch) J K L a b = a ∙ sym b
   sets-one (shortfall scratch output) J K L a b = a ∙ sym b
   sets-one (part r c i) J K L a b = a ∙ sym b

@@ -11,9 +11,9 @@ use lib.ListN.{length}
 use Rattle.model.specs.Route.{chosenCount}
 use Rattle.model.specs.Record.{recordSize, scratchSize, jobOf, load, Legal, over}
 use Rattle.model.specs.Text.{Verdict, Reading}
-use Rattle.model.specs.Calls.{Call, new, mark, close, lay, step, shortfall, part, readText, writeText, listing, trial}
+use Rattle.model.specs.Calls.{Call, new, mark, close, lay, diagonal, step, shortfall, part, readText, writeText, listing, trial}
 use Rattle.model.specs.Calls.{Answer, refused, added, allWired, short, lacks, After, after, cleared}
-use Rattle.model.specs.Calls.{newly, triedOn, markedBy, closedBy, laidIn, listed, readIn, written, listedOut, OneMore, Stepped, adds, stays, lacking, wiresIn, nearBytes}
+use Rattle.model.specs.Calls.{newly, triedOn, markedBy, closedBy, laidIn, diagonalIn, listed, readIn, written, listedOut, OneMore, Stepped, adds, stays, lacking, wiresIn, nearBytes}
 use Rattle.model.specs.Calls.{Shown, none-short, side, On, Steps, Lacks, ReadIn, Did}
 use Rattle.model.specs.Run.{Service}
 use Rattle.witness.specs.Damage.{legal?}
@@ -97,6 +97,7 @@ serve (new rows columns O D E) rec = (newly rows columns O D E rec, refl)
 serve (mark r c m) rec = on rec [] [] (λ a. a ≡ markedBy r c m rec) (λ g. (markedBy r c m rec, refl))
 serve (close r c v) rec = on rec [] [] (λ a. a ≡ closedBy r c v rec) (λ g. (closedBy r c v rec, refl))
 serve (lay r c d n) rec = on rec [] [] (λ a. a ≡ laidIn r c d n rec) (λ g. (laidIn r c d n rec, refl))
+serve (diagonal r c d) rec = on rec [] [] (λ a. a ≡ diagonalIn r c d rec) (λ g. (diagonalIn r c d rec, refl))
 serve (step scratch) rec = on rec scratch [] (Steps scratch rec) (steps rec scratch)
 serve (shortfall scratch output) rec = on rec scratch output (Lacks scratch output rec) (lacked rec scratch output)
 serve (part r c i) rec = on rec [] [] (λ a. a ≡ listed r c i rec) (λ g. (listed r c i rec, refl))
