@@ -1,24 +1,30 @@
-// Mark, Close and the counts of wires already laid. Each takes out only the wires that it has to.
+// Mark, Close, the counts of wires already laid and the D of a tile. Each takes out only the wires that it has to.
 use answers::Answer;
 use audit::sound;
 use channel::copy::copy;
+use channel::diagonal_at;
 use channel::is_tile;
 use channel::laid_on;
 use channel::mark_of;
 use channel::orthogonal;
 use channel::pin_at;
 use channel::state_of;
+use model::in_range;
 use takeout::close_keeping;
+use takeout::diagonal_keeping;
 use takeout::lay_keeping;
 use takeout::mark_keeping;
 ghost use mathlib.Core.Path.{_≡_};
 ghost use mathlib.Core.List.{[]};
 ghost use Prim.Native.Nat.{_≤_, _<_};
+ghost use lib.ListN.{length};
+ghost use Rattle.model.specs.Job.{ownFor};
 ghost use Rattle.model.specs.Record.{jobOf, Legal};
-ghost use Rattle.model.specs.Calls.{mark as Mark, close as Close, lay as Lay, after, laidIn, Did};
+ghost use Rattle.model.specs.Calls.{mark as Mark, close as Close, lay as Lay, diagonal as Diagonal, after, laidIn, diagonalIn, Did};
 ghost use Rattle.answers.specs.Answers.{asAnswer};
 ghost use Rattle.editing.specs.Edits.{isThere, most, valueIn, setIn, editedBy};
 ghost use Rattle.editing.specs.Laying.{countIn};
+ghost use Rattle.editing.specs.Diagonals.{ownIn};
 
 // The mark of a pin, or the state of a tile. The wires that it takes out are followed in a copy of the record.
 fn set(rec: &mut [u8], tiles: bool, row: usize, column: usize, value: usize)
@@ -125,4 +131,52 @@ pub fn lay(rec: &mut [u8], row: usize, column: usize, side: usize, count: usize)
         return Answer::Refused(1);
     }
     lay_on(rec, row, column, side, count)
+}
+
+// The own D of a tile, 0 for none, as `set` does.
+fn set_diagonal(rec: &mut [u8], row: usize, column: usize, own: usize)
+    requires { ⌜ Legal (now rec) × (row < 40) × (column < 40) × (own < 256) ⌝ }
+    ensures { λ _. ⌜ now (rec .exit) ≡ ownIn row column own (now (rec .entry)) ⌝ }
+{
+    let mut was = [0u8; 32768];
+    copy(rec, &mut was);
+    diagonal_keeping(&was, rec, row, column, own);
+}
+
+// What a tile keeps of a D: the job's is none of its own.
+fn own_of(rec: &[u8], d: usize) -> usize
+    requires { ⌜ 32768 ≤ length (now rec) ⌝ }
+    ensures { λ r. ⌜ (r ≡ ownFor (jobOf (now (rec .entry))) d) × (r ≤ d) ⌝ }
+{
+    if d == channel::diagonal(rec) { 0 } else { d }
+}
+
+// The D of a tile, in a legal record.
+fn diagonal_on(rec: &mut [u8], row: usize, column: usize, d: usize) -> Answer
+    requires { ⌜ Legal (now rec) ⌝ }
+    ensures { λ a. ⌜ after (asAnswer a) (now (rec .exit)) [] [] ≡ diagonalIn row column d (now (rec .entry)) ⌝ }
+{
+    if !is_tile(rec, row, column) {
+        return Answer::Refused(4);
+    }
+    let o = orthogonal(rec);
+    if !in_range(o, 2 * o, d) {
+        return Answer::Refused(3);
+    }
+    if diagonal_at(rec, 41 + 40 * row + column) == d {
+        return Answer::Done;
+    }
+    let own = own_of(rec, d);
+    set_diagonal(rec, row, column, own);
+    Answer::Done
+}
+
+// The D of a tile; the job's D means that it has none of its own.
+pub fn diagonal(rec: &mut [u8], row: usize, column: usize, d: usize) -> Answer
+    ensures { λ a. ⌜ Did (Diagonal row column d) (now (rec .entry)) (after (asAnswer a) (now (rec .exit)) [] []) ⌝ }
+{
+    if !sound(rec) {
+        return Answer::Refused(1);
+    }
+    diagonal_on(rec, row, column, d)
 }

@@ -2,6 +2,7 @@
 // every byte.
 pub use answers::Answer;
 pub use editing::close;
+pub use editing::diagonal;
 pub use editing::lay;
 pub use editing::mark;
 pub use making::new;

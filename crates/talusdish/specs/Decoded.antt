@@ -9,7 +9,7 @@ use lib.Dec.{T, T-not, eqb, ltb, eqb→eq, ltb→lt}
 use Rattle.sums.specs.Tests.{and-left, and-right}
 use Rattle.model.specs.Links.{Compass, north, east, south, west, compassCode, PlaceKind, pin, missing, side, centre, outside, nowhere}
 use Rattle.model.specs.Wires.{Part, unwired, to, out, pastTheEnd}
-use Rattle.model.specs.Calls.{Call, new, mark, close, lay, step, shortfall, part, readText, writeText, listing, trial}
+use Rattle.model.specs.Calls.{Call, new, mark, close, lay, diagonal, step, shortfall, part, readText, writeText, listing, trial}
 use Rattle.model.specs.Calls.{Answer, refused, wrongText, done, added, allWired, short, lacks, lists, wrote}
 use Rattle.talusdish.specs.Words.{placeNumber, number, partNumber, value, code, word, placeOf, partWith, partRead, stepRead, valueRead, codeRead, wordRead}
 use Rattle.talusdish.specs.Words.{isNumbered, partFits, operation, few, refusalFits, fits}
@@ -143,6 +143,7 @@ value-by (new rows columns O D E) v = refl
 value-by (mark r c m) v = refl
 value-by (close r c m) v = refl
 value-by (lay r c d n) v = refl
+value-by (diagonal r c d) v = refl
 value-by (step scratch) v = refl
 value-by (shortfall scratch output) v = refl
 value-by (part r c i) v = refl
@@ -159,6 +160,7 @@ done-back (new rows columns O D E) t = refl
 done-back (mark r c m) t = refl
 done-back (close r c m) t = refl
 done-back (lay r c d n) t = refl
+done-back (diagonal r c d) t = refl
 done-back (step scratch) t = absurd t
 done-back (shortfall scratch output) t = absurd t
 done-back (part r c i) t = absurd t

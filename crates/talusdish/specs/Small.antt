@@ -4,22 +4,22 @@
 use mathlib.Core.Path.{_≡_, sym, subst}
 use mathlib.Core.Bool.{Bool, true, false, not}
 use mathlib.Core.List.{List, [], _∷_}
-use Prim.Native.Nat.{ℕ, _-_, _^_, _≤_, _<_}
+use Prim.Native.Nat.{ℕ, _-_, _*_, _^_, _≤_, _<_}
 use native.Mathlib.Omega.{arith}
 use lib.Dec.{T, eqb, leb, ltb, leb→le, nleb→lt, ltb→lt, lt→ltb}
 use lib.ListN.{length}
 use Rattle.sums.specs.Counting.{when}
 use Rattle.sums.specs.Totals.{total-le, length-total}
-use Rattle.model.specs.Job.{Job, arrayFits, capsAdmitted, fresh, marked, closed, sideOf, laidOn, laidBy, isPin, isTile, isChosen}
+use Rattle.model.specs.Job.{Job, arrayFits, capsAdmitted, fresh, marked, closed, sideOf, laidOn, laidBy, diagonalBy, tileD, inRange, isPin, isTile, isChosen}
 use Rattle.model.specs.Links.{places, isPinKind, Step}
 use Rattle.model.specs.Route.{chosenCount}
 use Rattle.model.specs.Record.{recordSize, scratchSize, jobOf, load, Legal, unwiredRecord, over}
 use Rattle.model.specs.Wires.{Part, partAt}
-use Rattle.model.specs.Left.{markLeft, closeLeft, laidLeft}
+use Rattle.model.specs.Left.{markLeft, closeLeft, laidLeft, centreLeft}
 use Rattle.model.specs.Text.{Verdict, reads, wrongAt, Reading, textOf}
 use Rattle.model.specs.Listing.{wiresListing}
 use Rattle.model.specs.Trial.{Trial, seedFits, percentsFit, trialJob}
-use Rattle.model.specs.Calls.{Call, new, mark, close, lay, step, shortfall, part, readText, writeText, listing, trial, Answer, refused, wrongText, done, lacks, lists, wrote}
+use Rattle.model.specs.Calls.{Call, new, mark, close, lay, diagonal, step, shortfall, part, readText, writeText, listing, trial, Answer, refused, wrongText, done, lacks, lists, wrote}
 use Rattle.model.specs.Calls.{After, after, Test, test, asked, edited, newly, triedOn, listed, readIn, putOut, Stepped, adds, stays, lacking, On, Steps, Lacks, ReadIn, Did}
 use Rattle.model.proofs.Asked.{allHold, numbered, asked-either}
 use Rattle.model.proofs.Over.{legal-proper}
@@ -168,6 +168,16 @@ did-fits (lay r c n m) rec a d =
     as-fits (lay r c n m) e
     (asked-fits (lay r c n m) (test (isTile J r c) 4 ∷ test (leb n 3) 5 ∷ test (leb m (J .O)) 11 ∷ []) rec [] leaves tt
     (λ t. edited-fits (lay r c n m) tt there (laidBy J (sideOf r c n) m) left rec)))
+did-fits (diagonal r c v) rec a d =
+    let J : Job = jobOf rec in
+    let there : Bool = eqb (tileD J r c) v in
+    let left : Step → ℕ = centreLeft J (load rec) r c in
+    let leaves : After = edited there (diagonalBy J r c v) left rec in
+    on-fits (diagonal r c v) rec [] [] a d
+    (λ g e.
+    as-fits (diagonal r c v) e
+    (asked-fits (diagonal r c v) (test (isTile J r c) 4 ∷ test (inRange (J .O) (2 * J .O) v) 3 ∷ []) rec [] leaves tt
+    (λ t. edited-fits (diagonal r c v) tt there (diagonalBy J r c v) left rec)))
 did-fits (step scratch) rec a d = on-fits (step scratch) rec scratch [] a d (λ g s. step-fits scratch rec a s)
 did-fits (shortfall scratch output) rec a d = on-fits (shortfall scratch output) rec scratch output a d (λ g s. lacks-fits scratch output rec g a s)
 did-fits (part r c i) rec a d = on-fits (part r c i) rec [] [] a d (λ g e. as-fits (part r c i) e (listed-fits rec g r c i))

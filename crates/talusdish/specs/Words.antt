@@ -5,7 +5,7 @@ use Prim.Native.Nat.{ℕ, zero, suc, _+_, _*_, _^_, _/_, _%_}
 use lib.Dec.{eqb, ltb}
 use Rattle.model.specs.Links.{north, east, south, west, compassCode, PlaceKind, pin, missing, side, centre, outside, nowhere}
 use Rattle.model.specs.Wires.{Part, unwired, to, out, pastTheEnd}
-use Rattle.model.specs.Calls.{Call, new, mark, close, lay, step, shortfall, part, readText, writeText, listing, trial}
+use Rattle.model.specs.Calls.{Call, new, mark, close, lay, diagonal, step, shortfall, part, readText, writeText, listing, trial}
 use Rattle.model.specs.Calls.{Answer, refused, wrongText, done, added, allWired, short, lacks, lists, wrote, refusal}
 
 -- 0 n, 1 e, 2 s, 3 w, 4 c, 5 r, 6 p; no part has another place
@@ -77,6 +77,7 @@ valueRead (new rows columns O D E) v = done
 valueRead (mark r c m) v = done
 valueRead (close r c m) v = done
 valueRead (lay r c d n) v = done
+valueRead (diagonal r c d) v = done
 valueRead (step scratch) v = stepRead v
 valueRead (shortfall scratch output) v = lacks v
 valueRead (part r c i) v = lists (partRead v)
@@ -109,13 +110,14 @@ partFits pastTheEnd = true
 partFits (to r c p i) = ltb r 64 && (ltb c 64 && (ltb i 32 && isNumbered p))
 partFits (out p i) = ltb i 32 && isNumbered p
 
--- the operations by number, in the order of document 01; setting a count answers as Close does, the listing as Write text does,
+-- the operations by number, in the order of document 01; setting a count and giving a tile its D answer as Close does, the listing as Write text does,
 -- a trial as New does
 abbrev pub operation : Call → ℕ
 operation (new rows columns O D E) = 0
 operation (mark r c m) = 1
 operation (close r c m) = 2
 operation (lay r c d n) = 2
+operation (diagonal r c d) = 2
 operation (step scratch) = 3
 operation (shortfall scratch output) = 4
 operation (part r c i) = 5
