@@ -25,8 +25,8 @@ returns c =
     ∙ names-side (a .rows) (a .columns) (a .o) (a .diagonal) (eqb (getD (now (a .chosen)) (40 * a .row + a .column) 0) 1) (a .group) (a .row) (a .column) (a .side) (a .value)
     (c2 .if1 .taken)
 
-mul-own : tie.Need-mul-own
-mul-own c = search needs
+mul-in-range : tie.Need-mul-in-range
+mul-in-range c = search needs
 
 in-range-requires : tie.Need-in-range-requires
 in-range-requires c κs = search needs
@@ -112,7 +112,7 @@ names-spec =
     writes-side-requires
     has-tile-requires
     returns
-    mul-own
+    mul-in-range
     in-range-requires
     has-tile-requires-2
     returns-2
