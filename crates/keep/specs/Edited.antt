@@ -8,9 +8,9 @@ use mathlib.Core.Bool.{Bool, true, false, not, _&&_}
 use mathlib.Core.List.{List, [], _∷_, List·Memᴰ, List·Memᴰ·head, List·Memᴰ·tail}
 use Prim.Native.Nat.{ℕ, _≤_}
 use native.Mathlib.Omega.{arith}
-use lib.Dec.{T, eqb, eqb→eq}
+use lib.Dec.{T, eqb, eqb→eq, eqb-refl}
 use Rattle.sums.specs.Counting.{total}
-use Rattle.sums.specs.Tests.{Same, same, other, same?, so, and-right, and-both, and-not, every, every-at}
+use Rattle.sums.specs.Tests.{so, and-left, and-right, and-both, and-not, every, every-at}
 use Rattle.model.specs.Job.{Job, isPin, isTile, isOpen, isChosen, marked, closed, diagonalBy, centreLimit}
 use Rattle.model.specs.Links.{Compass, north, east, south, west, PlaceKind, pin, missing, centre, outside, nowhere, side, Place, at, theOutside, isPlace, pinAt, LinkKind, northSide, westSide, corner, spoke, leg, direct, Link, limitOf, limit, passOf, pass, Step, turn, around, placeCode}
 use Rattle.model.specs.Loads.{arrivals, Feasible, Sound}
@@ -50,16 +50,17 @@ diagonal-pass J r c d missing i j = inl refl
 diagonal-pass J r c d outside i j = inl refl
 diagonal-pass J r c d nowhere i j = inl refl
 diagonal-pass J r c d (side e) i j = inl refl
-diagonal-pass J r c d centre i j = by (eqb i r) (same? i r) (eqb j c) (same? j c)
+diagonal-pass J r c d centre i j = by (eqb i r && eqb j c) refl
   where
-    other-tile : (i ≡ r → j ≡ c → ⊥) → passOf (diagonalBy J r c d) centre i j ≡ passOf J centre i j
-    other-tile n = ap (λ (m : ℕ). some (centreLimit (J .O) m)) (diagonal-other J r c d i j n)
-
-    by : (a : Bool) → Same i r a → (b : Bool) → Same j c b
+    by : (b : Bool) → (eqb i r && eqb j c) ≡ b
         → (passOf (diagonalBy J r c d) centre i j ≡ passOf J centre i j) ⊎ List·Memᴰ (at centre i j) (at centre r c ∷ [])
-    by true (same x) true (same y) = inr (List·Memᴰ·head (λ t. at centre (x t) (y t)))
-    by true (same x) false (other n) = inl (other-tile (λ p q. n q))
-    by false (other n) b s = inl (other-tile (λ p q. n p))
+    by true e =
+        let x : i ≡ r = eqb→eq i r (and-left (eqb i r) (eqb j c) (so e)) in
+        let y : j ≡ c = eqb→eq j c (and-right (eqb i r) (eqb j c) (so e)) in
+        inr (List·Memᴰ·head (λ t. at centre (x t) (y t)))
+    by false e =
+        inl (ap (λ (m : ℕ). some (centreLimit (J .O) m)) (diagonal-other J r c d i j (λ x y.
+        subst T e (and-both (eqb i r) (eqb j c) (subst (λ (n : ℕ). T (eqb i n)) x (eqb-refl i)) (subst (λ (n : ℕ). T (eqb j n)) y (eqb-refl j))))))
 
 module _ (J : Job) (f : Step → ℕ) (S : Sound J f) where
   -- the wires that avoid places do not meet them

@@ -74,7 +74,8 @@ limit-laid J (ofWest i j) n direct r c = inl refl
 pass-laid : (J : Job) (s : Side) (n : ℕ) (k : PlaceKind) (r c : ℕ) → passOf (laidBy J s n) k r c ≡ passOf J k r c
 pass-laid J s n pin r c = refl
 pass-laid J s n missing r c = refl
-pass-laid J s n centre r c = refl
+pass-laid J (ofNorth i j) n centre r c = refl
+pass-laid J (ofWest i j) n centre r c = refl
 pass-laid J s n outside r c = refl
 pass-laid J s n nowhere r c = refl
 pass-laid J s n (side d) r c = refl

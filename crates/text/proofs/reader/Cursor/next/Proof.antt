@@ -89,8 +89,8 @@ returns-2 c =
     step-unnamed w (s .pre .1) (s .pre .3) (s .pre .4) (s .pre .5) (now (a .text)) (a .self .at)
     (p .0 .0) (p .0 .1 .0) (p .0 .1 .1 .0) (p .0 .1 .1 .1 .0) (p .0 .1 .1 .1 .1 .0) (p .0 .1 .1 .1 .1 .1 .0) (f .0) (f .1) (f .2) (f .7) (sym (c .before .names .ensures) ∙ not-true _ (c .if2 .taken))
 
-add-t18 : tie.Need-add-t18
-add-t18 c =
+add-t19 : tie.Need-add-t19
+add-t19 c =
     let c5 = c .before .before .before .before .before in
     let c7 = c5 .before .before in
     let c9 = c7 .before .before in
@@ -158,7 +158,7 @@ next-spec =
     returns
     names-requires
     returns-2
-    add-t18
+    add-t19
     enum-known-next
     enum-told
     returns-3
