@@ -28,12 +28,12 @@ class Geometry:
     def __init__(self, job, passed):
         self.job = job
         self.pitch = (1 - 2 * CORNER) / (job.o + 1)                  # from lane to lane on a side
-        self.diagonal_pitch = (math.sqrt(2) - 2 * CORNER) / (job.d + 1)
         self.passed = passed
 
     def half(self, row, column):
         """Half the side of a centre's square: its corners leave room for the wires that pass it."""
-        return min(.26, (self.passed.get((row, column), 0) + .6) * self.diagonal_pitch / 2 / math.sqrt(2))
+        pitch = (math.sqrt(2) - 2 * CORNER) / (self.job.diagonal_of(row, column) + 1)
+        return min(.26, (self.passed.get((row, column), 0) + .6) * pitch / 2 / math.sqrt(2))
 
     def cell(self, place):
         """The polygon of a place, clockwise."""

@@ -5,9 +5,9 @@ from typing import NamedTuple
 from talusdish import SIDES
 
 RANGES = {'rows': (2, 40), 'columns': (2, 40), 'O': (1, 8), 'E': (0, 16)}
-GROUPS = ('chosen', 'missing', 'closed', 'laid')                    # in the order of a text
+GROUPS = ('chosen', 'missing', 'closed', 'd', 'laid')               # in the order of a text
 FORMS = {'array': '(array (pins ROWS COLUMNS) (caps O D E))', 'end': '(end)', **{word: f'({word} ROW COLUMN)' for word in GROUPS},
-         'laid': '(laid ROW COLUMN SIDE COUNT)'}
+         'd': '(d ROW COLUMN VALUE)', 'laid': '(laid ROW COLUMN SIDE COUNT)'}
 LONGEST = 40                                                        # digits of a number that is told
 
 
@@ -24,6 +24,7 @@ class Array(NamedTuple):
     rows: int
     columns: int
     o: int
+    d: int
 
 
 def numbers_in(line):
@@ -86,7 +87,7 @@ def group_reason(line, word, array, lines):
     if wrong:
         return wrong
     (at_row, row), (at_column, column), *rest = fields(line, word)
-    thing, less = ('tile', 1) if word in ('closed', 'laid') else ('pin', 0)
+    thing, less = ('tile', 1) if word in ('closed', 'd', 'laid') else ('pin', 0)
     for place, number, what, size in ((at_row, row, 'row', array.rows - less), (at_column, column, 'column', array.columns - less)):
         if number >= size:
             return place, f'there is no {what} {number} of {thing}s: {what}s are 0 to {size - 1}'
@@ -95,10 +96,22 @@ def group_reason(line, word, array, lines):
         return 1, f'{word} stands after {last[0]}: the groups come as {", ".join(GROUPS)}'
     if word == 'laid':
         return laid_reason(row, column, *rest, array.o) or laid_order(at_row, (row, column, rest[0][1]), last)
-    if last[0] == word and last[1:] >= (row, column):
-        return at_row, f'{thing} {row} {column} comes after {last[1]} {last[2]}: a group rises by row, then column' if last[1:] != (row, column) else f'{thing} {row} {column} is named twice'
+    if last[0] == word and last[1:3] >= (row, column):
+        return at_row, f'{thing} {row} {column} comes after {last[1]} {last[2]}: a group rises by row, then column' if last[1:3] != (row, column) else f'{thing} {row} {column} is named twice'
+    if word == 'd':
+        return own_reason(*rest, array)
     if word == 'missing' and ('chosen', row, column) in lines:
         return at_row, f'pin {row} {column} is chosen already'
+    return None
+
+
+def own_reason(value_field, array):
+    """(column, reason) of a wrong D of a tile that there is."""
+    at_value, value = value_field
+    if not array.o <= value <= 2 * array.o:
+        return at_value, f'the D of a tile may be O to 2×O, here {array.o} to {2 * array.o}, not {value}'
+    if value == array.d:
+        return at_value, f'a tile whose D is that of the job, here {value}, has no line'
     return None
 
 
@@ -139,7 +152,7 @@ def line_reason(line, lines):
     if word == 'end':
         return spelling(line, 'end')
     if word in GROUPS:
-        return group_reason(line, word, Array(*lines[0][1:4]), lines)
+        return group_reason(line, word, Array(*lines[0][1:5]), lines)
     return 0, f'a line here is {", ".join(FORMS[name] for name in (*GROUPS, "end"))}'
 
 

@@ -15,7 +15,7 @@ from typing import NamedTuple
 
 ROOT = Path(__file__).resolve().parent.parent
 RECORD, SCRATCH = 32768, 65536                                      # bytes of a record and of a near side, bytes of scratch
-TEXT, LISTING = 576240, 1 << 20                                     # an output that every text fits, and one to begin a listing with
+TEXT, LISTING = 640280, 1 << 20                                     # an output that every text fits, and one to begin a listing with
 IDLE, CHOSEN, MISSING = 0, 1, 2
 ADDED, ALL_WIRED, SHORT = 0, 1, 2
 SIDES = 'nesw'                                                      # by their codes, which is the order of a text too
@@ -26,6 +26,7 @@ SIGNATURES = {
     'talusdish_mark': 'bnnn',
     'talusdish_close': 'bnnn',
     'talusdish_lay': 'bnnnn',
+    'talusdish_diagonal': 'bnnn',
     'talusdish_step': 'bb',
     'talusdish_shortfall': 'bbb',
     'talusdish_part': 'bnnn',
@@ -39,7 +40,7 @@ SIGNATURES = {
 REFUSALS = {
     1: 'the record is short or damaged',
     2: 'rows and columns are 2 to 40',
-    3: 'the capacities are out of range: O is 1 to 8, D is O to 2×O, E is 0 to 16',
+    3: 'the capacities are out of range: O is 1 to 8, D is O to 2×O, of a tile too, E is 0 to 16',
     4: 'there is no such pin or tile, or the pin is not chosen',
     5: 'unknown mark, state or side',
     6: 'wrong text',
@@ -262,6 +263,10 @@ class Job:
         as exceed the new limit, and no others; the library refuses any other side."""
         call('talusdish_lay', self._record, row, column, (*SIDES, side).index(side), count)
 
+    def diagonal(self, row, column, d):
+        """Sets a tile's D; another one takes out the wires through the tile's centre, and no others. The job's D means that it has none of its own."""
+        call('talusdish_diagonal', self._record, row, column, d)
+
     def step(self):
         """ADDED, ALL_WIRED or SHORT."""
         return call('talusdish_step', self._record, self._scratch)
@@ -350,6 +355,14 @@ class Job:
         """How many wires n-e, e-s, s-w or w-n takes, in every tile."""
         return self.o // 2
 
+    def diagonal_of(self, row, column):
+        """The D of a tile: its own, or else the job's."""
+        return self._plane(19, row, column) or self.d
+
+    def own_diagonals(self):
+        """{tile: its own D} of the tiles that have one, by row and column."""
+        return {(r, c): own for r in range(self.rows - 1) for c in range(self.columns - 1) if (own := self._plane(19, r, c))}
+
     def centre_limit(self, row, column):
         """How many wires the centre of an open tile passes."""
-        return self.d - 2 * (self.o // 2)
+        return self.diagonal_of(row, column) - 2 * (self.o // 2)

@@ -26,7 +26,7 @@
  * with length 0 is an empty buffer. The buffers of one call do not overlap, and nobody else writes them during the call. A function keeps nothing between
  * calls, so calls on different records may run at the same time. docs/RECORD.md says what each byte of a record and of shortfall's output holds.
  *
- * A call works on the stack of its thread: step and shortfall need 263 KiB of it, listing, mark, close and lay 135 KiB, part and write_text 103 KiB, new, read_text, trial and rules at most
+ * A call works on the stack of its thread: step and shortfall need 263 KiB of it, listing, mark, close, lay and diagonal 135 KiB, part and write_text 103 KiB, new, read_text, trial and rules at most
  * 17 KiB (measured on x86-64 with two 40 by 40 jobs, not proved). A thread with 512 KiB is safe.
  */
 #ifndef TALUSDISH_H
@@ -59,6 +59,10 @@ uint64_t talusdish_close(uint8_t *record, uint64_t record_len, uint64_t row, uin
  * tiles names it. 1; 4 no such tile; 5; 11. A count already there changes nothing, a lower one takes out no wire. A higher one takes out the wires in the side's
  * highest lanes, as many as exceed the new limit. Every other wire keeps its places; its lane numbers may shrink. */
 uint64_t talusdish_lay(uint8_t *record, uint64_t record_len, uint64_t row, uint64_t column, uint64_t side, uint64_t count);
+
+/* The D of a tile, O to 2×O; the job's D means that the tile has none of its own. 1; 4 no such tile; 3. The D in force changes nothing; another, lower or higher,
+ * takes out the wires through the tile's centre and no others, and every other wire keeps its places. */
+uint64_t talusdish_diagonal(uint8_t *record, uint64_t record_len, uint64_t row, uint64_t column, uint64_t d);
 
 /* One wire more. 1; 8. Value 0 added: one more chosen pin is wired and those wired stay wired; 1 all wired; 2 short: no more wires fit.
  * 1 and 2 change no byte of the record. The scratch of an accepted call is zero afterwards. */

@@ -25,7 +25,7 @@ def example(name):
 
 
 def random_job(seed, largest=14):
-    """A job of any capacities and densities, every other one with wires already laid, by a seed."""
+    """A job of any capacities and densities, some with wires already laid and some with tiles that have their own D, by a seed."""
     draw = random.Random(seed)
     rows, columns, o = draw.randint(2, largest), draw.randint(2, largest), draw.choice((1, 1, 2, 2, 3, 4, 6, 8))
     job = talusdish.Job(rows, columns, o, draw.randint(o, 2 * o), draw.choice((0, 0, 1, 2, 5, 16)))
@@ -43,4 +43,8 @@ def random_job(seed, largest=14):
         for side in talusdish.SIDES:
             if draw.random() < laid:
                 job.lay(row, column, side, draw.randint(1, o))
+    own = draw.choice((0, 0, .3))
+    for row, column in (*job.tiles(True), *job.tiles(False)):
+        if draw.random() < own:
+            job.diagonal(row, column, draw.randint(o, 2 * o))
     return job

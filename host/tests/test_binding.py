@@ -39,7 +39,8 @@ class Binding(unittest.TestCase):
     def test_refused_calls(self):
         for code, refused in ((2, lambda: Job(1, 2)), (3, lambda: Job(2, 2, 2, 5, 0)), (4, lambda: Job().mark(2, 0, CHOSEN)), (5, lambda: Job().close(0, 0, 2)),
                               (4, lambda: Job().part(0, 0, 0)), (9, lambda: talusdish.rules(0, 1, 1, 1)), (10, lambda: talusdish.rules(100, 90, 20, 20)),
-                              (4, lambda: Job().lay(1, 0, 'x', 2)), (5, lambda: Job().lay(0, 0, 'x', 2)), (11, lambda: Job().lay(0, 0, 'n', 2))):
+                              (4, lambda: Job().lay(1, 0, 'x', 2)), (5, lambda: Job().lay(0, 0, 'x', 2)), (11, lambda: Job().lay(0, 0, 'n', 2)),
+                              (4, lambda: Job().diagonal(1, 0, 9)), (3, lambda: Job().diagonal(0, 0, 0)), (3, lambda: Job().diagonal(0, 0, 3))):
             with self.subTest(code=code), self.assertRaises(Refused) as caught:
                 refused()
             self.assertEqual(caught.exception.code, code)
@@ -63,6 +64,44 @@ class Binding(unittest.TestCase):
             named += len(lines)
         self.assertGreater(named, 500)
 
+    def test_own_diagonals_are_those_of_the_text(self):
+        named = 0
+        for seed in range(60):
+            job = random_job(seed)
+            lines = re.findall(r'^\(d (\d+) (\d+) (\d+)\)$', job.write_text().decode(), re.MULTILINE)
+            self.assertEqual([(str(r), str(c), str(own)) for (r, c), own in job.own_diagonals().items()], lines)
+            named += len(lines)
+        self.assertGreater(named, 200)
+
+    def test_the_jobs_d_is_none_of_a_tiles_own(self):
+        job = Job(4, 4, 2, 3, 0)
+        job.diagonal(1, 2, 4)
+        job.close(0, 1, 1)
+        job.diagonal(0, 1, 2)
+        self.assertIn(b'(closed 0 1)\n(d 0 1 2)\n(d 1 2 4)\n(end)\n', job.write_text())
+        self.assertEqual([job.centre_limit(*tile) for tile in ((0, 1), (1, 2), (2, 2))], [0, 2, 1])
+        job.diagonal(1, 2, 3)
+        self.assertEqual(job.own_diagonals(), {(0, 1): 2})
+
+    def test_another_d_takes_out_the_wires_through_the_centre_alone(self):
+        taken = kept = 0
+        for seed in range(80):
+            job = random_job(seed)
+            job.route()
+            before = job.wires()
+            for row, column in job.tiles(True):
+                other = next(d for d in range(job.o, 2 * job.o + 1) if d != job.diagonal_of(row, column))
+                through = {pin for pin, parts in before.items() if any(v == (row, column, 'c') for _, v, _ in hops(pin, parts))}
+                job.diagonal(row, column, other)
+                after = job.wires()
+                self.assertEqual(set(after), set(before) - through, seed)
+                for pin in after:
+                    self.assertEqual([u[:3] for u, _, _ in hops(pin, after[pin])], [u[:3] for u, _, _ in hops(pin, before[pin])], seed)
+                taken, kept, before = taken + len(through), kept + len(after), after
+                if through:
+                    break
+        self.assertGreater(min(taken, kept), 50)
+
     def test_the_longest_text(self):
         job = Job(40, 40, 8, 16, 16)
         for row in range(40):
@@ -70,9 +109,10 @@ class Binding(unittest.TestCase):
                 job.mark(row, column, MISSING)
         for row, column in job.tiles(True):
             job.close(row, column, 1)
+            job.diagonal(row, column, 15)
             for side in talusdish.SIDES:
                 job.lay(row, column, side, 8)
-        self.assertEqual((len(job.laid_sides()), len(job.write_text())), (3120, 98259))
+        self.assertEqual((len(job.laid_sides()), len(job.own_diagonals()), len(job.write_text())), (3120, 1521, 117252))
 
     def test_rules_of_document_02(self):
         self.assertEqual(talusdish.rules(800, 400, 100, 75), (1, 150, 3, 280000, 2))

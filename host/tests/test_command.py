@@ -64,7 +64,7 @@ class Status(Folder):
         for part in ('route', 'check', 'draw'):
             self.assertEqual(talus(part, path).returncode, 2)
         self.assertEqual(talus('check', path).stderr,
-                         f'{path}:3: chosen stands after closed: the groups come as chosen, missing, closed, laid\n    (chosen 0 0)\n     ^\n')
+                         f'{path}:3: chosen stands after closed: the groups come as chosen, missing, closed, d, laid\n    (chosen 0 0)\n     ^\n')
 
     def test_standard_input(self):
         self.assertEqual(talus('check', '-', input='(array (pins 2 2) (caps 1 2 0))\n(end)\n').returncode, 0)
