@@ -4,6 +4,5 @@ pub mod Edits
 pub mod Laying
 -- the copy in which the wires are followed
 pub mod Copied
-
 -- what giving a tile its D does
 pub mod Diagonals
