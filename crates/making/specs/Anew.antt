@@ -2,7 +2,7 @@
 use mathlib.Core.Path.{_≡_, refl, sym, ap, subst, _∙_}
 use mathlib.Core.Bool.{Bool, true, false, not, _&&_}
 use mathlib.Core.List.{List, [], _∷_}
-use Prim.Native.Nat.{ℕ, _*_, _≤_, _<_}
+use Prim.Native.Nat.{ℕ, _≤_, _<_}
 use native.Mathlib.Omega.{arith}
 use lib.Dec.{T, leb}
 use lib.ListN.{length}
@@ -53,14 +53,6 @@ array-bytes rows columns t = (
   omega (arith, range-most 2 40 columns (and-right (inRange 2 40 rows) (inRange 2 40 columns) t)),
 )
 
-pub caps-bytes : (O D E : ℕ) → T (capsAdmitted O D E) → (O < 256) × (D < 256) × (E < 256)
-caps-bytes O D E t =
-    let u : T (inRange O (2 * O) D && inRange 0 16 E) = and-right (inRange 1 8 O) (inRange O (2 * O) D && inRange 0 16 E) t in
-    let o : O ≤ 8 = range-most 1 8 O (and-left (inRange 1 8 O) (inRange O (2 * O) D && inRange 0 16 E) t) in (
-      omega arith,
-      omega (arith, range-most O (2 * O) D (and-left (inRange O (2 * O) D) (inRange 0 16 E) u)),
-      omega (arith, range-most 0 16 E (and-right (inRange O (2 * O) D) (inRange 0 16 E) u)),
-    )
 
 -- ---- Read text
 

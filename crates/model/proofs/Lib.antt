@@ -13,6 +13,7 @@ pub mod Added
 pub mod Sides
 pub mod Own
 pub mod RecordOf
+pub mod Admitted
 pub mod Unwired
 pub mod JobBytes
 pub mod Over

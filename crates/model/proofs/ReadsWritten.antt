@@ -11,7 +11,7 @@ use lib.Dec.{T, not-T, eqb, leb, ltb, eqb→eq, eqb-refl, le→leb, lt→ltb, lt
 use lib.ListN.{length, length-append}
 use Rattle.sums.specs.Counting.{when, only, each}
 use Rattle.sums.specs.Tests.{Same, same, other, same?, below-or, and-left, and-right, and-both}
-use Rattle.model.specs.Job.{Job, inRange, arrayFits, capsAdmitted, fresh, isPin, isTile, isOwnD, isChosen, isMissing, isClosed, Proper}
+use Rattle.model.specs.Job.{Job, inRange, arrayFits, capsAdmitted, fresh, isPin, isTile, isOwnD, isChosen, isMissing, isClosed, Proper, capsFit}
 use Rattle.model.specs.Text.{Group, chosenPins, missingPins, closedTiles, ownDs, laidSides, groups, Line, arrayLine, groupLine, endLine, says, lineBytes}
 use Rattle.model.specs.Text.{afterArray}
 use Rattle.model.specs.Text.{finished, within, rank, keyOf, Reader, start, asking, inTurn, writesSide, names, named, admit, Verdict, reads, Reads, ended, line}
@@ -292,12 +292,12 @@ module _ (J : Job) (proper : Proper J) where
   plain : Reader
   plain = record { stage = afterArray; from = 0; job = fresh (J .rows) (J .columns) (J .O) (J .D) (J .E) }
 
-  partly-array : Leads start (lineBytes (arrayLine (J .rows) (J .columns) (J .O) (J .D) (J .E))) (Partly J (6400 * 2))
+  partly-array : T (leb (J .E) (J .D)) → Leads start (lineBytes (arrayLine (J .rows) (J .columns) (J .O) (J .D) (J .E))) (Partly J (6400 * 2))
   unfolding admit plain
-  partly-array =
+  partly-array admitted =
       leads-line (arrayLine (J .rows) (J .columns) (J .O) (J .D) (J .E)) plain
       (asking-so (arrayFits (J .rows) (J .columns) && capsAdmitted (J .O) (J .D) (J .E)) plain
-      (and-both (arrayFits (J .rows) (J .columns)) _ (proper .array) (proper .caps)))
+      (and-both (arrayFits (J .rows) (J .columns)) _ (proper .array) (and-both (capsFit (J .O) (J .D) (J .E)) _ (proper .caps) admitted)))
       (record {
         stage = omega arith;
         next = omega arith;
@@ -340,13 +340,13 @@ module _ (J : Job) (proper : Proper J) where
       leads-append (partly-group g R (subst (λ (m : ℕ). Partly J m R) i s))
       (λ S t. partly-groups (suc n) l k (omega arith) S (subst (λ (m : ℕ). Partly J m S) j t))
 
-  reads-text : Leads start (textOf J) Done
+  reads-text : T (leb (J .E) (J .D)) → Leads start (textOf J) Done
   unfolding textOf
-  reads-text = leads-append partly-array (partly-groups 2 groups groups-ranked refl)
+  reads-text admitted = leads-append (partly-array admitted) (partly-groups 2 groups groups-ranked refl)
 
-pub reads-written : (J : Job) → Proper J → Reading (textOf J) (reads J)
+pub reads-written : (J : Job) → Proper J → J .E ≤ J .D → Reading (textOf J) (reads J)
 unfolding Done
-reads-written J proper =
-    let a : Leads start (textOf J) (Done J proper) = reads-text J proper in
+reads-written J proper small =
+    let a : Leads start (textOf J) (Done J proper) = reads-text J proper (le→leb (J .E) (J .D) small) in
     subst (λ (X : List ℕ). Reading X (reads J)) (append-nil (textOf J))
     (a .accepts 0 [] (reads J) (subst (λ (K : Job). Reads (a .to) (0 + length (textOf J)) [] (reads K)) (a .there .1) (ended (a .there .0) refl)))

@@ -183,6 +183,11 @@ swapped64 =
     (line (groupLine closedTiles 0 0 0 1) (after (within closedTiles) 1 (closed plain 0 0 1)) (chosen64 ++ end64) refl refl
     (line-refused (groupLine chosenPins 0 0 0 1) end64 tt refl))
 
+-- K9: an E above D makes the array line wrong
+pub extra64 : (rest : List ℕ) → Reading (lineBytes (arrayLine 2 2 1 2 3) ++ rest) (wrongAt 0)
+unfolding admit
+extra64 rest = line-refused (arrayLine 2 2 1 2 3) rest tt refl
+
 -- the chosen pin twice: not strictly rising
 pub twice64 : Reading (array64 ++ (chosen64 ++ (chosen64 ++ (closed64 ++ end64)))) (wrongAt 45)
 unfolding admit lineBytes

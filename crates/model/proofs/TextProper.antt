@@ -12,6 +12,7 @@ use Rattle.sums.specs.Tests.{and-left, and-right}
 use Rattle.model.specs.Job.{Job, arrayFits, capsFit, capsAdmitted, fresh, marked, closed, put, isPin, isTile, isOwnD, Proper}
 use Rattle.model.specs.Text.{Group, chosenPins, missingPins, closedTiles, ownDs, laidSides, Line, arrayLine, groupLine, endLine, says, begin, rank, Reader, asking, inTurn}
 use Rattle.model.specs.Text.{writesSide, names, named, admit, Verdict, reads, wrongAt, Reads, ended, line, wrong, Reading}
+use Rattle.model.proofs.Admitted.{admitted-fit}
 use Rattle.model.proofs.Added.{fresh-fits, fits-kept}
 use Rattle.model.proofs.Own.{or-so, own-proper}
 use Rattle.model.proofs.Sides.{put-fits, laid-proper}
@@ -112,7 +113,7 @@ admit-proper R (arrayLine rows columns O D E) R′ g e =
     let d : Bool = capsAdmitted O D E in
     let (t, q) = asked (a && (b && d)) _ R′ e in
     let u : T (b && d) = and-right a (b && d) t in
-    subst (λ (S : Reader). Proper (S .job)) q (fresh-proper rows columns O D E (and-left b d u) (and-right b d u))
+    subst (λ (S : Reader). Proper (S .job)) q (fresh-proper rows columns O D E (and-left b d u) (admitted-fit O D E (and-right b d u)))
 admit-proper R (groupLine g r c d v) R′ good e =
     let a : Bool = inTurn R g r c d in
     let b : Bool = names (R .job) g r c d v in

@@ -16,6 +16,7 @@ use Rattle.model.specs.Job.{Job, arrayFits, capsAdmitted, fresh, Proper}
 use Rattle.model.specs.Text.{Group, groups, Line, arrayLine, groupLine, endLine, lineBytes, afterArray, finished, within, rank, keyOf, Reader, inTurn}
 use Rattle.model.specs.Text.{names, named, admit, Verdict, reads, wrongAt, Reads, ended, line, wrong, Reading, valueAt, valueLine, groupText, listed}
 use Rattle.model.specs.Text.{textOf}
+use Rattle.model.proofs.Admitted.{admitted-fit}
 use Rattle.model.proofs.TextProper.{asked, names-says, fresh-proper, named-proper}
 use Rattle.model.proofs.TextNames.{turn, due, rank-group, rank-same, Ranked, groups-ranked, says-some, zero-so, value-line, names-inside, proper-size}
 use Rattle.model.proofs.TextNames.{fresh-none, named-here, named-else, Alike, named-alike}
@@ -217,7 +218,7 @@ wrote-array R P n m O D E (nothing z e) y a b =
     (record {
       stage = omega arith;
       short = omega arith;
-      proper = fresh-proper n m O D E a b;
+      proper = fresh-proper n m O D E a (admitted-fit O D E b);
       clear = λ h i j d l. absurd (omega (arith, fresh-none n m O D E h i j d));
     })
     (ap (λ (X : List ℕ). L ++ X) (listed-none (groupText K) 2 groups groups-ranked (λ g l. none-there g))

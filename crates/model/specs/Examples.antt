@@ -46,11 +46,14 @@ abbrev pub caps : ℕ → ℕ → ℕ → Bool → Caps
 caps o d e b = record { O = o; D = d; E = e; fits = b }
 
 abbrev pub capacities : List Caps
-capacities = caps 8 16 16 true ∷ caps 2 5 0 false ∷ caps 2 1 0 false ∷ caps 1 1 0 true ∷ caps 0 0 0 false ∷ caps 9 9 0 false ∷ caps 1 1 17 false ∷ []
+capacities =
+    caps 8 16 16 true ∷ caps 2 5 0 false ∷ caps 2 1 0 false ∷ caps 1 1 0 true ∷ caps 0 0 0 false ∷ caps 9 9 0 false ∷ caps 1 1 17 false
+    ∷ caps 1 2 2 true ∷ caps 1 2 3 false ∷ []
 
 -- ---- refusals: the number with which a call is refused, none for an accepted one
 
--- New, on a record that is long enough: "Array 40 by 40 accepted, 1 by 2 and 41 by 2 refused 2. Caps 8 16 16 accepted; 2 5 0 and 2 1 0 refused 3", and both faults
+-- New, on a record that is long enough: "Array 40 by 40 accepted, 1 by 2 and 41 by 2 refused 2. Caps 8 16 16 accepted; 2 5 0 and 2 1 0 refused 3", both faults, and
+-- K9: E above D is refused by 3
 pub record Opening : Type 0 where
   pub rows : ℕ
   pub columns : ℕ
@@ -65,7 +68,7 @@ opening r c o d e n = record { rows = r; columns = c; O = o; D = d; E = e; numbe
 abbrev pub openings : List Opening
 openings =
     opening 40 40 1 2 0 none ∷ opening 1 2 1 2 0 (some 2) ∷ opening 41 2 1 2 0 (some 2) ∷ opening 2 2 8 16 16 none ∷ opening 2 2 2 5 0 (some 3)
-    ∷ opening 2 2 2 1 0 (some 3) ∷ opening 41 2 2 5 0 (some 2) ∷ opening 1 2 2 1 0 (some 2) ∷ []
+    ∷ opening 2 2 2 1 0 (some 3) ∷ opening 41 2 2 5 0 (some 2) ∷ opening 1 2 2 1 0 (some 2) ∷ opening 2 2 1 1 2 (some 3) ∷ opening 2 2 1 2 2 none ∷ []
 
 -- Mark and Close on an idle, open job of 2 by 2 pins: 4 before 5
 pub record Edit : Type 0 where
@@ -265,7 +268,8 @@ abbrev pub tryings : List Trying
 tryings =
     trying (trialOf 2 2 1 2 0 1 40 60 100) none ∷ trying (trialOf 40 40 8 16 16 4294967295 100 0 0) none ∷ trying (trialOf 2 2 1 2 0 0 40 60 100) (some 12)
     ∷ trying (trialOf 2 2 1 2 0 4294967296 40 60 100) (some 12) ∷ trying (trialOf 2 2 1 2 0 1 41 60 100) (some 13) ∷ trying (trialOf 2 2 1 2 0 1 0 0 101) (some 13)
-    ∷ trying (trialOf 2 2 1 2 0 0 41 60 100) (some 12) ∷ trying (trialOf 2 2 2 5 0 0 41 60 100) (some 3) ∷ trying (trialOf 41 2 2 5 0 0 41 60 100) (some 2) ∷ []
+    ∷ trying (trialOf 2 2 1 2 0 0 41 60 100) (some 12) ∷ trying (trialOf 2 2 2 5 0 0 41 60 100) (some 3) ∷ trying (trialOf 41 2 2 5 0 0 41 60 100) (some 2)
+    ∷ trying (trialOf 2 2 1 1 2 1 40 60 100) (some 3) ∷ []
 
 -- ---- K6: the number after so many draws from 1; "From 1 the first draw is 270369"
 

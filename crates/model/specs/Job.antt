@@ -18,9 +18,9 @@ arrayFits rows columns = inRange 2 40 rows && inRange 2 40 columns
 abbrev pub capsFit : ℕ → ℕ → ℕ → Bool
 capsFit O D E = inRange 1 8 O && (inRange O (2 * O) D && inRange 0 16 E)
 
--- What New and Read text accept. A record may hold whatever fits.
+-- K9: "A new job or a text with E above D is now refused." A record may hold whatever fits: "Jobs in the service keep their E."
 abbrev pub capsAdmitted : ℕ → ℕ → ℕ → Bool
-capsAdmitted O D E = capsFit O D E
+capsAdmitted O D E = capsFit O D E && leb E D
 
 -- "The centre passes at most D − 2×(O/2 rounded down) wires."
 abbrev pub centreLimit : ℕ → ℕ → ℕ

@@ -7,10 +7,10 @@ use mathlib.Core.Option.{none, some}
 use Prim.Native.Nat.{ℕ, suc, _+_, _-_, _^_, _≤_, _<_}
 use lib.Dec.{T}
 use lib.ListN.{length, getD}
-use Rattle.model.specs.Job.{Job, fresh, marked, closed, sideOf, laidBy, diagonalBy, isChosen}
+use Rattle.model.specs.Job.{Job, fresh, marked, closed, sideOf, laidBy, diagonalBy, isChosen, Proper}
 use Rattle.model.specs.Route.{Route, Together, Family, Greatest, chosenCount}
 use Rattle.model.specs.Near.{Smallest}
-use Rattle.model.specs.Record.{recordSize, scratchSize, jobOf, load, over}
+use Rattle.model.specs.Record.{recordSize, scratchSize, jobOf, load, unwiredRecord, over}
 use Rattle.model.specs.Wires.{partAt, Holds}
 use Rattle.model.specs.Text.{reads, Reading}
 use Rattle.model.specs.Trial.{Trial, trialJob}
@@ -79,6 +79,10 @@ module _ (S : Service) where
     -- K6: "A run may also start with an accepted call of the generator."
     byTrial : {rec : List ℕ} (before : List ℕ) (t : Trial) → Buffer before → Lent (trial t) → Accepted (S .does (trial t) before .answer)
         → rec ≡ S .does (trial t) before .rec → Starts rec (trialJob t)
+    -- K9: "a run may also start from a record that New, Read text or the generator gave before this request for an E above D, its job as that call set it":
+    -- the record of any such job without wires
+    byOld : {rec : List ℕ} {J : Job} (before : List ℕ) → Buffer before → recordSize ≤ length before → Proper J → J .D < J .E
+        → rec ≡ over (unwiredRecord J) before → Starts rec J
 
   -- "followed on it by any list .. Each is lent the record as the call before left it": from the record rec with the job J to rec′ with J′
   abbrev pub Follows : List ℕ → Job → List Call → List ℕ → Job → Type 0

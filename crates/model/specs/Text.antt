@@ -4,7 +4,7 @@ use mathlib.Core.Logic.{_≢_}
 use mathlib.Core.Bool.{Bool, true, false, not, _&&_}
 use mathlib.Core.List.{List, [], _∷_, _++_}
 use mathlib.Core.Option.{Option, none, some}
-use Prim.Native.Nat.{ℕ, zero, suc, _+_, _*_, _/_, _%_}
+use Prim.Native.Nat.{ℕ, zero, suc, _+_, _*_, _/_, _%_, _≤_}
 use lib.Dec.{eqb, leb, ltb}
 use lib.ListN.{length, getD}
 use Rattle.sums.specs.Counting.{when, only, each}
@@ -229,5 +229,6 @@ textOf J =
 
 -- Demand 2: "job text is read and written by its grammar, and each undoes the other for a job without wires."
 pub record RoundTrip : Type 0 where
-  pub reads-written : (J : Job) → Proper J → Reading (textOf J) (reads J)
+  -- K9: "The round trip covers E at most D."
+  pub reads-written : (J : Job) → Proper J → J .E ≤ J .D → Reading (textOf J) (reads J)
   pub writes-read : (text : List ℕ) (J : Job) → Reading text (reads J) → textOf J ≡ text

@@ -71,7 +71,11 @@ impl Capacities {
     pub fn admitted(self) -> bool
         ensures { λ r. ⌜ r ≡ capsAdmitted (self .orthogonal) (self .diagonal) (self .extra) ⌝ }
     {
-        self.fit()
+        if self.fit() {
+            self.extra <= self.diagonal
+        } else {
+            false
+        }
     }
 
     // How many wires a centre passes at most.

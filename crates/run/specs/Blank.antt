@@ -3,7 +3,7 @@
 use mathlib.Core.Path.{_≡_, refl, ap, _∙_}
 use mathlib.Core.Bool.{Bool, true, false, _&&_}
 use mathlib.Core.List.{List, [], _∷_}
-use Prim.Native.Nat.{ℕ, _≤_}
+use Prim.Native.Nat.{ℕ, _≤_, _<_}
 use native.Mathlib.Omega.{arith}
 use lib.Dec.{T, leb, le→leb}
 use lib.ListN.{length, drop}
@@ -11,7 +11,7 @@ use Rattle.sums.specs.Counting.{total}
 use Rattle.sums.specs.Tests.{and-right, and-both}
 use Rattle.sums.specs.Sums.{when-none}
 use Rattle.sums.specs.Totals.{total-none}
-use Rattle.model.specs.Job.{Job, arrayFits, capsAdmitted, fresh, isChosen}
+use Rattle.model.specs.Job.{Job, arrayFits, capsAdmitted, fresh, isChosen, Proper}
 use Rattle.model.specs.Links.{places, isPinKind}
 use Rattle.model.specs.Loads.{departures}
 use Rattle.model.specs.Record.{recordSize, jobOf, load, noLoads, unwiredRecord, over}
@@ -19,7 +19,7 @@ use Rattle.model.specs.Wires.{isWired, wireCount}
 use Rattle.model.specs.Text.{Verdict, reads, Reading}
 use Rattle.model.specs.Calls.{new, readText, trial, refused, done, refusal, Accepted, After, after, test, newly, readIn, wiresIn}
 use Rattle.model.specs.Trial.{Trial, seedFits, percentsFit, trialJob}
-use Rattle.model.specs.Run.{Buffer, Lent, Service, Starts, byNew, byText, byTrial}
+use Rattle.model.specs.Run.{Buffer, Lent, Service, Starts, byNew, byText, byTrial, byOld}
 use Rattle.model.proofs.Asked.{hold-both, asked-all}
 use Rattle.model.proofs.RecordOf.{Storable, length-record, load-back}
 use Rattle.model.proofs.Over.{load-over}
@@ -109,3 +109,7 @@ module _ (S : Service) (before : List ℕ) (b : Buffer before) (long : recordSiz
       done-begins (S .does (trial t) before) (trialJob t)
       (S .did (trial t) before w b ∙ asked-all before [] made (test l 1 ∷ test a 2 ∷ test c 3 ∷ test d 12 ∷ test e 13 ∷ []) all)
       (λ x. byTrial before t b w x refl)
+
+  pub old-begins : (J : Job) → Proper J → J .D < J .E → Begins (over (unwiredRecord J) before) J
+  old-begins J p d =
+      done-begins (after done (over (unwiredRecord J) before) [] []) J refl (λ x. byOld before b long p d refl)

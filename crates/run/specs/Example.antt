@@ -11,17 +11,18 @@ use lib.Dec.{T, ltb, ltb→lt}
 use lib.ListN.{length, getD, replicate, length-replicate}
 use Rattle.sums.specs.Tests.{and-left, and-right, every}
 use Rattle.model.specs.Job.{Job, fresh, marked, isPin, isChosen}
-use Rattle.model.specs.Record.{recordSize}
+use Rattle.model.specs.Record.{recordSize, unwiredRecord, over}
 use Rattle.model.specs.Examples.{job64, job33, jobShut, shortShut, jobLaid, shortLaid, jobOwn, shortOwn}
 use Rattle.model.specs.Trial.{Trial, trialOf, trialJob}
 use Rattle.model.specs.Calls.{Call, new, mark, close, lay, diagonal, step, readText, trial, Answer, allWired, Accepted}
 use Rattle.model.specs.Run.{Buffer, Service, Starts, Follows, NeverOne, Stepping, Demand}
+use Rattle.model.proofs.TextProper.{fresh-proper}
 use Rattle.model.proofs.TextExamples.{text64, reads64}
 use Rattle.run.specs.Buffers.{zeros-buffer, zeroScratch, scratch-buffer, scratch-long}
 use Rattle.run.specs.Runs.{becomes-set, start-kept, AllLent, recAfter, follows-all}
 use Rattle.run.specs.Says.{enough-accepted}
 use Rattle.run.specs.Demand3.{demand3}
-use Rattle.run.specs.Blank.{Blank, new-begins, text-begins, trial-begins}
+use Rattle.run.specs.Blank.{Blank, new-begins, text-begins, trial-begins, old-begins}
 use Rattle.run.specs.Edits.{Edits, end, marks, closes, lays, gives, edits-blank, edits-follow}
 use Rattle.run.specs.Settled.{Answers, shorts-answers, WholeAnswers, wireds-answers, none-answers}
 
@@ -79,6 +80,21 @@ module _ (S : Service) where
 
   pub demand-step : NeverOne S begun markAndStep × Demand S (recAfter S markAndStep begun) (marked plain 0 0 1)
   demand-step = demand3 S begun plain starts-new markAndStep (recAfter S markAndStep begun) (marked plain 0 0 1) follows-step
+
+  -- ---- K9: a record as New 2 2 1 1 2 gave it before the request, and any list of calls on it
+
+  abbrev pub oldJob : Job
+  oldJob = fresh 2 2 1 1 2
+
+  abbrev pub oldRecord : List ℕ
+  oldRecord = over (unwiredRecord oldJob) zeroRecord
+
+  pub starts-old : Starts S oldRecord oldJob
+  starts-old = old-begins S zeroRecord zero-buffer zero-long oldJob (fresh-proper 2 2 1 1 2 tt tt) (omega arith) .0
+
+  pub demand-old : (calls : List Call) → AllLent S calls
+      → (J : Job) × Follows S oldRecord oldJob calls (recAfter S calls oldRecord) J × NeverOne S oldRecord calls × Demand S (recAfter S calls oldRecord) J
+  demand-old = demand-all oldRecord oldJob starts-old
 
   -- ---- nothing chosen: "all wired", never "added"
 

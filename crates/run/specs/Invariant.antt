@@ -25,6 +25,7 @@ use Rattle.model.specs.Calls.{Test, test, asked, edited, newly, triedOn, marked
 use Rattle.model.specs.Run.{Buffer, Service, Sets}
 use Rattle.model.proofs.RecordOf.{length-record}
 use Rattle.model.proofs.Asked.{allHold, numbered, both-hold, asked-holds, asked-either}
+use Rattle.model.proofs.Admitted.{admitted-fit}
 use Rattle.model.proofs.Unwired.{unwired-legal}
 use Rattle.model.proofs.Over.{legal-proper}
 use Rattle.model.proofs.Own.{own-kept, diagonal-proper}
@@ -55,7 +56,7 @@ refused-leaves S c rec J output k t = refuses k refl (λ e. subst (λ (n : ℕ).
 
 -- ---- the calls that begin anew, on any buffer that is long enough
 
-module _ (S : Service) (rec : List ℕ) (J : Job) (b : Buffer rec) (long : recordSize ≤ length rec) where
+module _ (rec : List ℕ) (b : Buffer rec) (long : recordSize ≤ length rec) where
   -- the record of a proper job over the buffer
   pub left-kept : (K : Job) (left : Step → ℕ) → Proper K → Legal (recordOf K left) → Kept (over (recordOf K left) rec) K
   left-kept K left p g =
@@ -65,9 +66,10 @@ module _ (S : Service) (rec : List ℕ) (J : Job) (b : Buffer rec) (long : recor
         job = left-job rec K left p g;
       }
 
-  anew : (K : Job) → Proper K → Kept (over (unwiredRecord K) rec) K
+  pub anew : (K : Job) → Proper K → Kept (over (unwiredRecord K) rec) K
   anew K p = left-kept K noLoads p (unwired-legal K p)
 
+module _ (S : Service) (rec : List ℕ) (J : Job) (b : Buffer rec) (long : recordSize ≤ length rec) where
   pub new-leaves : (rows columns O D E : ℕ) → Leaves S (new rows columns O D E) rec J (newly rows columns O D E rec)
   new-leaves rows columns O D E =
       let K : Job = fresh rows columns O D E in
@@ -77,12 +79,12 @@ module _ (S : Service) (rec : List ℕ) (J : Job) (b : Buffer rec) (long : recor
       (asked-either rec [] made (Leaves S (new rows columns O D E) rec J) notOne ts tt (refused-leaves S (new rows columns O D E) rec J [])
       (λ t.
       accepts K refl refl
-      (anew K
+      (anew rec b long K
       (fresh-proper rows columns O D E (and-left (arrayFits rows columns) (capsAdmitted O D E && true) t)
-      (and-left (capsAdmitted O D E) true (and-right (arrayFits rows columns) (capsAdmitted O D E && true) t))))))
+      (admitted-fit O D E (and-left (capsAdmitted O D E) true (and-right (arrayFits rows columns) (capsAdmitted O D E && true) t)))))))
 
   pub read-leaves : (text : List ℕ) (v : Verdict) → Reading text v → Leaves S (readText text) rec J (readIn v rec)
-  read-leaves text (reads K) r = accepts K refl r (anew K (reading-proper text K r))
+  read-leaves text (reads K) r = accepts K refl r (anew rec b long K (reading-proper text K r))
   read-leaves text (wrongAt o) r = refuses 6 refl (omega arith) refl
 
   pub trial-leaves : (t : Trial) → Leaves S (trial t) rec J (triedOn t rec)
@@ -97,7 +99,7 @@ module _ (S : Service) (rec : List ℕ) (J : Job) (b : Buffer rec) (long : recor
       (asked-either rec [] made (Leaves S (trial t) rec J) notOne ts tt (refused-leaves S (trial t) rec J [])
       (λ h.
       accepts K refl refl
-      (anew K (trial-proper t (and-left a (b && allHold rest) h) (and-left b (allHold rest) (and-right a (b && allHold rest) h))))))
+      (anew rec b long K (trial-proper t (and-left a (b && allHold rest) h) (admitted-fit (t .O) (t .D) (t .E) (and-left b (allHold rest) (and-right a (b && allHold rest) h)))))))
 
 -- ---- the others, on a legal record
 
@@ -176,7 +178,7 @@ module _ (S : Service) (rec : List ℕ) (J : Job) (k : Kept rec J) where
     where
       by : (b : Bool) → (T b → K ≡ J) → Proper K × Legal (recordOf K left) → Leaves S c rec J (edited b K left rec)
       by true q p = accepts J refl (subst (Sets S c J) (q tt) s) k
-      by false q p = accepts K refl s (left-kept S rec J (k .buffer) (k .legal .long) K left (p .0) (p .1))
+      by false q p = accepts K refl s (left-kept rec (k .buffer) (k .legal .long) K left (p .0) (p .1))
 
   proper : Proper (jobOf rec)
   proper = legal-proper rec (k .legal)

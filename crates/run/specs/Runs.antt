@@ -17,10 +17,10 @@ use Rattle.model.specs.Text.{reads, Reading}
 use Rattle.model.specs.Trial.{Trial, seedFits, percentsFit, trialJob}
 use Rattle.model.specs.Calls.{Call, new, mark, close, lay, diagonal, step, shortfall, part, readText, writeText, listing, trial}
 use Rattle.model.specs.Calls.{Answer, refused, done, refusal, Accepted, After, after, test, newly, triedOn, ReadIn}
-use Rattle.model.specs.Run.{Buffer, Service, Sets, Becomes, Lent, Starts, byNew, byText, byTrial, Follows, NeverOne}
+use Rattle.model.specs.Run.{Buffer, Service, Sets, Becomes, Lent, Starts, byNew, byText, byTrial, byOld, Follows, NeverOne}
 use Rattle.model.proofs.Asked.{asked-fails}
 use Rattle.model.proofs.TextUnique.{reads-unique}
-use Rattle.run.specs.Invariant.{Kept, Leaves, accepts, refuses, new-leaves, read-leaves, trial-leaves, call-leaves}
+use Rattle.run.specs.Invariant.{Kept, Leaves, accepts, refuses, anew, new-leaves, read-leaves, trial-leaves, call-leaves}
 
 reads-same : (A B : Job) → reads A ≡ reads B → A ≡ B
 reads-same A B e = cc
@@ -113,6 +113,7 @@ module _ (S : Service) where
       (text-kept before text J (S .does (readText text) before) b (S .did (readText text) before w b) x r)
   start-kept (byTrial before t b w x e) =
       subst (λ (y : List ℕ). Kept y (trialJob t)) (sym e) (trial-kept before t (S .does (trial t) before) b (S .did (trial t) before w b) x)
+  start-kept (byOld {J = J} before b l p d e) = subst (λ (y : List ℕ). Kept y J) (sym e) (anew before b l J p)
 
   pub run-kept : (calls : List Call) (begun rec : List ℕ) (K J : Job) → Kept begun K → Follows S begun K calls rec J → NeverOne S begun calls × Kept rec J
   run-kept [] begun rec K J k f = (tt, subst (Kept rec) (sym (f .1)) (subst (λ (x : List ℕ). Kept x K) (sym (f .0)) k))

@@ -15,6 +15,7 @@ use Rattle.model.specs.Job.{fresh, put, arrayFits, capsAdmitted, isPin}
 use Rattle.model.specs.Text.{Group, chosenPins, missingPins, closedTiles, ownDs, laidSides, Line, arrayLine, groupLine, endLine, lineBytes, Stage, begin, afterArray, finished}
 use Rattle.model.specs.Text.{within, rank, Reader, start, asking, inTurn, names, named, admit, Verdict, reads, wrongAt, Reads, ended, line, wrong}
 use Rattle.model.specs.Text.{Reading, says, keyOf}
+use Rattle.model.proofs.Admitted.{caps-small}
 use Rattle.model.proofs.TextUnique.{line-some}
 use Rattle.model.proofs.TextProper.{asked, by-word, names-says}
 use Rattle.model.proofs.TextNames.{rank-group, names-inside, Alike, named-alike}
@@ -25,7 +26,7 @@ use Rattle.text.specs.declared.reader.Step.{Step}
 use Rattle.text.specs.declared.reader.Step.the-variants.{To, Wrong}
 use Rattle.text.specs.declared.reader.Judged.the-variants.{Reads as ReadsWell, WrongAt}
 use Rattle.text.specs.Reader.{Opens, Follows, afterGroup, afterEnd, Stepped, byGroup, byEnd, stops, Judges}
-use Rattle.line.proofs.Ranges.{array-small, caps-small}
+use Rattle.line.proofs.Ranges.{array-small}
 
 -- ---- a line of the text
 

@@ -64,11 +64,11 @@ one-job text buffer buffer′ K (WrongAt o) h (k, e) = absurd (not-both text K o
 pub code-round-trip : CodeRoundTrip
 code-round-trip =
     record {
-      reads-written = λ rec out out′ n g e buffer buffer′ j h.
+      reads-written = λ rec out out′ n g small e buffer buffer′ j h.
           let T : List ℕ = textOf (jobOf rec) in
           let (p, q) = wrote-is rec out out′ n e in
           let same : take n out′ ≡ T = (λ i. take (p i) (q i)) ∙ take-append-seam T (drop (length T) out) in
-          one-job T buffer buffer′ (jobOf rec) j (round-trip .reads-written (jobOf rec) (legal-proper rec g))
+          one-job T buffer buffer′ (jobOf rec) j (round-trip .reads-written (jobOf rec) (legal-proper rec g) small)
           (subst (λ (s : List ℕ). ReadsInto s buffer buffer′ j) same h);
       read-legal = λ text rec rec′ (K, h, e). subst Legal (sym e) (anew-legal K (reading-proper text K h) rec);
       writes-read = λ text rec rec′ (K, h, e) out out′ r w l.

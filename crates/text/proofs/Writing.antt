@@ -15,6 +15,7 @@ use Rattle.model.specs.Record.{recordSize, markPlane, statePlane, ownDPlane, of
 use Rattle.model.specs.Text.{Group as TextGroup, chosenPins, missingPins, closedTiles, ownDs, laidSides, Line, arrayLine, groupLine, endLine, lineBytes, afterArray}
 use Rattle.model.specs.Text.{finished, within, rank, Reader}
 use Rattle.model.specs.Text.{inTurn, names, named, admit, Verdict, reads, wrongAt, Reads, ended, line, wrong, Reading}
+use Rattle.model.proofs.Admitted.{caps-small}
 use Rattle.model.proofs.TextUnique.{Says, admit-says, line-unique, line-some, reads-unique}
 use Rattle.model.proofs.TextProper.{asked, names-laid}
 use Rattle.model.proofs.TextNames.{rank-group, names-inside, Alike, named-alike}
@@ -23,7 +24,7 @@ use Rattle.channel.specs.Written.{marked-over, closed-over, own-over, laid-over
 use Rattle.line.specs.declared.lines.Line.the-variants.{Group, End, Wrong as WrongLine}
 use Rattle.line.specs.Lines.{LineAt}
 use Rattle.text.specs.Reader.{afterGroup, afterEnd}
-use Rattle.line.proofs.Ranges.{array-small, caps-small}
+use Rattle.line.proofs.Ranges.{array-small}
 use Rattle.text.proofs.Standing.{none-stands}
 use Rattle.text.proofs.Midway.{line-length, finished-none}
 

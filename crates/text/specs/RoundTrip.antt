@@ -14,8 +14,8 @@ use Rattle.text.specs.Into.{ReadsInto}
 use Rattle.writing.specs.Writer.{wroteText}
 
 pub record CodeRoundTrip : Type 0 where
-  -- the n bytes written of a legal record, read into any buffer
-  pub reads-written : (rec out out′ : List ℕ) (n : ℕ) → Legal rec → wroteText (Wrote n) rec out′ ≡ written out rec
+  -- the n bytes written of a legal record, read into any buffer; "the round trip covers E at most D"
+  pub reads-written : (rec out out′ : List ℕ) (n : ℕ) → Legal rec → jobOf rec .E ≤ jobOf rec .D → wroteText (Wrote n) rec out′ ≡ written out rec
       → (buffer buffer′ : List ℕ) (j : Judged) → ReadsInto (take n out′) buffer buffer′ j
       → (j ≡ Reads) × (buffer′ ≡ over (unwiredRecord (jobOf rec)) buffer)
   -- the record of a text that reads may be written

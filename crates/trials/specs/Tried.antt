@@ -126,12 +126,3 @@ array-range rows columns t =
       leb→le 2 columns (and-left (leb 2 columns) (leb columns 40) c),
       range-most 2 40 columns c,
     )
-
-pub caps-bytes : (O D E : ℕ) → T (capsAdmitted O D E) → (O < 256) × (D < 256) × (E < 256)
-caps-bytes O D E t =
-    let u : T (inRange O (2 * O) D && inRange 0 16 E) = and-right (inRange 1 8 O) (inRange O (2 * O) D && inRange 0 16 E) t in
-    let o : O ≤ 8 = range-most 1 8 O (and-left (inRange 1 8 O) (inRange O (2 * O) D && inRange 0 16 E) t) in (
-      omega arith,
-      omega (arith, range-most O (2 * O) D (and-left (inRange O (2 * O) D) (inRange 0 16 E) u)),
-      omega (arith, range-most 0 16 E (and-right (inRange O (2 * O) D) (inRange 0 16 E) u)),
-    )

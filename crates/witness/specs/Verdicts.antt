@@ -18,6 +18,7 @@ use Rattle.model.specs.Text.{Group, chosenPins, missingPins, closedTiles, ownDs
 use Rattle.model.specs.Text.{finished, within, rank, Reader, start, asking, inTurn, names, admit, Verdict, reads, wrongAt, Reads, ended, line, wrong, Reading}
 use Rattle.model.proofs.Own.{own-range}
 use Rattle.model.proofs.TextProper.{by-word, names-says, names-own, names-laid}
+use Rattle.model.proofs.Admitted.{caps-small}
 use Rattle.model.proofs.TextNames.{names-inside}
 use Rattle.witness.specs.Decide.{some?}
 
@@ -79,13 +80,12 @@ module _ (R : Reader) (text : List ℕ) where
       (asked (eqb (rank (R .stage)) (rank begin) && (arrayFits a b && capsAdmitted O D E)) _ S e) in
       let f : T (arrayFits a b) = and-left (arrayFits a b) (capsAdmitted O D E) t in
       let c : T (capsAdmitted O D E) = and-right (arrayFits a b) (capsAdmitted O D E) t in
-      let d : T (inRange O (2 * O) D && inRange 0 16 E) = and-right (inRange 1 8 O) (inRange O (2 * O) D && inRange 0 16 E) c in
-      let o : O ≤ 8 = top 1 8 O (and-left (inRange 1 8 O) (inRange O (2 * O) D && inRange 0 16 E) c) in (
+      let (o, d, x) = caps-small O D E c in (
         omega (arith, top 2 40 a (and-left (inRange 2 40 a) (inRange 2 40 b) f)),
         omega (arith, top 2 40 b (and-right (inRange 2 40 a) (inRange 2 40 b) f)),
         omega arith,
-        omega (arith, top O (2 * O) D (and-left (inRange O (2 * O) D) (inRange 0 16 E) d)),
-        omega (arith, top 0 16 E (and-right (inRange O (2 * O) D) (inRange 0 16 E) d)),
+        omega arith,
+        omega arith,
       )
 
   -- ---- a line that stands, or none

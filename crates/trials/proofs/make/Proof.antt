@@ -7,7 +7,8 @@ use borrow.Author.Needs.{needs}
 use lib.Dec.{leb, leb→le}
 use Rattle.sums.specs.Tests.{and-left}
 use Rattle.model.specs.Trial.{trialOf}
-use Rattle.trials.specs.Tried.{trial-made, array-range, caps-bytes}
+use Rattle.model.proofs.Admitted.{caps-small}
+use Rattle.trials.specs.Tried.{trial-made, array-range}
 use Rattle.trials.proofs.make.Statement.{statement}
 use Rattle.trials.proofs.make.Tie as tie
 
@@ -31,8 +32,8 @@ write-fresh-requires : tie.Need-write-fresh-requires
 write-fresh-requires c κs =
     let s = c .before .before in
     let (a, b, x, y) = array-range (s .args .array .rows) (s .args .array .columns) (s .pre .1 .0 .0) in
-    let (o, d, e) = caps-bytes (s .args .capacities .orthogonal) (s .args .capacities .diagonal) (s .args .capacities .extra) (s .pre .1 .0 .1) in
-    (s .pre .0, (omega arith, omega arith, o, d, e))
+    let (o, d, e) = caps-small (s .args .capacities .orthogonal) (s .args .capacities .diagonal) (s .args .capacities .extra) (s .pre .1 .0 .1) in
+    (s .pre .0, (omega arith, omega arith, omega arith, omega arith, omega arith))
 
 fill-requires : tie.Need-fill-requires
 fill-requires c κs =

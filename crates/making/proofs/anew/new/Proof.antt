@@ -4,7 +4,8 @@ use denote.Ref.{now}
 use borrow.Author.Needs.{needs}
 use borrow.Author.Tests.{not-false}
 use Rattle.sums.specs.Tests.{so}
-use Rattle.making.specs.Anew.{new-brief, new-array, new-caps, new-done, array-bytes, caps-bytes}
+use Rattle.model.proofs.Admitted.{caps-small}
+use Rattle.making.specs.Anew.{new-brief, new-array, new-caps, new-done, array-bytes}
 use Rattle.making.proofs.anew.new.Statement.{statement}
 use Rattle.making.proofs.anew.new.Tie as tie
 
@@ -40,8 +41,8 @@ write-fresh-requires c κs =
     let c5 = c3 .before .before in
     let a = c5 .before .before .args in
     let (x, y) = array-bytes (a .rows) (a .columns) (so (sym (c3 .before .fits2 .ensures) ∙ not-false _ (c3 .if2 .left))) in
-    let (u, v, w) = caps-bytes (a .o) (a .d) (a .e) (so (sym (c1 .before .admitted .ensures) ∙ not-false _ (c1 .if3 .left))) in
-    (c5 .if1 .left, (x, y, u, v, w))
+    let (u, v, w) = caps-small (a .o) (a .d) (a .e) (so (sym (c1 .before .admitted .ensures) ∙ not-false _ (c1 .if3 .left))) in
+    (c5 .if1 .left, (x, y, omega arith, omega arith, omega arith))
 
 same-length : tie.Need-same-length
 same-length c = search needs
