@@ -10,13 +10,14 @@ use Prim.Native.Nat.{ℕ, _≤_}
 use native.Mathlib.Omega.{arith}
 use lib.Dec.{T, eqb, eqb→eq, eqb-refl}
 use Rattle.sums.specs.Counting.{total}
-use Rattle.sums.specs.Tests.{so, and-left, and-right, and-both, and-not, every, every-at}
-use Rattle.model.specs.Job.{Job, isPin, isTile, isOpen, isChosen, marked, closed, diagonalBy, centreLimit}
-use Rattle.model.specs.Links.{Compass, north, east, south, west, PlaceKind, pin, missing, centre, outside, nowhere, side, Place, at, theOutside, isPlace, pinAt, LinkKind, northSide, westSide, corner, spoke, leg, direct, Link, limitOf, limit, passOf, pass, Step, turn, around, placeCode}
+use Rattle.sums.specs.Tests.{so, and-left, and-right, and-both, and-not, every, every-at, those-has}
+use Rattle.model.specs.Job.{Job, isPin, isTile, isOpen, isChosen, marked, closed, diagonalBy, centreLimit, withExtra}
+use Rattle.model.specs.Links.{Compass, north, east, south, west, PlaceKind, pin, missing, centre, outside, nowhere, side, Place, at, theOutside, isPlace, pinAt, LinkKind, northSide, westSide, corner, spoke, leg, direct, Link, limitOf, limit, passOf, pass, Step, turn, around, placeCode, holds, isMissingKind, places}
 use Rattle.model.specs.Loads.{arrivals, Feasible, Sound}
 use Rattle.model.specs.Wires.{isWired}
-use Rattle.model.specs.Left.{leftLoads, meets, avoids, tilePlaces, markLeft, closeLeft, centreLeft}
+use Rattle.model.specs.Left.{leftLoads, meets, avoids, tilePlaces, markLeft, closeLeft, centreLeft, missingPlaces, extraLeft}
 use Rattle.model.proofs.Own.{diagonal-other}
+use Rattle.model.proofs.Listed.{place-listed}
 use Rattle.wire.specs.Around.{step-lands}
 use Rattle.wire.specs.Next.{hop-may}
 use Rattle.wire.specs.Threads.{wired-chosen}
@@ -61,6 +62,16 @@ diagonal-pass J r c d centre i j = by (eqb i r && eqb j c) refl
     by false e =
         inl (ap (λ (m : ℕ). some (centreLimit (J .O) m)) (diagonal-other J r c d i j (λ x y.
         subst T e (and-both (eqb i r) (eqb j c) (subst (λ (n : ℕ). T (eqb i n)) x (eqb-refl i)) (subst (λ (n : ℕ). T (eqb j n)) y (eqb-refl j))))))
+
+-- a lower E leaves the limits of links
+extra-limit : (J : Job) (e : ℕ) (k : LinkKind) (r c : ℕ) → limitOf (withExtra J e) k r c ≡ limitOf J k r c
+unfolding limitOf
+extra-limit J e northSide r c = refl
+extra-limit J e westSide r c = refl
+extra-limit J e direct r c = refl
+extra-limit J e (corner d) r c = refl
+extra-limit J e (spoke d) r c = refl
+extra-limit J e (leg d) r c = refl
 
 module _ (J : Job) (f : Step → ℕ) (S : Sound J f) where
   -- the wires that avoid places do not meet them
@@ -137,6 +148,27 @@ module _ (J : Job) (f : Step → ℕ) (S : Sound J f) where
   diagonal-edit r c d =
       places-keep (at centre r c ∷ []) (diagonalBy J r c d) (record { rows = refl; columns = refl; marks = λ i j. refl; states = λ i j. refl })
       (λ l. diagonal-limit J r c d (l .kind) (l .row) (l .column)) (λ x p. diagonal-pass J r c d (x .kind) (x .row) (x .column))
+
+  -- ---- K9: a lower E
+
+  -- "Lowering E .. takes out every wire that passes a missing pin."
+  pub extra-edit : (e : ℕ) → Keeps J (withExtra J e) f (extraLeft J f) (avoids J f (missingPlaces J))
+  unfolding extraLeft missingPlaces
+  extra-edit e = places-keep (missingPlaces J) (withExtra J e) same (λ l. extra-limit J e (l .kind) (l .row) (l .column)) passes
+    where
+      same : SamePlaces J (withExtra J e)
+      same = record { rows = refl; columns = refl; marks = λ r c. refl; states = λ r c. refl }
+
+      passes : (x : Place) → T (isPlace J x) → (pass (withExtra J e) x ≡ pass J x) ⊎ List·Memᴰ x (missingPlaces J)
+      passes x t = by (x .kind) (x .row) (x .column) t
+        where
+          by : (k : PlaceKind) (r c : ℕ) → T (holds J k r c) → (passOf (withExtra J e) k r c ≡ passOf J k r c) ⊎ List·Memᴰ (at k r c) (missingPlaces J)
+          by missing r c u = inr (those-has isMissingKind (places J) tt (place-listed J (at missing r c) u))
+          by pin r c u = inl refl
+          by centre r c u = inl refl
+          by outside r c u = inl refl
+          by nowhere r c u = inl refl
+          by (side d) r c u = inl refl
 
   -- ---- edits that take out none
 

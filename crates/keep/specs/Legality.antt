@@ -8,16 +8,17 @@ use native.Mathlib.Omega.{arith}
 use lib.Dec.{T, leb}
 use Rattle.sums.specs.Sums.{when-none}
 use Rattle.sums.specs.Tests.{and-not, and-both}
-use Rattle.model.specs.Job.{Job, Side, sideOf, Proper, inRange, isPin, isTile, marked, closed, laidBy, diagonalBy}
+use Rattle.model.specs.Job.{Job, Side, sideOf, Proper, inRange, isPin, isTile, marked, closed, laidBy, diagonalBy, withExtra}
 use Rattle.model.specs.Links.{centre, at, Link, Step, turn}
 use Rattle.model.specs.Record.{loadPlane, cell, jobOf, forthPart, backPart, load, Legal, recordOf}
-use Rattle.model.specs.Left.{leftLoads, avoids, tilePlaces, markLeft, closeLeft, laidLeft, centreLeft}
+use Rattle.model.specs.Left.{leftLoads, avoids, tilePlaces, markLeft, closeLeft, laidLeft, centreLeft, missingPlaces, extraLeft}
 use Rattle.model.proofs.RecordOf.{inCells, Storable, load-back, record-legal}
+use Rattle.model.proofs.Admitted.{extra-proper}
 use Rattle.model.proofs.TextProper.{marked-proper, closed-proper}
 use Rattle.model.proofs.Own.{diagonal-proper}
 use Rattle.model.proofs.Sides.{laid-proper}
 use Rattle.keep.specs.Staying.{left-part}
-use Rattle.keep.specs.Edited.{mark-edit, close-edit, diagonal-edit}
+use Rattle.keep.specs.Edited.{mark-edit, close-edit, diagonal-edit, extra-edit}
 use Rattle.keep.specs.Laid.{laidStays, laid-edit}
 
 less-storable : (f g : Step → ℕ) → ((s : Step) → g s ≤ f s) → Storable f → Storable g
@@ -79,6 +80,17 @@ module _ (was : List ℕ) (g : Legal was) where
   pub laid-storable : (s : Side) (n : ℕ) → Storable (laidLeft J f s n)
   unfolding laidLeft
   laid-storable s n = left-storable (laidStays J f (g .sound) s n)
+
+  pub extra-storable : Storable (extraLeft J f)
+  unfolding extraLeft
+  extra-storable = left-storable (avoids J f (missingPlaces J))
+
+  pub extra-legal : Proper J → (e : ℕ) → T (leb e (J .E)) → Legal (recordOf (withExtra J e) (extraLeft J f))
+  extra-legal proper e t = record-legal (withExtra J e) (extraLeft J f) extra-storable (extra-proper J e proper t) (extra-edit J f (g .sound) e .sound)
+
+  -- the loads that it gives back
+  pub extra-back : (e : ℕ) (s : Step) → load (recordOf (withExtra J e) (extraLeft J f)) s ≡ extraLeft J f s
+  extra-back e = load-back (withExtra J e) (extraLeft J f) extra-storable
 
   module _ (proper : Proper J) (r c : ℕ) where
     pub mark-legal : (m : ℕ) → T (isPin J r c) → T (leb m 2) → Legal (recordOf (marked J r c m) (markLeft J f r c))

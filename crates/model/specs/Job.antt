@@ -67,6 +67,10 @@ withStates J states = record { rows = J .rows; columns = J .columns; O = J .O; D
 abbrev pub withAdded : Job → Added → Job
 withAdded J A = record { rows = J .rows; columns = J .columns; O = J .O; D = J .D; E = J .E; mark = J .mark; state = J .state; added = A }
 
+-- K9: the job with another E
+abbrev pub withExtra : Job → ℕ → Job
+withExtra J e = record { rows = J .rows; columns = J .columns; O = J .O; D = J .D; E = e; mark = J .mark; state = J .state; added = J .added }
+
 -- a table with one entry changed
 abbrev pub put : (ℕ → ℕ → ℕ) → ℕ → ℕ → ℕ → ℕ → ℕ → ℕ
 put f r c v i j = elim (eqb i r && eqb j c) [ true ↦ v | false ↦ f i j ]

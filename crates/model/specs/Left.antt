@@ -1,4 +1,4 @@
--- Document 02, K5: which wires an edit takes out, and the loads of those that stay. f gives each step how many wires go along its link that way. Assumes
+-- Document 02, K5 and K9: which wires an edit takes out, and the loads of those that stay. f gives each step how many wires go along its link that way. Assumes
 -- nothing.
 use mathlib.Core.Bool.{Bool, false, not, _&&_, _||_}
 use mathlib.Core.List.{List, [], _∷_}
@@ -6,15 +6,19 @@ use mathlib.Core.Option.{Option, none, some}
 use Prim.Native.Nat.{ℕ, suc, _-_}
 use lib.Dec.{leb, ltb}
 use lib.ListN.{length}
-use Rattle.sums.specs.Counting.{when, sum, total}
+use Rattle.sums.specs.Counting.{when, sum, those, total}
 use Rattle.sums.specs.Tests.{every}
 use Rattle.model.specs.Job.{Job, Side, ofNorth, ofWest}
-use Rattle.model.specs.Links.{north, east, south, west, pin, centre, side, Place, at, isPinKind, places, pinAt, samePlace, northSide, westSide, Link, link, sameLink, Step, head, sameStep}
+use Rattle.model.specs.Links.{north, east, south, west, pin, centre, side, Place, at, isPinKind, isMissingKind, places, pinAt, samePlace, northSide, westSide, Link, link, sameLink, Step, head, sameStep}
 use Rattle.model.specs.Wires.{Hop, hopAt, isWired}
 
 -- "An open tile has five places: n, e, s, w and the centre c."
 abbrev pub tilePlaces : ℕ → ℕ → List Place
 tilePlaces r c = at (side north) r c ∷ at (side east) r c ∷ at (side south) r c ∷ at (side west) r c ∷ at centre r c ∷ []
+
+-- "A missing pin is a place."
+unfoldable pub missingPlaces : Job → List Place
+missingPlaces J = those isMissingKind (places J)
 
 abbrev pub linkOf : Side → Link
 linkOf (ofNorth r c) = link northSide r c
@@ -75,3 +79,7 @@ module _ (J : Job) (f : Step → ℕ) where
   -- "Lowering a side's limit takes out the highest lanes, just enough": with the count n the limit is O less n, and lanes count from 0.
   unfoldable pub laidLeft : Side → ℕ → Step → ℕ
   laidLeft s n = leftLoads (λ r c. not (hasLane (linkOf s) (J .O - n) r c))
+
+  -- K9: "It takes out every wire that passes a missing pin."
+  unfoldable pub extraLeft : Step → ℕ
+  extraLeft = leftLoads (avoids (missingPlaces J))

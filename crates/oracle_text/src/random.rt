@@ -84,13 +84,14 @@ fn span_of(most: usize) -> usize
 // The five numbers at random, the rows and columns at most `most`, every pin idle and every tile open.
 fn draw_array(a: u32, b: u32, c: u32, d: u32, e: u32, most: usize) -> Job {
     let span = span_of(most);
-    let o = 1 + below(c, 8);
+    let side = 1 + below(c, 8);
+    let diagonal = side + below(d, side + 1);
     fresh(
         2 + below(a, span),
         2 + below(b, span),
-        o,
-        o + below(d, o + 1),
-        below(e, 17),
+        side,
+        diagonal,
+        below(e, diagonal + 1),
     )
 }
 

@@ -62,7 +62,7 @@ fn array_line(text: &[u8], job: &mut Job, s: Reading) -> Reading {
     let o = value(f, 2);
     let d = value(f, 3);
     let sized = in_range(value(f, 0), 2, 40) && in_range(value(f, 1), 2, 40);
-    if f.fits && sized && in_range(o, 1, 8) && in_range(d, o, 2 * o) && value(f, 4) <= 16 {
+    if f.fits && sized && in_range(o, 1, 8) && in_range(d, o, 2 * o) && value(f, 4) <= d {
         *job = fresh(value(f, 0), value(f, 1), o, d, value(f, 4));
         return Reading {
             at: f.at,

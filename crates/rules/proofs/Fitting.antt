@@ -5,9 +5,9 @@ use mathlib.Core.Logic.{_⊎_, inl, inr}
 use Prim.Native.Nat.{ℕ, _+_, _*_, _≤_, _<_}
 use native.Mathlib.Nat.{mul-le-mul}
 use native.Mathlib.Omega.{arith}
-use lib.Dec.{T, leb, le→leb}
-use Rattle.sums.specs.Tests.{below-or, and-both}
-use Rattle.model.specs.Job.{inRange, capsFit}
+use lib.Dec.{T, leb, leb→le, le→leb}
+use Rattle.sums.specs.Tests.{below-or, and-right, and-both}
+use Rattle.model.specs.Job.{inRange, capsFit, capsAdmitted}
 use Rattle.rules.specs.declared.Figures.{Figures}
 use Rattle.rules.specs.declared.Answer.the-variants.{Gives}
 use Rattle.rules.specs.Rules.{across, Passes, Given, Answered, given}
@@ -42,11 +42,15 @@ module _ (p d w s : ℕ) (f : Figures) where
       let h : O ≤ k = orthogonal-most l g in
       (h, omega (arith, g .diagonal), omega (arith, g .diagonal))
 
-  pub capacities-fit : Answered p d w s (Gives f) → (E : ℕ) → E ≤ 16 → T (capsFit O D E)
+  -- a new job may have them, with every E up to D
+  pub capacities-fit : Answered p d w s (Gives f) → (E : ℕ) → E ≤ D → T (capsAdmitted O D E)
   capacities-fit a E e =
       let (h, l, m) = capacities-order a in
-      and-both (inRange 1 8 O) (inRange O (2 * O) D && inRange 0 16 E) (in-range a)
-      (and-both (inRange O (2 * O) D) (inRange 0 16 E) (range-both O (2 * O) D l m) (range-both 0 16 E (omega arith) e))
+      let o : O ≤ 8 = leb→le O 8 (and-right (leb 1 O) (leb O 8) (in-range a)) in
+      and-both (capsFit O D E) (leb E D)
+      (and-both (inRange 1 8 O) (inRange O (2 * O) D && inRange 0 16 E) (in-range a)
+      (and-both (inRange O (2 * O) D) (inRange 0 16 E) (range-both O (2 * O) D l m) (range-both 0 16 E (omega arith) (omega arith))))
+      (le→leb E D e)
     where
       in-range : Answered p d w s (Gives f) → T (inRange 1 8 O)
       in-range (given _ t l r g) = r

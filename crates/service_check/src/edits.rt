@@ -84,7 +84,7 @@ pub fn call_new(tally: &mut Tally, rec: &mut Record, job: &mut Job, seed: u32) -
     let columns = pick(c, 2, 7);
     let side = pick(d, 1, 4);
     let diagonal = pick(e, side, 4);
-    let extra = pick(f, 0, 18);
+    let extra = pick(f, 0, 8);
     let before = *rec;
     let answer = new_on(rec, n, rows, columns, side, diagonal, extra);
     let expected = expect_new(n, rows, columns, side, diagonal, extra);

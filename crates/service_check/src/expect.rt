@@ -30,7 +30,7 @@ fn in_range(x: usize, least: usize, most: usize) -> bool {
 fn caps_fit(o: usize, d: usize, e: usize) -> bool {
     if o >= 1 {
         if o <= 8 {
-            return in_range(d, o, 2 * o) && e <= 16;
+            return in_range(d, o, 2 * o) && e <= d;
         }
     }
     false

@@ -83,7 +83,7 @@ fn draw(seed: u32) -> Asked {
         columns: pick(b, 2, 39),
         o,
         d: pick(d, o, 2),
-        e: pick(xorshift(d), 0, 17),
+        e: pick(xorshift(d), 0, 4),
         seed: pick_seed(xorshift(g)),
         chosen,
         missing: pick(f, 0, 40),
@@ -101,7 +101,7 @@ fn twice(o: usize) -> usize {
 }
 
 fn caps_fit(q: Asked) -> bool {
-    within(q.o, 1, 8) && within(q.d, q.o, twice(q.o)) && q.e <= 16
+    within(q.o, 1, 8) && within(q.d, q.o, twice(q.o)) && q.e <= q.d
 }
 
 fn percents_fit(q: Asked) -> bool {
