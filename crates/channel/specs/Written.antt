@@ -2,7 +2,7 @@
 -- a cell of a job's record gives the record of the job with that entry changed, and a record of no loads differs from a legal one in the planes of loads only.
 -- Assumes nothing.
 use mathlib.Core.Path.{_≡_, refl, sym, ap, _∙_}
-use mathlib.Core.Logic.{_⊎_, inl, inr}
+use mathlib.Core.Logic.{_≢_, _⊎_, inl, inr}
 use mathlib.Core.Bool.{Bool, true, false, not}
 use mathlib.Core.List.{List, [], _∷_, _++_}
 use mathlib.Core.Option.{Option, none, some}
@@ -13,7 +13,7 @@ use lib.ListN.{length, getD, getElem?, take, drop, set, replicate, length-append
 use borrow.Rule.Slice.PartMut.{midOf, putMid, mid-len, post-is}
 use lib.Seq.{ext-getD, drop-at, getD-append-add, getD-drop, getD-take, getD-set-same, getD-set-other, length-take-le}
 use Rattle.sums.specs.Tests.{Same, same, other, same?, below-or}
-use Rattle.model.specs.Job.{Added, nothingAdded, Job, fresh, put, withAdded, marked, closed, Side, ofNorth, ofWest, laidBy, withOwnD}
+use Rattle.model.specs.Job.{Added, nothingAdded, Job, fresh, put, withAdded, marked, closed, Side, ofNorth, ofWest, laidBy, withOwnD, withExtra}
 use Rattle.model.specs.Links.{LinkKind, Step}
 use Rattle.model.specs.Record.{recordSize, markPlane, statePlane, ownDPlane, offset, jobOf, load, Legal, kinds, addedByte, kindByte, planeByte, headByte, recordOf, noLoads}
 use Rattle.model.specs.Record.{unwiredRecord, over}
@@ -149,6 +149,32 @@ closed-with K f rec r c v long lr lc =
     by zero i j n = refl
     by (suc zero) i j n = sym (put-else (K .state) r c v i j (n refl))
     by (suc (suc q)) i j n = refl
+
+pub extra-with : (K : Job) (f : Step → ℕ) (rec : List ℕ) (e : ℕ) → recordSize ≤ length rec
+    → set (over (recordOf K f) rec) 4 e ≡ over (recordOf (withExtra K e) f) rec
+extra-with K f rec e long =
+    is-over (withExtra K e) f rec long (set old 4 e) (length-set old 4 e ∙ length-over K f rec long) heads
+    (λ p r c a b d. getD-set-other old 4 (offset p r c) e 0 (omega arith) ∙ (over-cell K f rec long p r c a b d ∙ planes p r c))
+    (λ i l. getD-set-other old 4 i e 0 (omega arith) ∙ over-rest K f rec long i l)
+  where
+    old : List ℕ
+    old = over (recordOf K f) rec
+
+    kept : (i : ℕ) → i < 768 → i ≢ 4 → getD (set old 4 e) i 0 ≡ headByte K i
+    kept i l n = getD-set-other old 4 i e 0 n ∙ over-head K f rec long i l
+
+    heads : (i : ℕ) → i < 768 → getD (set old 4 e) i 0 ≡ headByte (withExtra K e) i
+    heads zero l = kept 0 l (omega arith)
+    heads (suc zero) l = kept 1 l (omega arith)
+    heads (suc (suc zero)) l = kept 2 l (omega arith)
+    heads (suc (suc (suc zero))) l = kept 3 l (omega arith)
+    heads (suc (suc (suc (suc zero)))) l = getD-set-same old 4 e 0 (omega (arith, length-over K f rec long))
+    heads (suc (suc (suc (suc (suc i))))) l = kept (suc (suc (suc (suc (suc i))))) l (omega arith)
+
+    planes : (p r c : ℕ) → planeByte K f p r c ≡ planeByte (withExtra K e) f p r c
+    planes zero r c = refl
+    planes (suc zero) r c = refl
+    planes (suc (suc p)) r c = refl
 
 -- without wires
 pub marked-over : (K : Job) (rec : List ℕ) (r c m : ℕ) → recordSize ≤ length rec → r < 40 → c < 40

@@ -45,6 +45,7 @@ pub use moves::wire_starts;
 pub use table::head_of;
 pub use table::reverse;
 pub use write::clear;
+pub use write::set_extra;
 pub use write::set_laid;
 pub use write::set_mark;
 pub use write::set_own;

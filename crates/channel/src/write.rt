@@ -67,6 +67,15 @@ pub fn set_laid(rec: &mut [u8], r: usize, c: usize, side: usize, n: usize)
     rec[side_at(r, c, side)] = n as u8;
 }
 
+// The extra of a missing pin.
+pub fn set_extra(rec: &mut [u8], e: usize)
+    requires { ⌜ recordSize ≤ length (now rec) ⌝ }
+    requires { ⌜ e < 256 ⌝ }
+    ensures { λ _. ⌜ now (rec .exit) ≡ set (now (rec .entry)) 4 e ⌝ }
+{
+    rec[4] = e as u8;
+}
+
 // The 15 planes of loads become 0: no wires.
 pub fn unwire(rec: &mut [u8])
     requires { ⌜ recordSize ≤ length (now rec) ⌝ }

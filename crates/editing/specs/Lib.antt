@@ -6,3 +6,5 @@ pub mod Laying
 pub mod Copied
 -- what giving a tile its D does
 pub mod Diagonals
+-- what lowering E does
+pub mod Lowering

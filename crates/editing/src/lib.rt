@@ -1,4 +1,4 @@
-// Mark, Close, the counts of wires already laid and the D of a tile. Each takes out only the wires that it has to.
+// Mark, Close, the counts of wires already laid, the D of a tile, and a lower E. Each takes out only the wires that it has to.
 use answers::Answer;
 use audit::sound;
 use channel::copy::copy;
@@ -12,6 +12,7 @@ use channel::state_of;
 use model::in_range;
 use takeout::close_keeping;
 use takeout::diagonal_keeping;
+use takeout::extra_keeping;
 use takeout::lay_keeping;
 use takeout::mark_keeping;
 ghost use mathlib.Core.Path.{_≡_};
@@ -20,11 +21,12 @@ ghost use Prim.Native.Nat.{_≤_, _<_};
 ghost use lib.ListN.{length};
 ghost use Rattle.model.specs.Job.{ownFor};
 ghost use Rattle.model.specs.Record.{jobOf, Legal};
-ghost use Rattle.model.specs.Calls.{mark as Mark, close as Close, lay as Lay, diagonal as Diagonal, after, laidIn, diagonalIn, Did};
+ghost use Rattle.model.specs.Calls.{mark as Mark, close as Close, lay as Lay, diagonal as Diagonal, after, laidIn, diagonalIn, Did, extra as Extra, extraIn};
 ghost use Rattle.answers.specs.Answers.{asAnswer};
 ghost use Rattle.editing.specs.Edits.{isThere, most, valueIn, setIn, editedBy};
 ghost use Rattle.editing.specs.Laying.{countIn};
 ghost use Rattle.editing.specs.Diagonals.{ownIn};
+ghost use Rattle.editing.specs.Lowering.{loweredTo};
 
 // The mark of a pin, or the state of a tile. The wires that it takes out are followed in a copy of the record.
 fn set(rec: &mut [u8], tiles: bool, row: usize, column: usize, value: usize)
@@ -179,4 +181,40 @@ pub fn diagonal(rec: &mut [u8], row: usize, column: usize, d: usize) -> Answer
         return Answer::Refused(1);
     }
     diagonal_on(rec, row, column, d)
+}
+
+// A lower E, as `set` does.
+fn set_lower(rec: &mut [u8], e: usize)
+    requires { ⌜ Legal (now rec) × (e ≤ jobOf (now rec) .E) ⌝ }
+    ensures { λ _. ⌜ now (rec .exit) ≡ loweredTo e (now (rec .entry)) ⌝ }
+{
+    let mut was = [0u8; 32768];
+    copy(rec, &mut was);
+    extra_keeping(&was, rec, e);
+}
+
+// A lower E, in a legal record.
+fn lower(rec: &mut [u8], e: usize) -> Answer
+    requires { ⌜ Legal (now rec) ⌝ }
+    ensures { λ a. ⌜ after (asAnswer a) (now (rec .exit)) [] [] ≡ extraIn e (now (rec .entry)) ⌝ }
+{
+    let old = channel::extra(rec);
+    if old < e {
+        return Answer::Refused(3);
+    }
+    if old == e {
+        return Answer::Done;
+    }
+    set_lower(rec, e);
+    Answer::Done
+}
+
+// A lower E.
+pub fn extra(rec: &mut [u8], e: usize) -> Answer
+    ensures { λ a. ⌜ Did (Extra e) (now (rec .entry)) (after (asAnswer a) (now (rec .exit)) [] []) ⌝ }
+{
+    if !sound(rec) {
+        return Answer::Refused(1);
+    }
+    lower(rec, e)
 }

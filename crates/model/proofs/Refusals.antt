@@ -11,23 +11,30 @@ use lib.Dec.{T, eqb, leb, ltb, eqb→eq, eqb-refl, lt→ltb, ltb→lt}
 use lib.ListN.{length, getD, replicate, drop, length-replicate, getD-replicate, List·getD-append}
 use lib.Seq.{getD-append-add, getD-drop}
 use Rattle.sums.specs.Tests.{and-left, and-right, and-both, every, every-at}
-use Rattle.model.specs.Job.{Job, arrayFits, capsAdmitted, fresh, marked, closed, Side, sideOf, laidOn, laidBy, diagonalBy, tileD, inRange, isPin, isTile}
+use Rattle.model.specs.Job.{Job, arrayFits, capsAdmitted, fresh, marked, closed, Side, sideOf, laidOn, laidBy, diagonalBy, tileD, inRange, isPin, isTile, withExtra}
 use Rattle.model.specs.Links.{Step}
 use Rattle.model.specs.Record.{recordSize, scratchSize, jobOf, load, unwiredRecord, over}
 use Rattle.model.specs.Left.{markLeft, closeLeft, laidLeft, centreLeft}
-use Rattle.model.specs.Calls.{Answer, refused, done, refusal, After, after, cleared, Test, test, asked, newly, edited, markedBy, closedBy, laidIn, diagonalIn, triedOn, Lacks}
+use Rattle.model.specs.Calls.{Answer, refused, done, refusal, After, after, cleared, Test, test, asked, newly, edited, markedBy, closedBy, laidIn, diagonalIn, triedOn, Lacks, extraIn}
 use Rattle.model.specs.Trial.{Trial, seedFits, percentsFit, trialJob}
-use Rattle.model.specs.Examples.{Opening, openings, Edit, markings, closings, Laying, layings, diagonals, Trying, tryings}
+use Rattle.model.specs.Examples.{Opening, openings, Edit, markings, closings, Laying, layings, diagonals, Trying, tryings, Lowering, lowerings}
 use Rattle.model.proofs.Asked.{hold-both, asked-holds, asked-all}
 
--- the number of the first of two tests that fails
+-- the number of a test that fails
+abbrev firstOne : Bool → ℕ → Option ℕ
+firstOne b k = elim b [ true ↦ none | false ↦ some k ]
+
+one-test : (b : Bool) (k : ℕ) (rec : List ℕ) (x : After) → refusal (x .answer) ≡ none → refusal (asked (test b k ∷ []) rec [] x .answer) ≡ firstOne b k
+one-test true k rec x e = e
+one-test false k rec x e = refl
+
+-- of the first of two tests that fails
 abbrev firstOf : Bool → ℕ → Bool → ℕ → Option ℕ
-firstOf a j b k = elim a [ true ↦ elim b [ true ↦ none | false ↦ some k ] | false ↦ some j ]
+firstOf a j b k = elim a [ true ↦ firstOne b k | false ↦ some j ]
 
 two-tests : (a : Bool) (j : ℕ) (b : Bool) (k : ℕ) (rec : List ℕ) (x : After) → refusal (x .answer) ≡ none
     → refusal (asked (test a j ∷ test b k ∷ []) rec [] x .answer) ≡ firstOf a j b k
-two-tests true j true k rec x e = e
-two-tests true j false k rec x e = refl
+two-tests true j b k rec x e = one-test b k rec x e
 two-tests false j b k rec x e = refl
 
 -- the numbers of a row, as a test
@@ -125,6 +132,18 @@ diagonals-hold x m rec e =
     (edited-accepted (eqb (tileD J (x .row) (x .column)) (x .value)) (diagonalBy J (x .row) (x .column) (x .value)) (centreLeft J (load rec) (x .row) (x .column)) rec)
     ∙ (ap (λ (J : Job). firstOf (isTile J (x .row) (x .column)) 4 (inRange (J .O) (2 * J .O) (x .value)) 3) e
     ∙ same-number _ _ (every-at diagonals (λ y. sameNumber (firstOf (isTile wider (y .row) (y .column)) 4 (inRange 2 4 (y .value)) 3) (y .number)) tt m))
+
+-- ---- a lower E, on a record of 2 by 2 pins with an E above D
+
+abbrev old : Job
+old = fresh 2 2 1 1 2
+
+pub lowerings-hold : (x : Lowering) → List·Memᴰ x lowerings → (rec : List ℕ) → jobOf rec ≡ old → refusal (extraIn (x .to) rec .answer) ≡ x .number
+unfolding every
+lowerings-hold x m rec e =
+    one-test (leb (x .to) (jobOf rec .E)) 3 rec _ (edited-accepted (eqb (jobOf rec .E) (x .to)) (withExtra (jobOf rec) (x .to)) _ rec)
+    ∙ (ap (λ (J : Job). firstOne (leb (x .to) (J .E)) 3) e
+    ∙ same-number _ _ (every-at lowerings (λ y. sameNumber (firstOne (leb (y .to) 2) 3) (y .number)) tt m))
 
 -- ---- a trial
 

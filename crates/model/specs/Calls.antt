@@ -8,13 +8,13 @@ use Prim.Native.Nat.{ℕ, suc, _-_, _*_, _≤_, _<_}
 use lib.Dec.{T, eqb, leb}
 use lib.ListN.{length, replicate}
 use Rattle.sums.specs.Counting.{when}
-use Rattle.model.specs.Job.{Job, arrayFits, capsAdmitted, fresh, marked, closed, sideOf, laidOn, laidBy, diagonalBy, tileD, inRange, isPin, isTile, isChosen}
+use Rattle.model.specs.Job.{Job, arrayFits, capsAdmitted, fresh, marked, closed, sideOf, laidOn, laidBy, diagonalBy, tileD, inRange, isPin, isTile, isChosen, withExtra}
 use Rattle.model.specs.Links.{Step}
 use Rattle.model.specs.Route.{Greatest, chosenCount}
 use Rattle.model.specs.Near.{Smallest}
 use Rattle.model.specs.Record.{recordSize, scratchSize, jobOf, load, Legal, bytes, recordOf, unwiredRecord, over}
 use Rattle.model.specs.Wires.{Part, partAt, isWired, wireCount}
-use Rattle.model.specs.Left.{markLeft, closeLeft, laidLeft, centreLeft}
+use Rattle.model.specs.Left.{markLeft, closeLeft, laidLeft, centreLeft, extraLeft}
 use Rattle.model.specs.Text.{Verdict, reads, wrongAt, Reading, textOf}
 use Rattle.model.specs.Listing.{wiresListing}
 use Rattle.model.specs.Trial.{Trial, seedFits, percentsFit, trialJob}
@@ -35,6 +35,7 @@ pub data Call : Type 0 where
   writeText : (output : List ℕ) → Call
   listing : (output : List ℕ) → Call
   trial : Trial → Call
+  extra : (e : ℕ) → Call
 
 pub data Answer : Type 0 where
   refused : ℕ → Answer
@@ -143,6 +144,12 @@ diagonalIn r c d rec =
     asked (test (isTile J r c) 4 ∷ test (inRange (J .O) (2 * J .O) d) 3 ∷ []) rec []
     (edited (eqb (tileD J r c) d) (diagonalBy J r c d) (centreLeft J (load rec) r c) rec)
 
+-- K9: "Lowering E is a new operation: it takes out every wire that passes a missing pin, the same E changes nothing, and a greater E is refused by 3 after 1."
+abbrev pub extraIn : ℕ → List ℕ → After
+extraIn e rec =
+    let J : Job = jobOf rec in
+    asked (test (leb e (J .E)) 3 ∷ []) rec [] (edited (eqb (J .E) e) (withExtra J e) (extraLeft J (load rec)) rec)
+
 -- "4 no such pin, or it is not chosen."
 abbrev pub listed : ℕ → ℕ → ℕ → List ℕ → After
 listed r c i rec = asked (test (isChosen (jobOf rec) r c) 4 ∷ []) rec [] (after (lists (partAt (jobOf rec) (load rec) r c i)) rec [] [])
@@ -239,3 +246,4 @@ Did (readText text) rec a = ReadIn text rec a
 Did (writeText output) rec a = On rec [] output a (a ≡ written output rec)
 Did (listing output) rec a = On rec [] output a (a ≡ listedOut output rec)
 Did (trial t) rec a = a ≡ triedOn t rec
+Did (extra e) rec a = On rec [] [] a (a ≡ extraIn e rec)

@@ -108,6 +108,17 @@ diagonals =
     edit 1 1 4 none ∷ edit 0 1 2 none ∷ edit 0 0 3 none ∷ edit 2 0 2 (some 4) ∷ edit 0 2 2 (some 4) ∷ edit 0 0 1 (some 3) ∷ edit 1 1 5 (some 3)
     ∷ edit 2 0 5 (some 4) ∷ []
 
+-- K9: lowering E of an idle job of 2 by 2 pins with D = 1 and E = 2, as it was given before the request
+pub record Lowering : Type 0 where
+  pub to : ℕ
+  pub number : Option ℕ
+
+abbrev pub lowering : ℕ → Option ℕ → Lowering
+lowering e n = record { to = e; number = n }
+
+abbrev pub lowerings : List Lowering
+lowerings = lowering 2 none ∷ lowering 1 none ∷ lowering 0 none ∷ lowering 3 (some 3) ∷ lowering 18446744073709551615 (some 3) ∷ []
+
 -- ---- pairing: which positions arrive, and the pairs in the order in which they are joined
 
 pub record Sequence : Type 0 where

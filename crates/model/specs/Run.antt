@@ -7,14 +7,14 @@ use mathlib.Core.Option.{none, some}
 use Prim.Native.Nat.{ℕ, suc, _+_, _-_, _^_, _≤_, _<_}
 use lib.Dec.{T}
 use lib.ListN.{length, getD}
-use Rattle.model.specs.Job.{Job, fresh, marked, closed, sideOf, laidBy, diagonalBy, isChosen, Proper}
+use Rattle.model.specs.Job.{Job, fresh, marked, closed, sideOf, laidBy, diagonalBy, isChosen, Proper, withExtra}
 use Rattle.model.specs.Route.{Route, Together, Family, Greatest, chosenCount}
 use Rattle.model.specs.Near.{Smallest}
 use Rattle.model.specs.Record.{recordSize, scratchSize, jobOf, load, unwiredRecord, over}
 use Rattle.model.specs.Wires.{partAt, Holds}
 use Rattle.model.specs.Text.{reads, Reading}
 use Rattle.model.specs.Trial.{Trial, trialJob}
-use Rattle.model.specs.Calls.{Call, new, mark, close, step, shortfall, part, readText, writeText, listing, Answer, added, allWired, short, lacks, lists, refusal, Accepted, After, Did, wiresIn, nearBytes, lay, diagonal, trial}
+use Rattle.model.specs.Calls.{Call, new, mark, close, step, shortfall, part, readText, writeText, listing, Answer, added, allWired, short, lacks, lists, refusal, Accepted, After, Did, wiresIn, nearBytes, lay, diagonal, trial, extra}
 
 -- ---- what can be lent
 
@@ -41,6 +41,7 @@ Lent (writeText output) = Buffer output
 Lent (listing output) = Buffer output
 Lent (trial t) =
     Word (t .rows) × Word (t .columns) × Word (t .O) × Word (t .D) × Word (t .E) × Word (t .seed) × Word (t .chosen) × Word (t .missing) × Word (t .closed)
+Lent (extra e) = Word e
 
 -- The operations as they are promised: every call on a buffer ends and leaves what its paragraph states.
 pub record Service : Type 0 where
@@ -64,6 +65,7 @@ module _ (S : Service) where
   Sets (writeText output) J K = K ≡ J
   Sets (listing output) J K = K ≡ J
   Sets (trial t) J K = K ≡ trialJob t
+  Sets (extra e) J K = K ≡ withExtra J e
 
   -- "A refused call changes nothing in the job."
   abbrev pub Becomes : Answer → Call → Job → Job → Type 0

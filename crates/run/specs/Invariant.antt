@@ -11,28 +11,28 @@ use borrow.Author.Tests.{le-leb}
 use lib.Dec.{T, eqb, leb, eqb→eq, leb→le, nleb→lt}
 use lib.ListN.{length}
 use Rattle.sums.specs.Tests.{and-left, and-right}
-use Rattle.model.specs.Job.{Job, arrayFits, capsAdmitted, fresh, put, withAdded, marked, closed, Side, ofNorth, ofWest, sideOf, laidOn, laidBy, ownFor, diagonalBy, tileD, inRange, isPin, isTile, isChosen, AddedFits, Proper}
+use Rattle.model.specs.Job.{Job, arrayFits, capsAdmitted, fresh, put, withAdded, marked, closed, Side, ofNorth, ofWest, sideOf, laidOn, laidBy, ownFor, diagonalBy, tileD, inRange, isPin, isTile, isChosen, AddedFits, Proper, withExtra}
 use Rattle.model.specs.Links.{Step}
 use Rattle.model.specs.Record.{recordSize, scratchSize, jobOf, load, Legal, recordOf, noLoads, unwiredRecord, over}
-use Rattle.model.specs.Left.{markLeft, closeLeft, laidLeft, centreLeft}
+use Rattle.model.specs.Left.{markLeft, closeLeft, laidLeft, centreLeft, extraLeft}
 use Rattle.model.specs.Wires.{partAt}
 use Rattle.model.specs.Text.{Verdict, reads, wrongAt, Reading, textOf}
 use Rattle.model.specs.Listing.{wiresListing}
 use Rattle.model.specs.Trial.{Trial, seedFits, percentsFit, trialJob}
-use Rattle.model.specs.Calls.{Call, new, mark, close, lay, diagonal, step, shortfall, part, readText, writeText, listing, trial}
+use Rattle.model.specs.Calls.{Call, new, mark, close, lay, diagonal, step, shortfall, part, readText, writeText, listing, trial, extra}
 use Rattle.model.specs.Calls.{Answer, refused, done, lists, wrote, refusal, Accepted, After, after}
-use Rattle.model.specs.Calls.{Test, test, asked, edited, newly, triedOn, markedBy, closedBy, laidIn, diagonalIn, listed, readIn, putOut, Stepped, adds, stays, lacking, Steps, Lacks, Did}
+use Rattle.model.specs.Calls.{Test, test, asked, edited, newly, triedOn, markedBy, closedBy, laidIn, diagonalIn, listed, readIn, putOut, Stepped, adds, stays, lacking, Steps, Lacks, Did, extraIn}
 use Rattle.model.specs.Run.{Buffer, Service, Sets}
 use Rattle.model.proofs.RecordOf.{length-record}
 use Rattle.model.proofs.Asked.{allHold, numbered, both-hold, asked-holds, asked-either}
-use Rattle.model.proofs.Admitted.{admitted-fit}
+use Rattle.model.proofs.Admitted.{admitted-fit, extra-proper}
 use Rattle.model.proofs.Unwired.{unwired-legal}
 use Rattle.model.proofs.Over.{legal-proper}
 use Rattle.model.proofs.Own.{own-kept, diagonal-proper}
 use Rattle.model.proofs.Sides.{laid-proper}
 use Rattle.model.proofs.TextProper.{fresh-proper, marked-proper, closed-proper, reading-proper}
 use Rattle.model.proofs.TrialProper.{trial-proper}
-use Rattle.keep.specs.Legality.{mark-legal, close-legal, laid-legal, diagonal-legal}
+use Rattle.keep.specs.Legality.{mark-legal, close-legal, laid-legal, diagonal-legal, extra-legal}
 use Rattle.run.specs.Buffers.{over-buffer}
 use Rattle.run.specs.OthersStay.{left-legal, left-job}
 
@@ -223,6 +223,15 @@ module _ (S : Service) (rec : List ℕ) (J : Job) (k : Kept rec J) where
       (λ t. diagonal-same I r c d (k .legal .values .added) (eqb→eq (tileD I r c) d t) ∙ k .job)
       (ap (λ (X : Job). diagonalBy X r c d) (k .job))
 
+  extra-leaves : (e : ℕ) → Leaves S (extra e) rec J (extraIn e rec)
+  extra-leaves e =
+      let I : Job = jobOf rec in
+      let b : Bool = leb e (I .E) in
+      edit-leaves (extra e) (test b 3 ∷ []) (eqb (I .E) e) (withExtra I e) (extraLeft I (load rec)) tt
+      (λ t. let u : T b = and-left b true t in (extra-proper I e proper u, extra-legal rec (k .legal) proper e u))
+      (λ t. ap (withExtra I) (sym (eqb→eq (I .E) e t)) ∙ k .job)
+      (ap (λ (X : Job). withExtra X e) (k .job))
+
   part-leaves : (r c i : ℕ) → Leaves S (part r c i) rec J (listed r c i rec)
   part-leaves r c i =
       asked-either rec [] (after (lists (partAt (jobOf rec) (load rec) r c i)) rec [] []) (Leaves S (part r c i) rec J) notOne
@@ -289,3 +298,4 @@ module _ (S : Service) (rec : List ℕ) (J : Job) (k : Kept rec J) where
   call-leaves (listing output) a d =
       subst (Leaves S (listing output) rec J) (sym (d .legal (k .legal))) (put-leaves (listing output) refl (wiresListing (jobOf rec) (load rec)) output)
   call-leaves (trial t) a d = subst (Leaves S (trial t) rec J) (sym d) (trial-leaves S rec J (k .buffer) (k .legal .long) t)
+  call-leaves (extra e) a d = subst (Leaves S (extra e) rec J) (sym (d .legal (k .legal))) (extra-leaves e)

@@ -9,11 +9,11 @@ use lib.Dec.{T, leb}
 use lib.ListN.{length, drop}
 use Rattle.sums.specs.Counting.{when}
 use Rattle.sums.specs.Totals.{total-le, total-cong}
-use Rattle.model.specs.Job.{Job, Proper, isPin, isTile, marked, closed, sideOf, laidBy, inRange, diagonalBy}
+use Rattle.model.specs.Job.{Job, Proper, isPin, isTile, marked, closed, sideOf, laidBy, inRange, diagonalBy, withExtra}
 use Rattle.model.specs.Links.{isPinKind, places, pinAt, Step, centre, at}
 use Rattle.model.specs.Record.{jobOf, load, Legal, recordOf, over}
 use Rattle.model.specs.Wires.{isWired, wireCount}
-use Rattle.model.specs.Left.{avoids, tilePlaces, markLeft, closeLeft, laidLeft, centreLeft}
+use Rattle.model.specs.Left.{avoids, tilePlaces, markLeft, closeLeft, laidLeft, centreLeft, missingPlaces, extraLeft}
 use Rattle.model.specs.Calls.{wiredIn, wiresIn}
 use Rattle.model.proofs.RecordOf.{Storable, length-record, job-back, load-back}
 use Rattle.model.proofs.Over.{job-over, load-over, legal-over, legal-proper}
@@ -21,9 +21,10 @@ use Rattle.model.proofs.Own.{diagonal-proper}
 use Rattle.model.proofs.Sides.{laid-proper}
 use Rattle.model.proofs.TextProper.{marked-proper, closed-proper}
 use Rattle.keep.specs.Edits.{Keeps}
-use Rattle.keep.specs.Edited.{mark-edit, close-edit, diagonal-edit}
+use Rattle.keep.specs.Edited.{mark-edit, close-edit, diagonal-edit, extra-edit}
 use Rattle.keep.specs.Laid.{laidStays, laid-edit}
-use Rattle.keep.specs.Legality.{mark-storable, close-storable, laid-storable, centre-storable, mark-legal, close-legal, laid-legal, diagonal-legal}
+use Rattle.keep.specs.Legality.{mark-storable, close-storable, laid-storable, centre-storable, mark-legal, close-legal, laid-legal, diagonal-legal, extra-storable, extra-legal}
+use Rattle.model.proofs.Admitted.{extra-proper}
 
 -- `stays` says of each pin whether its wire stays
 pub record OthersStay (rec rec′ : List ℕ) (K : Job) (stays : ℕ → ℕ → Bool) : Type 0 where
@@ -103,6 +104,15 @@ module _ (rec : List ℕ) (g : Legal rec) (r c : ℕ) where
   lay-loads d n t u =
       left-load rec (laidBy J (sideOf r c d) n) (laidLeft J f (sideOf r c d) n) (laid-proper J r c d n proper t u) (laid-legal rec g proper r c d n t u)
       (laid-storable rec g (sideOf r c d) n)
+
+pub extra-stays : (rec : List ℕ) → Legal rec → (e : ℕ) → T (leb e (jobOf rec .E))
+    → OthersStay rec (over (recordOf (withExtra (jobOf rec) e) (extraLeft (jobOf rec) (load rec))) rec) (withExtra (jobOf rec) e)
+    (avoids (jobOf rec) (load rec) (missingPlaces (jobOf rec)))
+extra-stays rec g e t =
+    let J : Job = jobOf rec in
+    let p : Proper J = legal-proper rec g in
+    left-stays rec (withExtra J e) (extraLeft J (load rec)) (extra-proper J e p t) (extra-legal rec g p e t) (avoids J (load rec) (missingPlaces J))
+    (extra-storable rec g) (extra-edit J (load rec) (g .sound) e)
 
 -- no wire is new
 pub stays-fewer : (rec rec′ : List ℕ) (K : Job) (stays : ℕ → ℕ → Bool) → OthersStay rec rec′ K stays → wiresIn rec′ ≤ wiresIn rec

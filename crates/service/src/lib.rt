@@ -3,6 +3,7 @@
 pub use answers::Answer;
 pub use editing::close;
 pub use editing::diagonal;
+pub use editing::extra;
 pub use editing::lay;
 pub use editing::mark;
 pub use making::new;

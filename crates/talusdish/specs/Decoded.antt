@@ -9,7 +9,7 @@ use lib.Dec.{T, T-not, eqb, ltb, eqb→eq, ltb→lt}
 use Rattle.sums.specs.Tests.{and-left, and-right}
 use Rattle.model.specs.Links.{Compass, north, east, south, west, compassCode, PlaceKind, pin, missing, side, centre, outside, nowhere}
 use Rattle.model.specs.Wires.{Part, unwired, to, out, pastTheEnd}
-use Rattle.model.specs.Calls.{Call, new, mark, close, lay, diagonal, step, shortfall, part, readText, writeText, listing, trial}
+use Rattle.model.specs.Calls.{Call, new, mark, close, lay, diagonal, step, shortfall, part, readText, writeText, listing, trial, extra}
 use Rattle.model.specs.Calls.{Answer, refused, wrongText, done, added, allWired, short, lacks, lists, wrote}
 use Rattle.talusdish.specs.Words.{placeNumber, number, partNumber, value, code, word, placeOf, partWith, partRead, stepRead, valueRead, codeRead, wordRead}
 use Rattle.talusdish.specs.Words.{isNumbered, partFits, operation, few, refusalFits, fits}
@@ -151,6 +151,7 @@ value-by (readText text) v = refl
 value-by (writeText output) v = refl
 value-by (listing output) v = refl
 value-by (trial t) v = refl
+value-by (extra e) v = refl
 
 value-of : (c : Call) (v n : ℕ) → T (eqb (operation c) n) → valueRead c v ≡ valueBy n v
 value-of c v n t = value-by c v ∙ ap (λ (m : ℕ). valueBy m v) (eqb→eq (operation c) n t)
@@ -168,6 +169,7 @@ done-back (readText text) t = refl
 done-back (writeText output) t = absurd t
 done-back (listing output) t = absurd t
 done-back (trial t) u = refl
+done-back (extra e) t = refl
 
 code-back : (c : Call) (x : Answer) → T (fits c x) → codeRead c (code x) (value x) ≡ x
 code-back c (refused k) t =

@@ -10,16 +10,16 @@ use lib.Dec.{T, eqb, leb, ltb, leb→le, nleb→lt, ltb→lt, lt→ltb}
 use lib.ListN.{length}
 use Rattle.sums.specs.Counting.{when}
 use Rattle.sums.specs.Totals.{total-le, length-total}
-use Rattle.model.specs.Job.{Job, arrayFits, capsAdmitted, fresh, marked, closed, sideOf, laidOn, laidBy, diagonalBy, tileD, inRange, isPin, isTile, isChosen}
+use Rattle.model.specs.Job.{Job, arrayFits, capsAdmitted, fresh, marked, closed, sideOf, laidOn, laidBy, diagonalBy, tileD, inRange, isPin, isTile, isChosen, withExtra}
 use Rattle.model.specs.Links.{places, isPinKind, Step}
 use Rattle.model.specs.Route.{chosenCount}
 use Rattle.model.specs.Record.{recordSize, scratchSize, jobOf, load, Legal, unwiredRecord, over}
 use Rattle.model.specs.Wires.{Part, partAt}
-use Rattle.model.specs.Left.{markLeft, closeLeft, laidLeft, centreLeft}
+use Rattle.model.specs.Left.{markLeft, closeLeft, laidLeft, centreLeft, extraLeft}
 use Rattle.model.specs.Text.{Verdict, reads, wrongAt, Reading, textOf}
 use Rattle.model.specs.Listing.{wiresListing}
 use Rattle.model.specs.Trial.{Trial, seedFits, percentsFit, trialJob}
-use Rattle.model.specs.Calls.{Call, new, mark, close, lay, diagonal, step, shortfall, part, readText, writeText, listing, trial, Answer, refused, wrongText, done, lacks, lists, wrote}
+use Rattle.model.specs.Calls.{Call, new, mark, close, lay, diagonal, step, shortfall, part, readText, writeText, listing, trial, Answer, refused, wrongText, done, lacks, lists, wrote, extra}
 use Rattle.model.specs.Calls.{After, after, Test, test, asked, edited, newly, triedOn, listed, readIn, putOut, Stepped, adds, stays, lacking, On, Steps, Lacks, ReadIn, Did}
 use Rattle.model.proofs.Asked.{allHold, numbered, asked-either}
 use Rattle.model.proofs.Over.{legal-proper}
@@ -189,6 +189,14 @@ did-fits (listing output) rec a d =
     on-fits (listing output) rec [] output a d
     (λ g e. as-fits (listing output) e (put-fits (listing output) (wiresListing (jobOf rec) (load rec)) output rec (listing-fits output rec)))
 did-fits (trial t) rec a d = as-fits (trial t) d (tried-fits t rec)
+did-fits (extra e) rec a d =
+    let J : Job = jobOf rec in
+    let left : Step → ℕ = extraLeft J (load rec) in
+    let leaves : After = edited (eqb (J .E) e) (withExtra J e) left rec in
+    on-fits (extra e) rec [] [] a d
+    (λ g h.
+    as-fits (extra e) h
+    (asked-fits (extra e) (test (leb e (J .E)) 3 ∷ []) rec [] leaves tt (λ t. edited-fits (extra e) tt (eqb (J .E) e) (withExtra J e) left rec)))
 
 pub did-small : (c : Call) (rec : List ℕ) (a : After) → Did c rec a → word (a .answer) < 2 ^ 64
 did-small c rec a d = word-small c (a .answer) (did-fits c rec a d)

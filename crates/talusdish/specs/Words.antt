@@ -5,7 +5,7 @@ use Prim.Native.Nat.{ℕ, zero, suc, _+_, _*_, _^_, _/_, _%_}
 use lib.Dec.{eqb, ltb}
 use Rattle.model.specs.Links.{north, east, south, west, compassCode, PlaceKind, pin, missing, side, centre, outside, nowhere}
 use Rattle.model.specs.Wires.{Part, unwired, to, out, pastTheEnd}
-use Rattle.model.specs.Calls.{Call, new, mark, close, lay, diagonal, step, shortfall, part, readText, writeText, listing, trial}
+use Rattle.model.specs.Calls.{Call, new, mark, close, lay, diagonal, step, shortfall, part, readText, writeText, listing, trial, extra}
 use Rattle.model.specs.Calls.{Answer, refused, wrongText, done, added, allWired, short, lacks, lists, wrote, refusal}
 
 -- 0 n, 1 e, 2 s, 3 w, 4 c, 5 r, 6 p; no part has another place
@@ -85,6 +85,7 @@ valueRead (readText text) v = done
 valueRead (writeText output) v = wrote v
 valueRead (listing output) v = wrote v
 valueRead (trial t) v = done
+valueRead (extra e) v = done
 
 -- what a code and a value say: 0 accepted, 6 wrong text with its offset, else the number of the refusal
 abbrev pub codeRead : Call → ℕ → ℕ → Answer
@@ -110,8 +111,8 @@ partFits pastTheEnd = true
 partFits (to r c p i) = ltb r 64 && (ltb c 64 && (ltb i 32 && isNumbered p))
 partFits (out p i) = ltb i 32 && isNumbered p
 
--- the operations by number, in the order of document 01; setting a count and giving a tile its D answer as Close does, the listing as Write text does,
--- a trial as New does
+-- the operations by number, in the order of document 01; setting a count, giving a tile its D and lowering E answer as Close does, the listing as Write
+-- text does, a trial as New does
 abbrev pub operation : Call → ℕ
 operation (new rows columns O D E) = 0
 operation (mark r c m) = 1
@@ -125,6 +126,7 @@ operation (readText text) = 6
 operation (writeText output) = 7
 operation (listing output) = 7
 operation (trial t) = 0
+operation (extra e) = 2
 
 -- a value has 56 bits
 abbrev pub few : ℕ → Bool

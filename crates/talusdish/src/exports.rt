@@ -1,7 +1,7 @@
 // The operations as functions for hosts. Each passes its buffers on and returns the word of an answer with which the operation did what it promises.
 ghost use mathlib.Core.Path.{_≡_};
 ghost use mathlib.Core.List.{[]};
-ghost use Rattle.model.specs.Calls.{new as New, mark as Mark, close as Close, lay as Lay, diagonal as Diagonal, step as Step, shortfall as Shortfall, part as Part, readText, writeText, listing as Listing, trial as Trial};
+ghost use Rattle.model.specs.Calls.{new as New, mark as Mark, close as Close, lay as Lay, diagonal as Diagonal, step as Step, shortfall as Shortfall, part as Part, readText, writeText, listing as Listing, trial as Trial, extra as Extra};
 ghost use Rattle.model.specs.Trial.{trialOf};
 ghost use Rattle.model.specs.Calls.{Answer, after, Did};
 ghost use Rattle.talusdish.specs.Words.{word};
@@ -70,6 +70,14 @@ pub extern "C" fn talusdish_diagonal(rec: &mut [u8], row: u64, column: u64, d: u
         × Did (Diagonal row column d) (now (rec .entry)) (after a (now (rec .exit)) [] [])) ⌝ }
 {
     word_of(service::diagonal(rec, row as usize, column as usize, d as usize))
+}
+
+// A lower E.
+#[no_mangle]
+pub extern "C" fn talusdish_extra(rec: &mut [u8], e: u64) -> u64
+    ensures { λ n. ⌜ ((a : Answer) × (n ≡ word a) × Did (Extra e) (now (rec .entry)) (after a (now (rec .exit)) [] [])) ⌝ }
+{
+    word_of(service::extra(rec, e as usize))
 }
 
 // One wire more, or the greatest number.

@@ -11,9 +11,9 @@ use lib.ListN.{length}
 use Rattle.model.specs.Route.{chosenCount}
 use Rattle.model.specs.Record.{recordSize, scratchSize, jobOf, load, Legal, over}
 use Rattle.model.specs.Text.{Verdict, Reading}
-use Rattle.model.specs.Calls.{Call, new, mark, close, lay, diagonal, step, shortfall, part, readText, writeText, listing, trial}
+use Rattle.model.specs.Calls.{Call, new, mark, close, lay, diagonal, step, shortfall, part, readText, writeText, listing, trial, extra}
 use Rattle.model.specs.Calls.{Answer, refused, added, allWired, short, lacks, After, after, cleared}
-use Rattle.model.specs.Calls.{newly, triedOn, markedBy, closedBy, laidIn, diagonalIn, listed, readIn, written, listedOut, OneMore, Stepped, adds, stays, lacking, wiresIn, nearBytes}
+use Rattle.model.specs.Calls.{newly, triedOn, markedBy, closedBy, laidIn, diagonalIn, listed, readIn, written, listedOut, OneMore, Stepped, adds, stays, lacking, wiresIn, nearBytes, extraIn}
 use Rattle.model.specs.Calls.{Shown, none-short, side, On, Steps, Lacks, ReadIn, Did}
 use Rattle.model.specs.Run.{Service}
 use Rattle.witness.specs.Damage.{legal?}
@@ -105,6 +105,7 @@ serve (readText text) rec = read-in rec text
 serve (writeText output) rec = on rec [] output (λ a. a ≡ written output rec) (λ g. (written output rec, refl))
 serve (listing output) rec = on rec [] output (λ a. a ≡ listedOut output rec) (λ g. (listedOut output rec, refl))
 serve (trial t) rec = (triedOn t rec, refl)
+serve (extra e) rec = on rec [] [] (λ a. a ≡ extraIn e rec) (λ g. (extraIn e rec, refl))
 
 pub service : Service
 service = record { does = λ c rec. serve c rec .0; did = λ c rec lent buffer. serve c rec .1 }

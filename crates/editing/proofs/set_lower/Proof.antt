@@ -1,0 +1,55 @@
+-- `set_lower` meets its contract: the wires are followed in a copy, which is legal, of the same job and with the same loads. Assumes nothing.
+use mathlib.Core.Path.{sym, subst, _∙_}
+use Prim.Native.Nat.{ℕ, _≤_}
+use denote.Ref.{now}
+use borrow.Author.Needs.{needs}
+use Rattle.model.specs.Job.{Job, withExtra}
+use Rattle.model.specs.Links.{Step}
+use Rattle.model.specs.Record.{recordOf, over}
+use Rattle.model.specs.Left.{extraLeft}
+use Rattle.editing.specs.Copied.{copied-same, copied-legal, copied-job, as-copied}
+use Rattle.editing.proofs.set_lower.Statement.{statement}
+use Rattle.editing.proofs.set_lower.Tie as tie
+
+slice-aggregate-copy : tie.Need-slice-aggregate-copy
+slice-aggregate-copy c = search needs
+
+copy-requires : tie.Need-copy-requires
+copy-requires c κs = (c .before .before .before .pre .0 .long, search needs)
+
+slice-aggregate-extra-keeping : tie.Need-slice-aggregate-extra-keeping
+slice-aggregate-extra-keeping c = search needs
+
+extra-keeping-requires : tie.Need-extra-keeping-requires
+extra-keeping-requires c κs =
+    let c3 = c .before .before .before in
+    let s = c3 .before .before .before .before in
+    let p = s .pre in (
+      copied-legal (p .0) (c3 .copy .ensures),
+      p .0 .long,
+      copied-same (p .0) (c3 .copy .ensures),
+      subst (λ (J : Job). s .args .e ≤ J .E) (sym (copied-job (p .0) (c3 .copy .ensures))) (p .1),
+    )
+
+same-length : tie.Need-same-length
+same-length c = search needs
+
+returns : tie.Need-returns
+returns c =
+    let c6 = c .before .before .before .before .before .before in
+    let s = c6 .before .before .before .before in
+    let a = s .args in
+    c .before .before .extra-keeping .ensures
+    ∙ as-copied (s .pre .0) (c6 .copy .ensures)
+    (λ (J : Job) (f : Step → ℕ). over (recordOf (withExtra J (a .e)) (extraLeft J f)) (now (a .rec)))
+
+pub set-lower-spec : {M : Type 1} → statement M
+set-lower-spec =
+    tie.close
+    (tie.spec
+    slice-aggregate-copy
+    copy-requires
+    slice-aggregate-extra-keeping
+    extra-keeping-requires
+    same-length
+    returns)
