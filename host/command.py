@@ -22,7 +22,7 @@ TRIAL = {                                                           # the number
     'columns': 'columns of pins, 2 to 40',
     'o': 'wires that fit between two pads, 1 to 8',
     'd': 'wires that fit across the diagonal of a tile, O to 2×O',
-    'e': 'wires that a missing ball lets through, 0 to 16',
+    'e': 'wires that a missing ball lets through, 0 to D',
     'seed': 'the starting number, 1 to 4294967295',
     'chosen': 'percentage of chosen pins',
     'missing': 'percentage of missing pins; both together at most 100',
@@ -331,7 +331,7 @@ def describe_import(parts):
     measures.add_argument('--spacing', type=whole, metavar='S', help='spacing between wires')
     measures.add_argument('--pitch', type=whole, metavar='P', help='pitch of the balls')
     measures.add_argument('--pad', type=whole, metavar='D', help='diameter of a pad')
-    measures.add_argument('--extra', type=whole, default=0, metavar='E', help='wires that a missing ball lets through, 0 to 16 (0)')
+    measures.add_argument('--extra', type=whole, default=0, metavar='E', help='wires that a missing ball lets through, 0 to D (0)')
     measures.add_argument('--caps', type=whole, nargs=3, metavar=('O', 'D', 'E'), help='the capacities themselves')
     balls = part.add_argument_group('balls')
     which = balls.add_mutually_exclusive_group()

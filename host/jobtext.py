@@ -78,6 +78,8 @@ def array_reason(line):
             return column, f'{what} may be {low} to {high}, not {number}'
     if not o <= d <= 2 * o:
         return at_d, f'D may be O to 2×O, here {o} to {2 * o}, not {d}'
+    if e > d:
+        return at_e, f'E may be 0 to D, here 0 to {d}, not {e}'
     return None
 
 

@@ -27,6 +27,7 @@ SIGNATURES = {
     'talusdish_close': 'bnnn',
     'talusdish_lay': 'bnnnn',
     'talusdish_diagonal': 'bnnn',
+    'talusdish_extra': 'bn',
     'talusdish_step': 'bb',
     'talusdish_shortfall': 'bbb',
     'talusdish_part': 'bnnn',
@@ -40,7 +41,7 @@ SIGNATURES = {
 REFUSALS = {
     1: 'the record is short or damaged',
     2: 'rows and columns are 2 to 40',
-    3: 'the capacities are out of range: O is 1 to 8, D is O to 2×O, of a tile too, E is 0 to 16',
+    3: 'the capacities are out of range: O is 1 to 8, D is O to 2×O, of a tile too, E is 0 to D, and only a lower E may take the place of one',
     4: 'there is no such pin or tile, or the pin is not chosen',
     5: 'unknown mark, state or side',
     6: 'wrong text',
@@ -266,6 +267,10 @@ class Job:
     def diagonal(self, row, column, d):
         """Sets a tile's D; another one takes out the wires through the tile's centre, and no others. The job's D means that it has none of its own."""
         call('talusdish_diagonal', self._record, row, column, d)
+
+    def extra(self, e):
+        """Lowers E: every wire that passes a missing pin is taken out."""
+        call('talusdish_extra', self._record, e)
 
     def step(self):
         """ADDED, ALL_WIRED or SHORT."""

@@ -7,7 +7,7 @@
  * code   0  accepted
  *        1  record under 32,768 bytes, or damaged
  *        2  rows or columns not 2 to 40
- *        3  capacities: O not 1 to 8, D not O to 2*O, or E not 0 to 16
+ *        3  capacities: O not 1 to 8, D not O to 2*O, E not 0 to 16, or E above D in a new job; in extra an E that is greater
  *        4  no such pin or tile; in part also a pin that is not chosen
  *        5  unknown mark, state or side code
  *        6  wrong text; the value is the offset of the first line that may not stand there
@@ -64,6 +64,10 @@ uint64_t talusdish_lay(uint8_t *record, uint64_t record_len, uint64_t row, uint6
  * takes out the wires through the tile's centre and no others, and every other wire keeps its places. */
 uint64_t talusdish_diagonal(uint8_t *record, uint64_t record_len, uint64_t row, uint64_t column, uint64_t d);
 
+/* A lower E, the extra of a missing pin. 1; 3 a greater E. The same E changes nothing, a lower one takes out every wire that passes a missing pin; all others keep
+ * their places. An E above D, of a record that was made before such an E was refused, may be lowered to any other, also above D. */
+uint64_t talusdish_extra(uint8_t *record, uint64_t record_len, uint64_t e);
+
 /* One wire more. 1; 8. Value 0 added: one more chosen pin is wired and those wired stay wired; 1 all wired; 2 short: no more wires fit.
  * 1 and 2 change no byte of the record. The scratch of an accepted call is zero afterwards. */
 uint64_t talusdish_step(uint8_t *record, uint64_t record_len, uint8_t *scratch, uint64_t scratch_len);
@@ -95,7 +99,7 @@ uint64_t talusdish_listing(const uint8_t *record, uint64_t record_len, uint8_t *
  * *o        the quotient of p - d - s by w + s, and *o_rest its remainder
  * *k        the largest with (k * (w + s) + s + d) squared at most 2 * p * p, and *k_rest what that square leaves of 2 * p * p
  * *diagonal the smaller of *k and 2 * *o
- * O and D of talusdish_new may be *o and *diagonal, with every E from 0 to 16. The five pointers are to different numbers; a refused call changes none. */
+ * O and D of talusdish_new may be *o and *diagonal, with every E up to *diagonal. The five pointers are to different numbers; a refused call changes none. */
 uint64_t talusdish_rules(uint64_t p, uint64_t d, uint64_t w, uint64_t s, uint64_t *o, uint64_t *o_rest, uint64_t *k, uint64_t *k_rest, uint64_t *diagonal);
 
 /* The job of a load trial, without wires. 1 only for a short record; 2; 3; 12; 13. The number `seed` moves on with each draw by Marsaglia's xorshift on 32

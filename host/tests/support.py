@@ -28,7 +28,8 @@ def random_job(seed, largest=14):
     """A job of any capacities and densities, some with wires already laid and some with tiles that have their own D, by a seed."""
     draw = random.Random(seed)
     rows, columns, o = draw.randint(2, largest), draw.randint(2, largest), draw.choice((1, 1, 2, 2, 3, 4, 6, 8))
-    job = talusdish.Job(rows, columns, o, draw.randint(o, 2 * o), draw.choice((0, 0, 1, 2, 5, 16)))
+    d = draw.randint(o, 2 * o)
+    job = talusdish.Job(rows, columns, o, d, min(d, draw.choice((0, 0, 1, 2, 5, 16))))
     chosen, missing, closed = draw.choice((.2, .5, .8, 1)), draw.choice((0, 0, .1, .3)), draw.choice((0, 0, .1, .3))
     for row in range(rows):
         for column in range(columns):

@@ -7,7 +7,7 @@ import command
 import talusdish
 from layout import hops, link
 from support import EXAMPLES, ROOT, random_job
-from talusdish import CHOSEN, MISSING, SHORT, Job, Out, Refused, ball_name, ball_place, row_name, wires_of
+from talusdish import CHOSEN, MISSING, SHORT, Job, Out, Refused, To, ball_name, ball_place, row_name, wires_of
 
 HEADER = (ROOT / 'include' / 'talusdish.h').read_text()
 
@@ -22,6 +22,11 @@ def header_signatures():
             letters += 'b' if kind == 'uint8_t *' else 'r' if kind == 'uint64_t *' else '' if word.endswith('_len') else 'n'
         found[name] = letters
     return found
+
+
+def places_of(parts):
+    """The places of a wire's parts, without its lanes."""
+    return [part._replace(lane=0) for part in parts]
 
 
 class Binding(unittest.TestCase):
@@ -40,7 +45,8 @@ class Binding(unittest.TestCase):
         for code, refused in ((2, lambda: Job(1, 2)), (3, lambda: Job(2, 2, 2, 5, 0)), (4, lambda: Job().mark(2, 0, CHOSEN)), (5, lambda: Job().close(0, 0, 2)),
                               (4, lambda: Job().part(0, 0, 0)), (9, lambda: talusdish.rules(0, 1, 1, 1)), (10, lambda: talusdish.rules(100, 90, 20, 20)),
                               (4, lambda: Job().lay(1, 0, 'x', 2)), (5, lambda: Job().lay(0, 0, 'x', 2)), (11, lambda: Job().lay(0, 0, 'n', 2)),
-                              (4, lambda: Job().diagonal(1, 0, 9)), (3, lambda: Job().diagonal(0, 0, 0)), (3, lambda: Job().diagonal(0, 0, 3))):
+                              (4, lambda: Job().diagonal(1, 0, 9)), (3, lambda: Job().diagonal(0, 0, 0)), (3, lambda: Job().diagonal(0, 0, 3)),
+                              (3, lambda: Job(2, 2, 1, 1, 2)), (3, lambda: Job(2, 2, 1, 2, 1).extra(2))):
             with self.subTest(code=code), self.assertRaises(Refused) as caught:
                 refused()
             self.assertEqual(caught.exception.code, code)
@@ -54,6 +60,21 @@ class Binding(unittest.TestCase):
         self.assertIn(b')\n(laid 0 1 s 2)\n(laid 1 0 e 3)\n(end)\n', job.write_text())
         job.lay(1, 1, 'n', 0)
         self.assertEqual(job.laid_sides(), [(1, 0, 'e')])
+
+    def test_a_lower_e_takes_out_the_wires_that_pass_a_missing_ball(self):
+        found = 0
+        for seed in range(80):
+            job = random_job(seed)
+            job.route()
+            before = job.wires()
+            others = {pin: places_of(parts) for pin, parts in before.items() if not any(isinstance(part, To) and part.place == 'r' for part in parts)}
+            job.extra(job.e)
+            self.assertEqual(job.wires(), before)
+            if job.e:
+                job.extra(job.e - 1)
+                self.assertEqual({pin: places_of(parts) for pin, parts in job.wires().items()}, others)
+                found += len(before) > len(others) > 0
+        self.assertGreater(found, 3)
 
     def test_laid_sides_are_those_of_the_text(self):
         named = 0

@@ -55,7 +55,8 @@ def ruled(rows, columns, o, d, e, seed, chosen, missing, closed):
 def random_numbers(draw):
     """The numbers of a trial that is made."""
     o, chosen = draw.randint(1, 8), draw.randint(0, 100)
-    return (draw.randint(2, 40), draw.randint(2, 40), o, draw.randint(o, 2 * o), draw.randint(0, 16), draw.randrange(1, 1 << 32),
+    d = draw.randint(o, 2 * o)
+    return (draw.randint(2, 40), draw.randint(2, 40), o, d, draw.randint(0, d), draw.randrange(1, 1 << 32),
             chosen, draw.randint(0, 100 - chosen), draw.randint(0, 100))
 
 
