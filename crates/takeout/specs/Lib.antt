@@ -11,3 +11,5 @@ pub mod Marks
 pub mod Lanes
 pub mod Edited
 pub mod Stored
+-- The same for request K9.
+pub mod Missing

@@ -1,15 +1,15 @@
 // Wires taken out of a record: the pins whose wires go are marked, a byte for each of the 1,600 cells, and their wires are taken out. Callers lend the record
 // as it was, audited, in which wires are followed, and a copy of it that changes.
-ghost use Prim.Native.Nat.{_/_, _%_, _≤_, _<_};
+ghost use Prim.Native.Nat.{_+_, _/_, _%_, _≤_, _<_};
 ghost use mathlib.Core.Path.{_≡_};
 ghost use mathlib.Core.List.{[], _∷_};
 ghost use lib.Dec.{T};
 ghost use lib.ListN.{length};
-ghost use Rattle.model.specs.Job.{isChosen, marked, closed, sideOf, laidBy, withOwnD};
+ghost use Rattle.model.specs.Job.{isChosen, marked, closed, sideOf, laidBy, withOwnD, withExtra};
 ghost use Rattle.model.specs.Links.{centre, Place, isPlace, pinAt, turn, at};
 ghost use Rattle.model.specs.Near.{exit};
 ghost use Rattle.model.specs.Record.{jobOf, load, Legal, recordOf, over};
-ghost use Rattle.model.specs.Left.{tilePlaces, markLeft, closeLeft, centreLeft, laidLeft};
+ghost use Rattle.model.specs.Left.{tilePlaces, markLeft, closeLeft, centreLeft, laidLeft, missingPlaces, extraLeft};
 ghost use Rattle.channel.specs.Map.{stepOf, isLinkDart, dartOf, laid};
 ghost use Rattle.takeout.specs.Taken.{TakesOut};
 ghost use Rattle.takeout.specs.LeftRecord.{SameRecord};
@@ -17,6 +17,7 @@ ghost use Rattle.takeout.specs.AllTaken.{TakesIf};
 ghost use Rattle.takeout.specs.Marks.{isMarked, Adds, OnLanes, Against, ComesTo};
 ghost use Rattle.takeout.specs.Edited.{Marks};
 ghost use Rattle.takeout.specs.Stored.{Unwired};
+ghost use Rattle.takeout.specs.Missing.{missingTo};
 use crate::back::pin_of;
 use channel::is_chosen;
 use channel::is_missing;
@@ -27,6 +28,7 @@ use channel::orthogonal;
 use channel::places::pin_exit;
 use channel::places::step_back;
 use channel::places::wires_in;
+use channel::set_extra;
 use channel::set_laid;
 use channel::set_mark;
 use channel::set_own;
@@ -223,4 +225,40 @@ pub fn lay_keeping(was: &[u8], rec: &mut [u8], r: usize, c: usize, side: usize, 
     mark_lanes(was, &mut taken, step_back(dart), limit);
     take_marked(was, rec, &taken);
     set_laid(rec, r, c, side, n);
+}
+
+// Marks the pins of the wires that pass the missing pin of the i-th cell, if there is one.
+fn mark_missing_at(was: &[u8], taken: &mut [u8], i: usize)
+    requires { ⌜ Legal (now was) × (1600 ≤ length (now taken)) × (i < 1600) ⌝ }
+    ensures { λ _. ⌜ (Marks (now (was .entry)) (now (taken .entry)) (missingTo (jobOf (now (was .entry))) i)
+        → Marks (now (was .entry)) (now (taken .exit)) (missingTo (jobOf (now (was .entry))) (i + 1))) ⌝ }
+{
+    if !is_missing(was, i / 40, i % 40) {
+        return;
+    }
+    mark_place(was, taken, pin_exit(i / 40, i % 40));
+}
+
+// Marks the pins of the wires that pass a missing pin.
+fn mark_missing(was: &[u8], taken: &mut [u8])
+    requires { ⌜ Legal (now was) × (1600 ≤ length (now taken)) × Marks (now was) (now taken) [] ⌝ }
+    ensures { λ _. ⌜ Marks (now (was .entry)) (now (taken .exit)) (missingPlaces (jobOf (now (was .entry)))) ⌝ }
+{
+    let mut i: usize = 0;
+    while i < 1600 {
+        mark_missing_at(was, taken, i);
+        i += 1;
+    }
+}
+
+// A lower E, in a record from which only the wires that pass a missing pin are taken out.
+pub fn extra_keeping(was: &[u8], rec: &mut [u8], e: usize)
+    requires { ⌜ Legal (now was) × (32768 ≤ length (now rec)) × SameRecord (now was) (now rec) × (e ≤ jobOf (now was) .E) ⌝ }
+    ensures { λ _. ⌜ now (rec .exit) ≡ over (recordOf (withExtra (jobOf (now (was .entry))) e) (extraLeft (jobOf (now (was .entry))) (load (now (was .entry)))))
+        (now (rec .entry)) ⌝ }
+{
+    let mut taken = [0u8; 1600];
+    mark_missing(was, &mut taken);
+    take_marked(was, rec, &taken);
+    set_extra(rec, e);
 }
