@@ -15,4 +15,8 @@ pub enum Answer {
     Lists(Part),
     // the length of the text
     Wrote(usize),
+    // the sheet is carried
+    Carried,
+    // the first failing tile of a sheet, by row and column
+    Fails(usize, usize),
 }

@@ -18,6 +18,7 @@ use Rattle.model.specs.Left.{markLeft, closeLeft, laidLeft, centreLeft, 
 use Rattle.model.specs.Text.{Verdict, reads, wrongAt, Reading, textOf}
 use Rattle.model.specs.Listing.{wiresListing}
 use Rattle.model.specs.Trial.{Trial, seedFits, percentsFit, trialJob}
+use Rattle.model.specs.Sheet.{sheetJob, sheetFits, SheetVerdict, Judged}
 
 -- ---- calls and answers
 
@@ -36,6 +37,7 @@ pub data Call : Type 0 where
   listing : (output : List ℕ) → Call
   trial : Trial → Call
   extra : (e : ℕ) → Call
+  sheet : (loads : List ℕ) → Call
 
 pub data Answer : Type 0 where
   refused : ℕ → Answer
@@ -47,6 +49,8 @@ pub data Answer : Type 0 where
   lists : Part → Answer
   -- the length of the text or of the listing
   wrote : ℕ → Answer
+  -- carried, or the first failing tile
+  sheetIs : SheetVerdict → Answer
 
 -- the paper's number of a refusal; none for an accepted call
 abbrev pub refusal : Answer → Option ℕ
@@ -59,6 +63,7 @@ refusal short = none
 refusal (lacks k) = none
 refusal (lists p) = none
 refusal (wrote n) = none
+refusal (sheetIs v) = none
 
 abbrev pub Accepted : Answer → Type 0
 Accepted a = refusal a ≡ none
@@ -171,6 +176,12 @@ written output rec = putOut (textOf (jobOf rec)) output rec
 abbrev pub listedOut : List ℕ → List ℕ → After
 listedOut output rec = putOut (wiresListing (jobOf rec) (load rec)) output rec
 
+-- K10: "14 O is not 2 or a pin is missing; then 15 a length other than the published one, a load over its side or inward at the rim, or wrong marks." The record
+-- is only read.
+abbrev pub sheetLeft : List ℕ → SheetVerdict → List ℕ → After
+sheetLeft loads v rec =
+    asked (test (sheetJob (jobOf rec)) 14 ∷ test (sheetFits (jobOf rec) loads) 15 ∷ []) rec [] (after (sheetIs v) rec [] [])
+
 -- ---- what is free
 
 abbrev pub wiredIn : List ℕ → ℕ → ℕ → Bool
@@ -232,6 +243,12 @@ pub record ReadIn (text rec : List ℕ) (a : After) : Type 0 where
   pub brief : length rec < recordSize → a ≡ after (refused 1) rec [] []
   pub long : recordSize ≤ length rec → (v : Verdict) × Reading text v × (a ≡ readIn v rec)
 
+-- what is said of a sheet that is not turned away
+pub record OnSheet (loads rec : List ℕ) (a : After) : Type 0 where
+  pub verdict : SheetVerdict
+  pub judged : T (sheetJob (jobOf rec)) → T (sheetFits (jobOf rec) loads) → Judged (jobOf rec) loads verdict
+  pub left : a ≡ sheetLeft loads verdict rec
+
 -- what a call on the record `rec` leaves
 abbrev pub Did : Call → List ℕ → After → Type 0
 Did (new rows columns O D E) rec a = a ≡ newly rows columns O D E rec
@@ -247,3 +264,4 @@ Did (writeText output) rec a = On rec [] output a (a ≡ written output rec)
 Did (listing output) rec a = On rec [] output a (a ≡ listedOut output rec)
 Did (trial t) rec a = a ≡ triedOn t rec
 Did (extra e) rec a = On rec [] [] a (a ≡ extraIn e rec)
+Did (sheet loads) rec a = On rec [] [] a (OnSheet loads rec a)

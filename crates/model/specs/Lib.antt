@@ -12,6 +12,7 @@ pub mod Record
 pub mod Text
 pub mod Listing
 pub mod Trial
+pub mod Sheet
 pub mod Calls
 pub mod Run
 -- The rows of the examples.

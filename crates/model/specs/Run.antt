@@ -14,7 +14,7 @@ use Rattle.model.specs.Record.{recordSize, scratchSize, jobOf, load, unw
 use Rattle.model.specs.Wires.{partAt, Holds}
 use Rattle.model.specs.Text.{reads, Reading}
 use Rattle.model.specs.Trial.{Trial, trialJob}
-use Rattle.model.specs.Calls.{Call, new, mark, close, step, shortfall, part, readText, writeText, listing, Answer, added, allWired, short, lacks, lists, refusal, Accepted, After, Did, wiresIn, nearBytes, lay, diagonal, trial, extra}
+use Rattle.model.specs.Calls.{Call, new, mark, close, step, shortfall, part, readText, writeText, listing, Answer, added, allWired, short, lacks, lists, refusal, Accepted, After, Did, wiresIn, nearBytes, lay, diagonal, trial, extra, sheet}
 
 -- ---- what can be lent
 
@@ -42,6 +42,7 @@ Lent (listing output) = Buffer output
 Lent (trial t) =
     Word (t .rows) × Word (t .columns) × Word (t .O) × Word (t .D) × Word (t .E) × Word (t .seed) × Word (t .chosen) × Word (t .missing) × Word (t .closed)
 Lent (extra e) = Word e
+Lent (sheet loads) = Buffer loads
 
 -- The operations as they are promised: every call on a buffer ends and leaves what its paragraph states.
 pub record Service : Type 0 where
@@ -66,6 +67,7 @@ module _ (S : Service) where
   Sets (listing output) J K = K ≡ J
   Sets (trial t) J K = K ≡ trialJob t
   Sets (extra e) J K = K ≡ withExtra J e
+  Sets (sheet loads) J K = K ≡ J
 
   -- "A refused call changes nothing in the job."
   abbrev pub Becomes : Answer → Call → Job → Job → Type 0
