@@ -19,7 +19,8 @@ use Rattle.model.specs.Wires.{partAt}
 use Rattle.model.specs.Text.{Verdict, reads, wrongAt, Reading, textOf}
 use Rattle.model.specs.Listing.{wiresListing}
 use Rattle.model.specs.Trial.{Trial, seedFits, percentsFit, trialJob}
-use Rattle.model.specs.Calls.{Call, new, mark, close, lay, diagonal, step, shortfall, part, readText, writeText, listing, trial, extra}
+use Rattle.model.specs.Calls.{Call, new, mark, close, lay, diagonal, step, shortfall, part, readText, writeText, listing, trial, extra, sheet, sheetIs, sheetLeft}
+use Rattle.model.specs.Sheet.{sheetJob, sheetFits, SheetVerdict}
 use Rattle.model.specs.Calls.{Answer, refused, done, lists, wrote, refusal, Accepted, After, after}
 use Rattle.model.specs.Calls.{Test, test, asked, edited, newly, triedOn, markedBy, closedBy, laidIn, diagonalIn, listed, readIn, putOut, Stepped, adds, stays, lacking, Steps, Lacks, Did, extraIn}
 use Rattle.model.specs.Run.{Buffer, Service, Sets}
@@ -243,6 +244,12 @@ module _ (S : Service) (rec : List ℕ) (J : Job) (k : Kept rec J) where
       asked-either rec output (after (wrote (length text)) rec [] (over text output)) (Leaves S c rec J) notOne
       (test (leb (length text) (length output)) 7 ∷ []) tt (refused-leaves S c rec J output) (λ t. accepts J refl s k)
 
+  sheet-leaves : (loads : List ℕ) (v : SheetVerdict) → Leaves S (sheet loads) rec J (sheetLeft loads v rec)
+  sheet-leaves loads v =
+      asked-either rec [] (after (sheetIs v) rec [] []) (Leaves S (sheet loads) rec J) notOne
+      (test (sheetJob (jobOf rec)) 14 ∷ test (sheetFits (jobOf rec) loads) 15 ∷ []) tt (refused-leaves S (sheet loads) rec J [])
+      (λ t. accepts J refl refl k)
+
   -- an accepted call that leaves the record
   stays-kept : {rec′ : List ℕ} → rec′ ≡ rec → Kept rec′ J
   stays-kept e = subst (λ (x : List ℕ). Kept x J) (sym e) k
@@ -299,3 +306,5 @@ module _ (S : Service) (rec : List ℕ) (J : Job) (k : Kept rec J) where
       subst (Leaves S (listing output) rec J) (sym (d .legal (k .legal))) (put-leaves (listing output) refl (wiresListing (jobOf rec) (load rec)) output)
   call-leaves (trial t) a d = subst (Leaves S (trial t) rec J) (sym d) (trial-leaves S rec J (k .buffer) (k .legal .long) t)
   call-leaves (extra e) a d = subst (Leaves S (extra e) rec J) (sym (d .legal (k .legal))) (extra-leaves e)
+  call-leaves (sheet loads) a d =
+      let s = d .legal (k .legal) in subst (Leaves S (sheet loads) rec J) (sym (s .left)) (sheet-leaves loads (s .verdict))

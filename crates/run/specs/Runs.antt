@@ -15,7 +15,7 @@ use Rattle.model.specs.Job.{Job, arrayFits, capsAdmitted, fresh}
 use Rattle.model.specs.Record.{recordSize, unwiredRecord, over}
 use Rattle.model.specs.Text.{reads, Reading}
 use Rattle.model.specs.Trial.{Trial, seedFits, percentsFit, trialJob}
-use Rattle.model.specs.Calls.{Call, new, mark, close, lay, diagonal, step, shortfall, part, readText, writeText, listing, trial, extra}
+use Rattle.model.specs.Calls.{Call, new, mark, close, lay, diagonal, step, shortfall, part, readText, writeText, listing, trial, extra, sheet}
 use Rattle.model.specs.Calls.{Answer, refused, done, refusal, Accepted, After, after, test, newly, triedOn, ReadIn}
 use Rattle.model.specs.Run.{Buffer, Service, Sets, Becomes, Lent, Starts, byNew, byText, byTrial, byOld, Follows, NeverOne}
 use Rattle.model.proofs.Asked.{asked-fails}
@@ -40,6 +40,7 @@ module _ (S : Service) where
   sets-one (listing output) J K L a b = a ∙ sym b
   sets-one (trial t) J K L a b = a ∙ sym b
   sets-one (extra e) J K L a b = a ∙ sym b
+  sets-one (sheet loads) J K L a b = a ∙ sym b
 
   -- the job after a call, by what it answered
   abbrev After? : Option ℕ → Call → Job → Job → Type 0

@@ -2,19 +2,19 @@
 -- does not pass is the tile that the sheet's verdict names, and where all pass the sheet is carried. A verdict is settled: a sheet has one at most, and a
 -- sheet that is not turned away has one.
 -- Assumes nothing.
-use mathlib.Core.Path.{_≡_, refl, sym, ap₂, subst, subst₂}
+use mathlib.Core.Path.{_≡_, refl, sym, ap, ap₂, subst, subst₂}
 use mathlib.Core.Logic.{_⊎_, inl, inr, ⊎-elim}
 use mathlib.Core.Bool.{Bool, true, false, not, _&&_, _||_}
 use mathlib.Core.List.{List}
 use Prim.Native.Nat.{ℕ, zero, suc, _+_, _*_, _/_, _%_, _≤_, _<_}
 use native.Mathlib.Omega.{arith}
-use borrow.Author.Tests.{ltb-false, eq-eqb}
+use borrow.Author.Tests.{lt-ltb, le-ltb, ltb-false, eq-eqb}
 use lib.Dec.{T, T-not, not-T, eqb, ltb, eqb→eq, ltb→lt, lt→ltb, eqb-refl}
 use Rattle.sums.specs.Tests.{below-or, and-left, and-right, and-both, or-by, so, Same, same, other, same?}
 use Rattle.model.specs.Job.{Job, isTile}
 use Rattle.model.specs.Sheet.{Carried, TileCarried, SheetVerdict, carried, failsAt, isBefore, Judged, all-carried, first-fails}
 use Rattle.sheets.specs.Glued.{carried-tiles}
-use Rattle.sheets.specs.Tiles.{tileTest, Ready, test-carried, carried-test}
+use Rattle.sheets.specs.Tiles.{tileTest, Ready, tile-few, test-carried, carried-test}
 
 -- ---- the first number that does not pass
 
@@ -43,6 +43,13 @@ first-of p (suc n) =
       record { most = omega arith; before = λ j m. f .before j (omega arith); here = λ m. subst (λ (x : Bool). T (not x)) (sym q) tt },
     )
 
+pub before-more : (p : ℕ → Bool) (i : ℕ) → ((j : ℕ) → j < i → T (p j)) → T (p i) → (j : ℕ) → j < i + 1 → T (p j)
+before-more p i f t j l = by (eqb j i) (same? j i)
+  where
+    by : (b : Bool) → Same j i b → T (p j)
+    by true (same e) = subst (λ (x : ℕ). T (p x)) (sym e) t
+    by false (other e) = f j (omega arith)
+
 -- ---- the verdict
 
 -- the cell i is no tile, or passes
@@ -51,6 +58,12 @@ passesAt J sheet i = not (isTile J (i / 40) (i % 40)) || tileTest J sheet (i / 4
 
 abbrev pub verdictAt : ℕ → SheetVerdict
 verdictAt i = elim (ltb i 1600) [ true ↦ failsAt (i / 40) (i % 40) | false ↦ carried ]
+
+pub verdict-some : (i : ℕ) → i < 1600 → failsAt (i / 40) (i % 40) ≡ verdictAt i
+verdict-some i l = sym (ap (λ (b : Bool). elim b as (λ x. SheetVerdict) [ true ↦ failsAt (i / 40) (i % 40) | false ↦ carried ]) (lt-ltb i 1600 l))
+
+pub verdict-none : (i : ℕ) → 1600 ≤ i → carried ≡ verdictAt i
+verdict-none i l = sym (ap (λ (b : Bool). elim b as (λ x. SheetVerdict) [ true ↦ failsAt (i / 40) (i % 40) | false ↦ carried ]) (le-ltb i 1600 l))
 
 or-not : (a b : Bool) → T (not (not a || b)) → T a × (T b → ⊥)
 or-not true true t = absurd t
@@ -61,21 +74,11 @@ or-so : (a b : Bool) → T (not a || b) → T a → T b
 or-so true b t u = t
 or-so false b t u = absurd u
 
-module _ (J : Job) (sheet : List ℕ) (ready : Ready J sheet) (rows : J .rows ≤ 40) (columns : J .columns ≤ 40) where
-  row-few : (r c : ℕ) → T (isTile J r c) → (r < 40) × (c < 40)
-  row-few r c t =
-      omega (
-        arith,
-        ltb→lt (suc r) (J .rows) (and-left (ltb (suc r) (J .rows)) (ltb (suc c) (J .columns)) t),
-        ltb→lt (suc c) (J .columns) (and-right (ltb (suc r) (J .rows)) (ltb (suc c) (J .columns)) t),
-        rows,
-        columns,
-      )
-
+module _ (J : Job) (sheet : List ℕ) (ready : Ready J sheet) where
   -- a tile whose number is before one that fails is carried
   passed : (i : ℕ) → First (passesAt J sheet) 1600 i → (r c : ℕ) → T (isTile J r c) → 40 * r + c < i → TileCarried J sheet r c
   passed i f r c t l =
-      let small = row-few r c t in
+      let small = tile-few J sheet ready r c t in
       let er : (40 * r + c) / 40 ≡ r = omega arith in
       let ec : (40 * r + c) % 40 ≡ c = omega arith in
       let u = subst₂ (λ (x y : ℕ). T (not (isTile J x y) || tileTest J sheet x y)) er ec (f .before (40 * r + c) l) in
@@ -98,9 +101,9 @@ module _ (J : Job) (sheet : List ℕ) (ready : Ready J sheet) (rows : J .rows �
       by true l q =
           let (t, n) = or-not (isTile J (i / 40) (i % 40)) (tileTest J sheet (i / 40) (i % 40)) (f .here (l tt)) in
           first-fails (i / 40) (i % 40) t (λ k. n (carried-test J sheet ready (i / 40) (i % 40) t k))
-          (λ r c u v. passed i f r c u (number-less i r c (row-few r c u .1) v))
+          (λ r c u v. passed i f r c u (number-less i r c (omega (arith, tile-few J sheet ready r c u .1)) v))
       by false l q =
-          all-carried (carried-tiles J sheet .1 (λ r c t. passed i f r c t (omega (arith, row-few r c t, ltb-false i 1600 q))))
+          all-carried (carried-tiles J sheet .1 (λ r c t. passed i f r c t (omega (arith, tile-few J sheet ready r c t, ltb-false i 1600 q))))
 
   -- a sheet that is not turned away has a verdict
   pub judged-some : (v : SheetVerdict) × Judged J sheet v

@@ -8,4 +8,6 @@ pub mod Table
 pub mod Glued
 pub mod Bytes
 pub mod Tiles
+pub mod Tests
 pub mod First
+pub mod Answered

@@ -1,17 +1,17 @@
 -- Whether a tile carries what a sheet brings to it and takes from it, by a test of the sheet's bytes: an open tile by the least D of its amounts, a closed one by
 -- having nothing at all on its sides and legs.
 -- Assumes nothing.
-use mathlib.Core.Path.{_≡_, refl, sym, ap, subst}
+use mathlib.Core.Path.{_≡_, refl, sym, ap, subst, _∙_}
 use mathlib.Core.Logic.{_≢_}
-use mathlib.Core.Bool.{Bool, true, false, _&&_}
+use mathlib.Core.Bool.{Bool, true, false, not, _&&_, _||_}
 use mathlib.Core.List.{List}
 use mathlib.Core.Option.{some}
 use Prim.Native.Nat.{ℕ, suc, _+_, _-_, _*_, _/_, _≤_, _<_}
 use native.Mathlib.Omega.{arith}
-use lib.Dec.{T, eqb, leb, eqb→eq, leb→le, le→leb}
+use lib.Dec.{T, eqb, leb, ltb, eqb→eq, leb→le, le→leb, ltb→lt}
 use borrow.Author.Tests.{eq-eqb}
 use Rattle.sums.specs.Counting.{those, total}
-use Rattle.sums.specs.Tests.{Same, same, other, same?, and-right, and-both, so}
+use Rattle.sums.specs.Tests.{Same, same, other, same?, and-left, and-right, and-both, so}
 use Rattle.model.specs.Job.{Job, centreLimit, tileD, isTile, isOpen, isClosed}
 use Rattle.model.specs.Links.{Compass, north, east, south, west, centre, side, at, Step, turn, pass}
 use Rattle.model.specs.Record.{forthPart, backPart}
@@ -59,13 +59,41 @@ shutTest sheet r c = eqb (tileBytes sheet r c) 0
 abbrev pub tileTest : Job → List ℕ → ℕ → ℕ → Bool
 tileTest J sheet r c = elim (isOpen J r c) [ true ↦ openTest J sheet r c | false ↦ shutTest sheet r c ]
 
+-- what it says of no tile, of an open one and of a closed one
+module _ (J : Job) (sheet : List ℕ) (r c : ℕ) where
+  pub passes-none : isTile J r c ≡ false → true ≡ (not (isTile J r c) || tileTest J sheet r c)
+  passes-none e = sym (ap (λ (b : Bool). not b || tileTest J sheet r c) e)
+
+  pub passes-open : (t : Bool) → isTile J r c ≡ true → isOpen J r c ≡ true → t ≡ openTest J sheet r c → t ≡ (not (isTile J r c) || tileTest J sheet r c)
+  passes-open t e o q =
+      q
+      ∙ sym (ap (λ (b : Bool). not b || tileTest J sheet r c) e ∙ ap (λ (b : Bool). elim b as (λ x. Bool) [ true ↦ openTest J sheet r c | false ↦ shutTest sheet r c ]) o)
+
+  pub passes-shut : (t : Bool) → isTile J r c ≡ true → isOpen J r c ≡ false → t ≡ shutTest sheet r c → t ≡ (not (isTile J r c) || tileTest J sheet r c)
+  passes-shut t e o q =
+      q
+      ∙ sym (ap (λ (b : Bool). not b || tileTest J sheet r c) e ∙ ap (λ (b : Bool). elim b as (λ x. Bool) [ true ↦ openTest J sheet r c | false ↦ shutTest sheet r c ]) o)
+
 -- ---- what a job and a sheet must be for it
 
 pub record Ready (J : Job) (sheet : List ℕ) : Type 0 where
   pub two : J .O ≡ 2
+  pub rows : J .rows ≤ 40
+  pub columns : J .columns ≤ 40
   pub states : (r c : ℕ) → J .state r c ≤ 1
   pub diagonals : (r c : ℕ) → tileD J r c ≤ 4
   pub fits : T (sheetFits J sheet)
+
+-- a tile lies within 39 rows and columns
+pub tile-few : (J : Job) (sheet : List ℕ) → Ready J sheet → (r c : ℕ) → T (isTile J r c) → (r < 39) × (c < 39)
+tile-few J sheet ready r c t =
+    omega (
+      arith,
+      ltb→lt (suc r) (J .rows) (and-left (ltb (suc r) (J .rows)) (ltb (suc c) (J .columns)) t),
+      ltb→lt (suc c) (J .columns) (and-right (ltb (suc r) (J .rows)) (ltb (suc c) (J .columns)) t),
+      ready .rows,
+      ready .columns,
+    )
 
 -- ---- bytes
 
@@ -122,7 +150,7 @@ module _ (J : Job) (sheet : List ℕ) (ready : Ready J sheet) (r c : ℕ) where
   abbrev p : ℕ
   p = centreLimit (J .O) (tileD J r c)
 
-  few-pass : 2 + p ≤ 4
+  pub few-pass : 2 + p ≤ 4
   few-pass = few (J .O) (tileD J r c) (ready .two) (ready .diagonals r c)
     where
       few : (o d : ℕ) → o ≡ 2 → d ≤ 4 → 2 + (d - 2 * (o / 2)) ≤ 4
