@@ -42,7 +42,7 @@ module _ (G : Net) where
   family-balanced (w ∷ ws) =
       balanced-add G (times (w .darts)) (carried ws) (λ u. when (eqb (w .from) u) 1) (started ws) (walk-balanced (w .chain) (w .ends)) (family-balanced ws)
 
-  sum-started : (ws : List Walk) → sum (G .nodes) (started ws) ≡ length ws
+  pub sum-started : (ws : List Walk) → sum (G .nodes) (started ws) ≡ length ws
   unfolding total
   sum-started [] = sum-none (G .nodes) (λ u. 0) (λ u l. refl)
   sum-started (w ∷ ws) =
@@ -53,8 +53,10 @@ module _ (G : Net) where
         sum-started ws,
       )
 
+-- A family of walks within the limits is a load within them.
+pub family-load : {G : Net} {ws : List (Walk G)} → Fits G ws → Load G (carried G ws) (started G ws)
+family-load {G} {ws} fits = record { within = fits .within; wanted = fits .wanted; balanced = family-balanced G ws }
+
 -- Every family of walks within the limits is at most the sum of every near side.
 pub family-le : {G : Net} {ws : List (Walk G)} {S : ℕ → Bool} → Fits G ws → Near G S → length ws ≤ cut G S
-family-le {G} {ws} {S} fits near =
-    let L : Load G (carried G ws) (started G ws) = record { within = fits .within; wanted = fits .wanted; balanced = family-balanced G ws } in
-    omega (arith, load-le L near, sum-started G ws)
+family-le {G} {ws} fits near = omega (arith, load-le (family-load fits) near, sum-started G ws)
