@@ -47,6 +47,8 @@ pub mod Wireds
 pub mod BothWays
 pub mod FourPins
 pub mod DirectExit
+pub mod Tolls
+pub mod LeastLengths
 pub mod LaneExamples
 pub mod LeftExamples
 pub mod Measures

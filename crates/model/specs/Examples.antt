@@ -251,6 +251,33 @@ jobEarlier = closed (closed (closed (marked (marked (fresh 3 3 1 1 0) 0 0 1) 1 0
 abbrev pub wireds : List Job
 wireds = job64 ∷ job33 ∷ jobTwo ∷ jobEarlier ∷ []
 
+-- ---- K8: least lengths
+
+pub record Measured : Type 0 where
+  pub job : Job
+  pub least : ℕ
+
+abbrev pub measured : Job → ℕ → Measured
+measured J n = record { job = J; least = n }
+
+-- 3 by 5, caps 1 2 0, of row 0 the tiles (0, 1), (0, 2), (0, 3) open and all other tiles closed, the inner pins (1, 1), (1, 2) chosen, and a wire already laid on
+-- the rim side of tile (0, 2). Each pin alone has a route of length 10, both over the rim side of tile (0, 1), which takes one; the other goes on to tile (0, 3).
+abbrev pub jobCrowded : Job
+jobCrowded =
+    laidBy
+    (closed (closed (closed (closed (closed (marked (marked (fresh 3 5 1 2 0) 1 1 1) 1 2 1) 0 0 1) 1 0 1) 1 1 1) 1 2 1) 1 3 1)
+    (sideOf 0 2 0) 1
+
+-- 3 by 4, caps 1 2 1, the tiles (0, 1), (0, 2), (1, 2) open, the inner pin (1, 1) chosen, and wires already laid on the rim sides of row 0. The way out is over
+-- tile (1, 2): from tile (0, 1) by the sides of tile (0, 2), 20, or past the pin (1, 2) if that is missing (mark 2), 14; and then 10 for the rim.
+abbrev pub jobCorner : ℕ → Job
+jobCorner m =
+    laidBy (laidBy (laidBy (closed (closed (closed (marked (marked (fresh 3 4 1 2 1) 1 1 1) 1 2 m) 0 0 1) 1 0 1) 1 1 1) (sideOf 0 1 0) 1) (sideOf 0 2 0) 1)
+    (sideOf 0 2 1) 1
+
+abbrev pub lengths : List Measured
+lengths = measured job64 0 ∷ measured job33 10 ∷ measured jobCrowded 30 ∷ measured (jobCorner 2) 24 ∷ measured (jobCorner 0) 30 ∷ []
+
 -- ---- direct exits: how many links lead from the pin straight to the outside
 
 pub record Exits : Type 0 where

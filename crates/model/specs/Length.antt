@@ -1,13 +1,17 @@
--- Document 01, "Length", and the crossings of a tile's diagonals of "The array and its channels". Assumes nothing.
+-- Document 01, "Length", the least length of document 02, K8, and the crossings of a tile's diagonals of "The array and its channels". f gives each step how
+-- many wires go along its link that way. Assumes nothing.
+use mathlib.Core.Path.{_≡_}
 use mathlib.Core.Bool.{Bool, true, false, not, _&&_, _||_, Bool·beq}
 use mathlib.Core.List.{List, [], _∷_}
-use Prim.Native.Nat.{ℕ, _+_, _*_}
+use Prim.Native.Nat.{ℕ, _+_, _*_, _≤_}
 use lib.Dec.{leb}
 use Rattle.sums.specs.Counting.{when, each, those, total, count}
 use Rattle.model.specs.Job.{Job}
-use Rattle.model.specs.Links.{Compass, north, east, south, west, PlaceKind, pin, missing, centre, outside, nowhere, side, at, places, samePlace, isMissingKind, northSide, westSide, corner, Link, link, linkCode, Step, go, come, head, tail, may, limit, pass}
-use Rattle.model.specs.Route.{uses}
+use Rattle.model.specs.Links.{Compass, north, east, south, west, PlaceKind, pin, missing, centre, outside, nowhere, side, at, places, samePlace, isPinKind, isMissingKind, northSide, westSide, corner, Link, link, linkCode, Step, go, come, head, tail, may, limit, pass}
+use Rattle.model.specs.Route.{Route, uses, Family}
 use Rattle.model.specs.Near.{size}
+use Rattle.model.specs.Wires.{isWired}
+use Rattle.model.specs.Left.{hopCount}
 
 abbrev pub isSide : Link → Bool
 isSide l = leb (linkCode (l .kind)) (linkCode westSide)
@@ -26,6 +30,29 @@ sides J = each (J .rows) (λ r. each (J .columns) (λ c. those (isLink J) (link 
 -- "The total is at most 10 times the side limits added plus 14×E for each missing pin."
 abbrev pub lengthBound : Job → ℕ
 lengthBound J = 10 * total (sides J) (λ l. size (limit J l)) + 14 * total (places J) (λ x. when (isMissingKind x) (size (pass J x)))
+
+-- ---- the least length
+
+-- "The total": of routes, all together
+abbrev pub routesLength : (J : Job) → List (Route J) → ℕ
+routesLength J rs = total rs (λ p. wireLength J (p .steps))
+
+-- K8: "The total length is exactly the least over all families of routes": some family has the length n, and none has less. A direct exit crosses no side and
+-- passes no missing pin, so that it counts 0.
+pub record LeastLength (J : Job) (n : ℕ) : Type 0 where
+  pub routes : List (Route J)
+  pub family : Family J routes
+  pub meets : routesLength J routes ≡ n
+  pub least : (rs : List (Route J)) → Family J rs → n ≤ routesLength J rs
+
+module _ (J : Job) (f : Step → ℕ) where
+  -- how long the wire of the pin (r, c) is, hop by hop
+  abbrev pub lengthFrom : ℕ → ℕ → ℕ
+  lengthFrom r c = 10 * hopCount J f (λ h. isSide (h .step .link)) r c + 14 * hopCount J f (λ h. isMissingKind (head J (h .step))) r c
+
+  -- the total of the wires that the loads hold
+  unfoldable pub heldLength : ℕ
+  heldLength = total (places J) (λ x. when (isPinKind x && isWired J f (x .row) (x .column)) (lengthFrom (x .row) (x .column)))
 
 -- ---- diagonals
 
