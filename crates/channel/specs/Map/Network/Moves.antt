@@ -105,6 +105,18 @@ module _ (J : Job) where
           let t = when-some (isLinkDart d && may J (stepOf d)) (size (limit J (stepOf d .link))) q .0 in
           along (and-left (isLinkDart d) (may J (stepOf d)) t) (and-right (isLinkDart d) (may J (stepOf d)) t)
 
+-- two loaded darts; taken back one after the other they lead from the tail of d to its head
+pub record Detour (rec : List ℕ) (d : ℕ) : Type 0 where
+  pub first : ℕ
+  pub second : ℕ
+  pub first< : first < darts
+  pub second< : second < darts
+  pub first-loaded : 0 < view rec first
+  pub second-loaded : 0 < view rec second
+  pub starts : rev first / 8 ≡ d / 8
+  pub meets : first / 8 ≡ rev second / 8
+  pub leads : second / 8 ≡ rev d / 8
+
 module _ (J : Job) (fits : T (arrayFits (J .rows) (J .columns))) (rec : List ℕ) (feasible : Feasible J (load rec)) where
   view-leads : (d : ℕ) → 0 < view rec d → Leads J d
   unfolding view passedOf
@@ -153,127 +165,167 @@ module _ (J : Job) (fits : T (arrayFits (J .rows) (J .columns))) (rec : List ℕ
 
   -- ---- the detours
 
-  module _ (S : ℕ → Bool) (closed : (d : ℕ) → d < darts → T (S (d / 8)) → T (moves J rec d) → T (S (rev d / 8))) where
-    abbrev In : ℕ → Type 0
-    In u = T (S u)
+  -- a loaded dart from the entry to the exit of a place that something comes to
+  crossing : (x : Place) → T (isPlace J x) → (k : ℕ) → pass J x ≡ some k → 0 < arrivals (load rec) x
+      → (b : ℕ) × (b < darts) × (0 < view rec b) × (b / 8 ≡ entry x) × (rev b / 8 ≡ exit x)
+  unfolding view
+  crossing x h k e p =
+      let (l, u, q) = place-pass J fits x h k e in
+      let d = 8 * entry x + 4 in
+      let (a, b) = pass-ends d l u in (
+        d,
+        l,
+        omega (arith, when-so (isPassDart d) (arrivals (load rec) (passedOf d)) u, ap (arrivals (load rec)) q),
+        sym a ∙ ap entry q,
+        sym b ∙ ap exit q,
+      )
 
-    undone : (d : ℕ) → d < darts → In (d / 8) → 0 < view rec (rev d) → In (rev d / 8)
-    unfolding moves
-    undone d l t p =
-        closed d l t (or-right (ltb (view rec d) (cap J d)) _ (or-left (ltb 0 (view rec (rev d))) _ (lt→ltb 0 (view rec (rev d)) p)))
+  -- along a link on which wires go the other way
+  module _ (d : ℕ) (l : d < darts) (t : T (isLinkDart d)) (m : T (may J (stepOf d))) (g : T (inGrid (ownerCell d))) (p : 0 < load rec (turn (stepOf d))) where
+    abbrev s : Step
+    s = stepOf d
 
-    -- a wire that goes along the dart e is taken back
-    taken : (e : ℕ) → e < darts → 0 < view rec e → In (rev e / 8) → In (e / 8)
-    taken e l p t =
-        let back : rev (rev e) ≡ e = rev-rev e l in
-        subst (λ (z : ℕ). In (z / 8)) back (undone (rev e) (rev< e l) t (subst (λ (z : ℕ). 0 < view rec z) (sym back) p))
+    abbrev e : ℕ
+    e = dartOf (turn s)
 
-    -- through a place that something comes to, from its exit to its entry
-    crossed : (x : Place) → T (isPlace J x) → (k : ℕ) → pass J x ≡ some k → 0 < arrivals (load rec) x → In (exit x) → In (entry x)
+    on : OnGrid (turn s)
+    on = record { row< = step-grid d g .row<; column< = step-grid d g .column< }
+
+    back-may : T (may J (turn s))
+    back-may = loaded-may feasible (turn s) p
+
+    tail-place : T (isPlace J (tail J s))
+    tail-place = may-leaves J s m
+
+    head-place : T (isPlace J (head J s))
+    head-place = subst (λ (z : Step). T (isPlace J (head J z))) (turn-turn s) (may-leaves J (turn s) back-may)
+
+    -- the dart e carries them, from the exit of the head to the entry of the tail
+    e-step : stepOf e ≡ turn s
+    e-step = dart-step (turn s) on .2
+
+    e< : e < darts
+    e< = dart-step (turn s) on .0
+
+    e-link : T (isLinkDart e)
+    e-link = dart-step (turn s) on .1
+
+    e-may : T (may J (stepOf e))
+    e-may = subst (λ (z : Step). T (may J z)) (sym e-step) back-may
+
+    loaded : 0 < view rec e
     unfolding view
-    crossed x h k e p t =
-        let (l, u, q) = place-pass J fits x h k e in
-        let d = 8 * entry x + 4 in
-        let v : 0 < view rec d =
-        omega (arith, when-so (isPassDart d) (arrivals (load rec) (passedOf d)) u, ap (arrivals (load rec)) q) in
-        let (a, b) = pass-ends d l u in
-        subst In (sym a ∙ ap entry q)
-        (taken d l v (subst In (sym (ap exit q) ∙ b) t))
+    loaded = omega (arith, when-so (isLinkDart e) (load rec (stepOf e)) e-link, ap (load rec) e-step)
 
-    -- along a link on which wires go the other way
-    module _ (d : ℕ) (l : d < darts) (t : T (isLinkDart d)) (m : T (may J (stepOf d))) (g : T (inGrid (ownerCell d))) (p : 0 < load rec (turn (stepOf d))) where
-      abbrev s : Step
-      s = stepOf d
+    e-from : e / 8 ≡ exit (head J s)
+    e-from =
+        sym (link-tail J fits e e< e-link e-may .0) ∙ (ap (λ (z : Step). exit (tail J z)) e-step ∙ ap (λ (z : Step). exit (head J z)) (turn-turn s))
 
-      abbrev e : ℕ
-      e = dartOf (turn s)
+    e-to : rev e / 8 ≡ entry (tail J s)
+    e-to =
+        link-entry e e< e-link e-may (subst (λ (z : Step). T (isPlace J (head J z))) (sym e-step) tail-place)
+        ∙ ap (λ (z : Step). entry (head J z)) e-step
 
-      on : OnGrid (turn s)
-      on = record { row< = step-grid d g .row<; column< = step-grid d g .column< }
+    d-from : exit (tail J s) ≡ d / 8
+    d-from = link-tail J fits d l t m .0
 
-      back-may : T (may J (turn s))
-      back-may = loaded-may feasible (turn s) p
+    d-to : rev d / 8 ≡ entry (head J s)
+    d-to = link-entry d l t m head-place
 
-      tail-place : T (isPlace J (tail J s))
-      tail-place = may-leaves J s m
+    -- so something comes to both ends
+    tail-arrivals : 0 < arrivals (load rec) (tail J s)
+    unfolding arrivals
+    tail-arrivals = omega (arith, total-has (around (tail J s)) (λ z. load rec (turn z)) (step-listed J s tail-place))
 
-      head-place : T (isPlace J (head J s))
-      head-place = subst (λ (z : Step). T (isPlace J (head J z))) (turn-turn s) (may-leaves J (turn s) back-may)
+    head-arrivals : 0 < arrivals (load rec) (head J s)
+    unfolding departures
+    head-arrivals =
+        omega (
+          arith,
+          feasible .balance (head J s) head-place (may-enters J s m),
+          total-has (around (tail J (turn s))) (load rec) (step-listed J (turn s) (may-leaves J (turn s) back-may)),
+          ap (λ (z : Step). total (around (head J z)) (load rec)) (turn-turn s),
+        )
 
-      -- the dart e carries them, from the exit of the head to the entry of the tail
-      e-step : stepOf e ≡ turn s
-      e-step = dart-step (turn s) on .2
+    detoured : Ends J (head J s) (tail J s) ⊎ Ends J (tail J s) (head J s) → Detour rec d
+    detoured (inl (ends k q plain)) =
+        let (b, b<, v, x, y) = crossing (head J s) head-place k q head-arrivals in
+        record {
+          first = e;
+          second = b;
+          first< = e<;
+          second< = b<;
+          first-loaded = loaded;
+          second-loaded = v;
+          starts = e-to ∙ (plain ∙ d-from);
+          meets = e-from ∙ sym y;
+          leads = x ∙ sym d-to;
+        }
+    detoured (inr (ends k q plain)) =
+        let (b, b<, v, x, y) = crossing (tail J s) tail-place k q tail-arrivals in
+        record {
+          first = b;
+          second = e;
+          first< = b<;
+          second< = e<;
+          first-loaded = v;
+          second-loaded = loaded;
+          starts = y ∙ d-from;
+          meets = x ∙ sym e-to;
+          leads = e-from ∙ (sym plain ∙ sym d-to);
+        }
 
-      e< : e < darts
-      e< = dart-step (turn s) on .0
+  -- Where a dart without limit is held back, since wires go the other way on its link, two moves that take such a wire back lead to the same spot.
+  pub free-detour : (d : ℕ) → d < darts → T (free J d) → 0 < opposed rec d → Detour rec d
+  free-detour d l f p =
+      let (g, q) = when-some (inGrid (ownerCell d)) (load rec (turn (stepOf d))) (unfold opposed in p) in
+      detoured d l (free-link J d f) (free-may J d f) g q (free-ends J (stepOf d) (free-unlimited J d f))
 
-      e-link : T (isLinkDart e)
-      e-link = dart-step (turn s) on .1
+-- what a move is
+pub undo-moves : (J : Job) (rec : List ℕ) (d : ℕ) → 0 < view rec (rev d) → T (moves J rec d)
+unfolding moves
+undo-moves J rec d p = or-right (ltb (view rec d) (cap J d)) _ (or-left (ltb 0 (view rec (rev d))) _ (lt→ltb 0 (view rec (rev d)) p))
 
-      e-may : T (may J (stepOf e))
-      e-may = subst (λ (z : Step). T (may J z)) (sym e-step) back-may
+pub room-moves : (J : Job) (rec : List ℕ) (d : ℕ) → view rec d < cap J d → T (moves J rec d)
+unfolding moves
+room-moves J rec d p = or-left (ltb (view rec d) (cap J d)) _ (lt→ltb (view rec d) (cap J d) p)
 
-      loaded : 0 < view rec e
-      unfolding view
-      loaded = omega (arith, when-so (isLinkDart e) (load rec (stepOf e)) e-link, ap (load rec) e-step)
+pub free-moves : (J : Job) (rec : List ℕ) (d : ℕ) → T (free J d) → opposed rec d ≡ 0 → T (moves J rec d)
+unfolding moves
+free-moves J rec d f e =
+    or-right (ltb (view rec d) (cap J d)) _ (or-right (ltb 0 (view rec (rev d))) _ (and-both (free J d) (eqb (opposed rec d) 0) f (rw e tt)))
 
-      e-from : e / 8 ≡ exit (head J s)
-      e-from =
-          sym (link-tail J fits e e< e-link e-may .0) ∙ (ap (λ (z : Step). exit (tail J z)) e-step ∙ ap (λ (z : Step). exit (head J z)) (turn-turn s))
+-- ---- sets closed under moves
 
-      e-to : rev e / 8 ≡ entry (tail J s)
-      e-to =
-          link-entry e e< e-link e-may (subst (λ (z : Step). T (isPlace J (head J z))) (sym e-step) tail-place)
-          ∙ ap (λ (z : Step). entry (head J z)) e-step
+module _ (J : Job) (fits : T (arrayFits (J .rows) (J .columns))) (rec : List ℕ) (feasible : Feasible J (load rec)) (S : ℕ → Bool)
+    (closed : (d : ℕ) → d < darts → T (S (d / 8)) → T (moves J rec d) → T (S (rev d / 8))) where
+  abbrev In : ℕ → Type 0
+  In u = T (S u)
 
-      d-from : exit (tail J s) ≡ d / 8
-      d-from = link-tail J fits d l t m .0
+  -- a wire that goes along the dart e is taken back
+  taken : (e : ℕ) → e < darts → 0 < view rec e → In (rev e / 8) → In (e / 8)
+  taken e l p t =
+      let back : rev (rev e) ≡ e = rev-rev e l in
+      subst (λ (z : ℕ). In (z / 8)) back
+      (closed (rev e) (rev< e l) t (undo-moves J rec (rev e) (subst (λ (z : ℕ). 0 < view rec z) (sym back) p)))
 
-      d-to : rev d / 8 ≡ entry (head J s)
-      d-to = link-entry d l t m head-place
+  freed : (d : ℕ) → d < darts → In (d / 8) → T (free J d) → In (rev d / 8)
+  freed d l i f = by (eq-zero-or-pos (opposed rec d))
+    where
+      by : (opposed rec d ≡ 0) ⊎ (0 < opposed rec d) → In (rev d / 8)
+      by (inl e) = closed d l i (free-moves J rec d f e)
+      by (inr p) =
+          let D : Detour rec d = free-detour J fits rec feasible d l f p in
+          subst In (D .leads)
+          (taken (D .second) (D .second<) (D .second-loaded)
+          (subst In (D .meets) (taken (D .first) (D .first<) (D .first-loaded) (subst In (sym (D .starts)) i))))
 
-      -- so something comes to both ends
-      tail-arrivals : 0 < arrivals (load rec) (tail J s)
-      unfolding arrivals
-      tail-arrivals = omega (arith, total-has (around (tail J s)) (λ z. load rec (turn z)) (step-listed J s tail-place))
+  residual : (d : ℕ) → d < darts → In (d / 8) → Residual (net J) (view rec) d → In (rev d / 8)
+  unfolding net
+  residual d l t (undo p) = closed d l t (undo-moves J rec d p)
+  residual d l t (room p) = closed d l t (room-moves J rec d p)
+  residual d l t (unlimited f) = freed d l t f
 
-      head-arrivals : 0 < arrivals (load rec) (head J s)
-      unfolding departures
-      head-arrivals =
-          omega (
-            arith,
-            feasible .balance (head J s) head-place (may-enters J s m),
-            total-has (around (tail J (turn s))) (load rec) (step-listed J (turn s) (may-leaves J (turn s) back-may)),
-            ap (λ (z : Step). total (around (head J z)) (load rec)) (turn-turn s),
-          )
-
-      detour : Ends J (head J s) (tail J s) ⊎ Ends J (tail J s) (head J s) → In (d / 8) → In (rev d / 8)
-      detour (inl (ends k q plain)) i =
-          subst In (sym d-to)
-          (crossed (head J s) head-place k q head-arrivals (subst In e-from (taken e e< loaded (subst In (sym (e-to ∙ (plain ∙ d-from))) i))))
-      detour (inr (ends k q plain)) i =
-          subst In (e-from ∙ (sym plain ∙ sym d-to))
-          (taken e e< loaded (subst In (sym e-to) (crossed (tail J s) tail-place k q tail-arrivals (subst In (sym d-from) i))))
-
-    freed : (d : ℕ) → d < darts → In (d / 8) → T (free J d) → In (rev d / 8)
-    unfolding moves
-    freed d l i f = by (eq-zero-or-pos (opposed rec d))
-      where
-        by : (opposed rec d ≡ 0) ⊎ (0 < opposed rec d) → In (rev d / 8)
-        by (inl e) =
-            closed d l i
-            (or-right (ltb (view rec d) (cap J d)) _
-            (or-right (ltb 0 (view rec (rev d))) _ (and-both (free J d) (eqb (opposed rec d) 0) f (rw e tt))))
-        by (inr p) =
-            let (g, q) = when-some (inGrid (ownerCell d)) (load rec (turn (stepOf d))) (unfold opposed in p) in
-            detour d l (free-link J d f) (free-may J d f) g q (free-ends J (stepOf d) (free-unlimited J d f)) i
-
-    residual : (d : ℕ) → d < darts → In (d / 8) → Residual (net J) (view rec) d → In (rev d / 8)
-    unfolding net moves
-    residual d l t (undo p) = undone d l t p
-    residual d l t (room p) = closed d l t (or-left (ltb (view rec d) (cap J d)) _ (lt→ltb (view rec d) (cap J d) p))
-    residual d l t (unlimited f) = freed d l t f
-
-    pub closed-residual : Closed (net J) (view rec) S
-    unfolding net
-    closed-residual = record { moves = residual }
+  pub closed-residual : Closed (net J) (view rec) S
+  unfolding net
+  closed-residual = record { moves = residual }

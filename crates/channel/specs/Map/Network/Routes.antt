@@ -8,14 +8,15 @@ use mathlib.Core.Option.{some}
 use Prim.Native.Nat.{ℕ, _+_, _*_, _/_, _%_, _≤_, _<_}
 use native.Mathlib.Omega.{arith}
 use lib.Dec.{T, eqb, eqb→eq}
-use Rattle.sums.specs.Counting.{when, only, total}
+use Rattle.sums.specs.Counting.{when, only, total, count}
 use Rattle.sums.specs.Tests.{and-left, and-right, and-both, so, so-not}
-use Rattle.sums.specs.Sums.{when-add, when-le, when-and, when-implies}
+use Rattle.sums.specs.Sums.{when-add, when-le, when-so, when-none, when-and, when-implies}
 use Rattle.sums.specs.Totals.{total-add, total-le, total-append, total-when, total-map}
 use Rattle.flow.specs.Network.{times, Chain as NetChain, stop, step}
 use Rattle.flow.specs.Walk.{Walk, Fits, carried, started}
 use Rattle.model.specs.Job.{Job, arrayFits}
-use Rattle.model.specs.Links.{PlaceKind, pin, missing, centre, nowhere, side, Place, at, theOutside, isPlace, isEntered, samePlace, sameLink, Step, head, may, limit, pass}
+use Rattle.model.specs.Links.{north, east, south, west, PlaceKind, pin, missing, centre, nowhere, side, isMissingKind, Place, at, theOutside, isPlace, isEntered, samePlace, sameLink, Step, head, may, limit, pass}
+use Rattle.model.specs.Length.{isSide, wireLength}
 use Rattle.model.specs.Near.{spot, entryOf, exitOf, entry, exit, size}
 use Rattle.model.specs.Route.{Chain, Route, uses, visits, Together}
 use Rattle.model.proofs.Listed.{may-leaves, may-enters}
@@ -24,11 +25,16 @@ use Rattle.channel.specs.Map.{codeOf, countsTwice, EndsAt}
 use Rattle.channel.specs.Map.{spots, darts, rowOf, columnOf, rev, stepOf, isLinkDart, isPassDart, passedOf, cap, free, isStart, want, outside}
 use Rattle.channel.specs.Map.Darts.{cell-row, cell-column}
 use Rattle.channel.specs.Map.Steps.{dartOf, place-pass, pass-ends}
+use Rattle.channel.specs.Map.RowLoads.{link-or-pass}
 use Rattle.channel.specs.Map.Network.{net}
 use Rattle.channel.specs.Map.Limits.{not-free-limited}
 use Rattle.channel.specs.Map.Taken.{may-dart, step-tail, step-head}
 use Rattle.channel.specs.Map.Spots.{held-grid}
 use Rattle.channel.specs.Map.Sums.{start-at}
+
+-- "A wire counts 10 for each side crossed, the rim included, and 14 for each missing pin passed": what a dart counts
+unfoldable pub dartLength : ℕ → ℕ
+dartLength d = when (isLinkDart d) (10 * when (isSide (stepOf d .link)) 1) + when (isPassDart d) (14 * when (isMissingKind (passedOf d)) 1)
 
 -- the dart from a place's entry to its exit
 abbrev passageOf : Place → ℕ
@@ -273,3 +279,96 @@ module _ (J : Job) (fits : T (arrayFits (J .rows) (J .columns))) where
   pub routes-fit : (rs : List (Route J)) → Together J rs → Fits (net J) (map route-walk rs)
   unfolding net
   routes-fit rs F = record { within = carried-le rs F; wanted = started-le rs F }
+
+  -- ---- what it costs
+
+  -- a dart along a side costs 10, and one through a missing pin 14
+  step-length : (s : Step) → T (may J s) → dartLength (dartOf s) ≡ 10 * when (isSide (s .link)) 1
+  unfolding dartLength
+  step-length s m =
+      let (l, t, q) = may-dart J fits s m in
+      let a : when (isLinkDart (dartOf s)) (10 * when (isSide (stepOf (dartOf s) .link)) 1) ≡ 10 * when (isSide (s .link)) 1 =
+      when-so (isLinkDart (dartOf s)) _ t ∙ ap (λ (x : Step). 10 * when (isSide (x .link)) 1) q in
+      omega (arith, a, when-none (isPassDart (dartOf s)) (14 * when (isMissingKind (passedOf (dartOf s))) 1) (λ u. absurd (link-or-pass (dartOf s) t u)))
+
+  passage-length : (x : Place) → T (countsTwice (x .kind)) → T (isPlace J x) → dartLength (passageOf x) ≡ 14 * when (isMissingKind x) 1
+  unfolding dartLength
+  passage-length x t p =
+      let (n, z) = twice-limit J (x .kind) (x .row) (x .column) t in
+      let (l, u, q) = place-pass J fits x p n z in
+      let a : when (isPassDart (passageOf x)) (14 * when (isMissingKind (passedOf (passageOf x))) 1) ≡ 14 * when (isMissingKind x) 1 =
+      when-so (isPassDart (passageOf x)) _ u ∙ ap (λ (y : Place). 14 * when (isMissingKind y) 1) q in
+      omega (arith, a, when-none (isLinkDart (passageOf x)) (10 * when (isSide (stepOf (passageOf x) .link)) 1) (λ v. absurd (link-or-pass (passageOf x) v u)))
+
+  -- a missing pin counts twice
+  missing-twice : (k : PlaceKind) (r c : ℕ) → countsTwice k ≡ false → when (isMissingKind (at k r c)) 1 ≡ 0
+  unfolding countsTwice
+  missing-twice pin r c e = refl
+  missing-twice missing r c e = let z : _≡_ {A = Bool} true false = e in absurd (subst T z tt)
+  missing-twice centre r c e = refl
+  missing-twice PlaceKind.outside r c e = refl
+  missing-twice nowhere r c e = refl
+  missing-twice (side north) r c e = refl
+  missing-twice (side east) r c e = refl
+  missing-twice (side south) r c e = refl
+  missing-twice (side west) r c e = refl
+
+  passages-length : (s : Step) → T (may J s) → total (passages J (head J s)) dartLength ≡ 14 * when (isMissingKind (head J s)) 1
+  unfolding total
+  passages-length s m = by (countsTwice (x .kind)) refl
+    where
+      x : Place
+      x = head J s
+
+      by : (b : Bool) → countsTwice (x .kind) ≡ b → total (only b (passageOf x ∷ [])) dartLength ≡ 14 * when (isMissingKind x) 1
+      by true q = omega (arith, passage-length x (so q) (twice-place J (x .kind) (x .row) (x .column) (so q) (may-enters J s m)))
+      by false q = omega (arith, missing-twice (x .kind) (x .row) (x .column) q)
+
+  chain-length : (x : Place) (ss : List Step) → Chain J x ss → total (routeDarts J ss) dartLength ≡ wireLength J ss
+  unfolding routeDarts total
+  chain-length x [] c = refl
+  chain-length x (s ∷ ss) c =
+      omega (
+        arith,
+        step-length s (c .1),
+        passages-length s (c .1),
+        chain-length (head J s) ss (c .2),
+        total-append (passages J (head J s)) (routeDarts J ss) dartLength,
+      )
+
+  -- A walk costs the length of its route.
+  pub route-length : (p : Route J) → total (route-walk p .darts) dartLength ≡ wireLength J (p .steps)
+  unfolding route-walk
+  route-length p = chain-length (at pin (p .row) (p .column)) (p .steps) (p .chain)
+
+  -- ---- what its darts carry
+
+  step-takes : (s : Step) (d : ℕ) → T (may J s) → when (eqb (dartOf s) d) 1 ≤ when (isLinkDart d) (when (eqb (dartOf s) d) 1)
+  step-takes s d m =
+      omega (
+        arith,
+        when-and (isLinkDart d) (eqb (dartOf s) d) 1,
+        when-implies (eqb (dartOf s) d) (isLinkDart d && eqb (dartOf s) d) 1
+            (λ t. and-both (isLinkDart d) (eqb (dartOf s) d) (subst (λ (y : ℕ). T (isLinkDart y)) (eqb→eq (dartOf s) d t) (may-dart J fits s m .1)) t),
+      )
+
+  chain-takes : (x : Place) (ss : List Step) (d : ℕ) → Chain J x ss
+      → times (routeDarts J ss) d ≤ when (isLinkDart d) (count ss (λ s. eqb (dartOf s) d)) + when (leadsThrough d) (visits J (passedOf d) ss)
+  unfolding routeDarts total
+  chain-takes x [] d c = omega arith
+  chain-takes x (s ∷ ss) d c =
+      omega (
+        arith,
+        step-takes s d (c .1),
+        step-visits s d (c .1),
+        chain-takes (head J s) ss d (c .2),
+        total-append (passages J (head J s)) (routeDarts J ss) (λ e. when (eqb e d) 1),
+        when-add (isLinkDart d) (when (eqb (dartOf s) d) 1) (count ss (λ s. eqb (dartOf s) d)),
+        when-add (leadsThrough d) (when (samePlace (passedOf d) (head J s)) 1) (visits J (passedOf d) ss),
+      )
+
+  -- A walk takes a dart only as often as its route takes the dart's step, or comes to the place that it passes.
+  pub route-takes : (p : Route J) (d : ℕ) → times (route-walk p .darts) d
+      ≤ when (isLinkDart d) (count (p .steps) (λ s. eqb (dartOf s) d)) + when (isPassDart d && isPlace J (passedOf d)) (visits J (passedOf d) (p .steps))
+  unfolding route-walk
+  route-takes p d = chain-takes (at pin (p .row) (p .column)) (p .steps) d (p .chain)
