@@ -2,6 +2,7 @@
 -- and what one move stores. Every definition of this file is shut: a crate above sees its name and the laws, never its text. Assumes nothing.
 pub mod Rows
 pub mod Back
+pub mod Lengths
 pub mod Numbers
 pub mod Darts
 pub mod Ends

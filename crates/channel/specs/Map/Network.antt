@@ -64,6 +64,18 @@ module _ (J : Job) where
   unfolding net
   net-head d = refl
 
+  pub net-cap : net J .cap ≡ cap J
+  unfolding net
+  net-cap = refl
+
+  pub net-free : net J .free ≡ free J
+  unfolding net
+  net-free = refl
+
+  pub net-want : net J .want ≡ want J
+  unfolding net
+  net-want = refl
+
   pub net-outside : net J .outside ≡ outside J
   unfolding net
   net-outside = refl

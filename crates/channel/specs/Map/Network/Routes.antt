@@ -10,7 +10,7 @@ use native.Mathlib.Omega.{arith}
 use lib.Dec.{T, eqb, eqb→eq}
 use Rattle.sums.specs.Counting.{when, only, total, count}
 use Rattle.sums.specs.Tests.{and-left, and-right, and-both, so, so-not}
-use Rattle.sums.specs.Sums.{when-add, when-le, when-so, when-none, when-and, when-implies}
+use Rattle.sums.specs.Sums.{when-add, when-le, when-and, when-implies}
 use Rattle.sums.specs.Totals.{total-add, total-le, total-append, total-when, total-map}
 use Rattle.flow.specs.Network.{times, Chain as NetChain, stop, step}
 use Rattle.flow.specs.Walk.{Walk, Fits, carried, started}
@@ -25,16 +25,12 @@ use Rattle.channel.specs.Map.{codeOf, countsTwice, EndsAt}
 use Rattle.channel.specs.Map.{spots, darts, rowOf, columnOf, rev, stepOf, isLinkDart, isPassDart, passedOf, cap, free, isStart, want, outside}
 use Rattle.channel.specs.Map.Darts.{cell-row, cell-column}
 use Rattle.channel.specs.Map.Steps.{dartOf, place-pass, pass-ends}
-use Rattle.channel.specs.Map.RowLoads.{link-or-pass}
+use Rattle.channel.specs.Map.Lengths.{dartLength, link-length, pass-length}
 use Rattle.channel.specs.Map.Network.{net}
 use Rattle.channel.specs.Map.Limits.{not-free-limited}
 use Rattle.channel.specs.Map.Taken.{may-dart, step-tail, step-head}
 use Rattle.channel.specs.Map.Spots.{held-grid}
 use Rattle.channel.specs.Map.Sums.{start-at}
-
--- "A wire counts 10 for each side crossed, the rim included, and 14 for each missing pin passed": what a dart counts
-unfoldable pub dartLength : ℕ → ℕ
-dartLength d = when (isLinkDart d) (10 * when (isSide (stepOf d .link)) 1) + when (isPassDart d) (14 * when (isMissingKind (passedOf d)) 1)
 
 -- the dart from a place's entry to its exit
 abbrev passageOf : Place → ℕ
@@ -282,23 +278,16 @@ module _ (J : Job) (fits : T (arrayFits (J .rows) (J .columns))) where
 
   -- ---- what it costs
 
-  -- a dart along a side costs 10, and one through a missing pin 14
   step-length : (s : Step) → T (may J s) → dartLength (dartOf s) ≡ 10 * when (isSide (s .link)) 1
-  unfolding dartLength
   step-length s m =
       let (l, t, q) = may-dart J fits s m in
-      let a : when (isLinkDart (dartOf s)) (10 * when (isSide (stepOf (dartOf s) .link)) 1) ≡ 10 * when (isSide (s .link)) 1 =
-      when-so (isLinkDart (dartOf s)) _ t ∙ ap (λ (x : Step). 10 * when (isSide (x .link)) 1) q in
-      omega (arith, a, when-none (isPassDart (dartOf s)) (14 * when (isMissingKind (passedOf (dartOf s))) 1) (λ u. absurd (link-or-pass (dartOf s) t u)))
+      link-length (dartOf s) t ∙ ap (λ (x : Step). 10 * when (isSide (x .link)) 1) q
 
   passage-length : (x : Place) → T (countsTwice (x .kind)) → T (isPlace J x) → dartLength (passageOf x) ≡ 14 * when (isMissingKind x) 1
-  unfolding dartLength
   passage-length x t p =
       let (n, z) = twice-limit J (x .kind) (x .row) (x .column) t in
       let (l, u, q) = place-pass J fits x p n z in
-      let a : when (isPassDart (passageOf x)) (14 * when (isMissingKind (passedOf (passageOf x))) 1) ≡ 14 * when (isMissingKind x) 1 =
-      when-so (isPassDart (passageOf x)) _ u ∙ ap (λ (y : Place). 14 * when (isMissingKind y) 1) q in
-      omega (arith, a, when-none (isLinkDart (passageOf x)) (10 * when (isSide (stepOf (passageOf x) .link)) 1) (λ v. absurd (link-or-pass (passageOf x) v u)))
+      pass-length (passageOf x) u ∙ ap (λ (y : Place). 14 * when (isMissingKind y) 1) q
 
   -- a missing pin counts twice
   missing-twice : (k : PlaceKind) (r c : ℕ) → countsTwice k ≡ false → when (isMissingKind (at k r c)) 1 ≡ 0
