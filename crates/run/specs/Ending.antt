@@ -15,7 +15,7 @@ use Rattle.model.specs.Calls.{part, Answer, refused, allWired, short, lists, Af
 use Rattle.model.specs.Run.{Word, Service, Ended}
 use Rattle.wire.specs.Held.{sound-holds}
 use Rattle.run.specs.Invariant.{Kept}
-use Rattle.run.specs.Families.{chosen-le-family, wires-family}
+use Rattle.wire.specs.Families.{chosen-le-family, wires-family}
 use Rattle.run.specs.Rows.{Stop}
 
 module _ (S : Service) (J : Job) where

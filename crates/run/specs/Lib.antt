@@ -4,7 +4,6 @@ pub mod OthersStay
 pub mod AfterEdit
 pub mod Invariant
 pub mod Runs
-pub mod Families
 -- Steps, and rows of them.
 pub mod Says
 pub mod Rows

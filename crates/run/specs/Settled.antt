@@ -24,7 +24,7 @@ use Rattle.model.proofs.Empty.{nothing-chosen}
 use Rattle.model.proofs.ShortByTest.{ShortHolds}
 use Rattle.model.proofs.Shorts.{shorts-hold}
 use Rattle.model.proofs.Wireds.{wireds-hold}
-use Rattle.run.specs.Families.{chosen-le-family}
+use Rattle.wire.specs.Families.{chosen-le-family}
 use Rattle.run.specs.Demand3.{demand3}
 
 -- ---- a short job

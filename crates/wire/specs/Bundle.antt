@@ -77,6 +77,26 @@ module _ (J : Job) (f : Step → ℕ) (S : Sound J f) where
       by true e = refl
       by false e = refl
 
+  -- a number of each strand that is one of its pin
+  pub strands-total : (l : List Place) (g : Strand J f → ℕ) (h : Place → ℕ) → ((t : Strand J f) → g t ≡ h (pinOf t))
+      → total (strands l) g ≡ total l (λ x. when (wiredPin x) (h x))
+  unfolding strands strandAt total
+  strands-total [] g h e = refl
+  strands-total (x ∷ l) g h e = omega (arith, total-append (strandAt x (wiredPin x) refl) (strands l) g, by (wiredPin x) refl, strands-total l g h e)
+    where
+      by : (b : Bool) (q : wiredPin x ≡ b) → total (strandAt x b q) g ≡ when b (h x)
+      by true q = omega (
+        arith,
+        e (record {
+          row = x .row;
+          column = x .column;
+          wired = and-right (isPinKind x) (isWired J f (x .row) (x .column)) (so q);
+          thread = thread J f S (x .row) (x .column) (and-right (isPinKind x) (isWired J f (x .row) (x .column)) (so q));
+        }),
+        ap h (pin-place x (and-left (isPinKind x) (isWired J f (x .row) (x .column)) (so q))),
+      )
+      by false q = refl
+
   pub strands-at : (x : Place) (l : List Place) → count (strands l) (λ t. samePlace x (pinOf t)) ≤ count l (samePlace x)
   unfolding strands strandAt total
   strands-at x [] = omega arith

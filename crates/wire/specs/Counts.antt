@@ -134,7 +134,7 @@ module _ (f : Step → ℕ) (hs : List Hop) (loaded : (h : Hop) → List·Memᴰ
           when-so (sameHop (on s i) (on s i)) 1 (same-hop (on s i)),
         )
 
-    step-full : (s : Step) → count hs (λ h. sameStep s (h .step)) ≡ f s
+    pub step-full : (s : Step) → count hs (λ h. sameStep s (h .step)) ≡ f s
     step-full s =
         omega (
           arith,
@@ -153,7 +153,7 @@ module _ (f : Step → ℕ) (hs : List Hop) (loaded : (h : Hop) → List·Memᴰ
     link-hops l k e =
         omega (arith, link-ways l, step-hops (way l true), step-hops (way l false), F .limits (way l true) k e)
 
-    place-hops : (x : Place) → T (isPlace J x) → count hs (λ h. samePlace x (head J (h .step))) ≤ arrivals f x
+    pub place-hops : (x : Place) → T (isPlace J x) → count hs (λ h. samePlace x (head J (h .step))) ≤ arrivals f x
     unfolding arrivals
     place-hops x p =
         omega (

@@ -5,23 +5,26 @@ use mathlib.Core.Bool.{true, false}
 use mathlib.Core.List.{List, [], _∷_, map, List·Memᴰ, List·Memᴰ·head, List·Memᴰ·tail, List·Memᴰ·not-nil}
 use Prim.Native.Nat.{ℕ, _+_, _≤_}
 use native.Mathlib.Omega.{arith}
+use lib.Dec.{T}
 use lib.ListN.{length, length-map}
 use Rattle.sums.specs.Counting.{when, total, count}
 use Rattle.sums.specs.Totals.{total-cong, total-map}
 use Rattle.model.specs.Job.{Job}
-use Rattle.model.specs.Links.{pin, Place, at, places, samePlace, Link, sameLink, Step, head}
+use Rattle.model.specs.Links.{pin, Place, at, isPlace, places, samePlace, Link, sameLink, sameStep, Step, head}
 use Rattle.model.specs.Route.{Route, uses, visits, Together}
-use Rattle.model.specs.Loads.{Sound}
+use Rattle.model.specs.Loads.{arrivals, Sound}
+use Rattle.model.specs.Length.{wireLength, routesLength, lengthFrom, heldLength}
 use Rattle.model.specs.Wires.{Hop, ends, arrives, Wire, wireCount, Holds}
 use Rattle.model.proofs.Listed.{place-listed}
 use Rattle.pairing.specs.Perfect.{pairs-nested}
 use Rattle.wire.specs.Ways.{way}
 use Rattle.wire.specs.Next.{Loaded}
 use Rattle.wire.specs.Follow.{stepsOf}
-use Rattle.wire.specs.Counts.{sameHop, link-full, link-hops, passing-hops}
+use Rattle.wire.specs.Counts.{sameHop, step-full, place-hops, link-full, link-hops, passing-hops}
 use Rattle.wire.specs.Places.{places-once}
+use Rattle.wire.specs.WireLength.{thread-length}
 use Rattle.wire.specs.Threads.{wired-chosen, routeOf, thread-wire, thread-once}
-use Rattle.wire.specs.Bundle.{Strand, strandHops, strands, strands-count, strands-at, strands-has, hopsOf, hops-total, hops-loaded, hops-all, hops-once}
+use Rattle.wire.specs.Bundle.{Strand, strandHops, strands, strands-count, strands-total, strands-at, strands-has, hopsOf, hops-total, hops-loaded, hops-all, hops-once}
 
 -- an entry of a list of images is one
 images : {A B : Type 0} (g : A → B) (P : B → Type 0) (l : List A) → ((a : A) → P (g a)) → (b : B) → List·Memᴰ b (map g l) → P b
@@ -81,6 +84,22 @@ module _ (J : Job) (f : Step → ℕ) (S : Sound J f) where
   pub routes-full : (l : Link) → total wireRoutes (λ p. uses l (p .steps)) ≡ f (way l true) + f (way l false)
   unfolding ts
   routes-full l = steps-hops (λ s. when (sameLink l (s .link)) 1) ∙ link-full f (hopsOf J f S ts) loaded once (hops-all J f S) l
+
+  -- a step is taken as often as its load says, and a place is come to at most as often as the loads do
+  pub routes-steps : (s : Step) → total wireRoutes (λ p. count (p .steps) (sameStep s)) ≡ f s
+  unfolding ts
+  routes-steps s = steps-hops (λ t. when (sameStep s t) 1) ∙ step-full f (hopsOf J f S ts) loaded once (hops-all J f S) s
+
+  pub routes-arrive : (x : Place) → T (isPlace J x) → total wireRoutes (λ p. visits J x (p .steps)) ≤ arrivals f x
+  routes-arrive x t = omega (arith, steps-hops (λ s. when (samePlace x (head J s)) 1), place-hops f (hopsOf J f S ts) loaded once J (S .feasible) x t)
+
+  -- the wires are together as long as the loads say
+  pub routes-length : routesLength J wireRoutes ≡ heldLength J f
+  unfolding wireRoutes ts routeOf heldLength
+  routes-length =
+      total-map route ts (λ p. wireLength J (p .steps))
+      ∙ strands-total J f S (places J) (λ t. wireLength J (stepsOf (strandHops t))) (λ x. lengthFrom J f (x .row) (x .column))
+      (λ t. thread-length J f S (t .row) (t .column) (t .thread))
 
   pub routes-held : Holds J f wireRoutes
   unfolding wireRoutes ts routeOf wireCount

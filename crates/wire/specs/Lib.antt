@@ -20,8 +20,11 @@ pub mod Hops
 pub mod Five
 pub mod Walks
 pub mod Lengths
+pub mod WireLength
 -- The wires of all pins.
 pub mod Bundle
 pub mod Held
+-- Families of routes, and wires that are one.
+pub mod Families
 -- What holds of the wires of every legal record.
 pub mod LegalWires
