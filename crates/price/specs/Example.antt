@@ -1,6 +1,6 @@
 -- One network on which every hypothesis of the theory holds. Nodes 0 and 1 are joined at a cost of 10, each is joined to node 2, which is outside, at 50 and
--- at 10, and each link takes one unit. One unit is wanted at 0 and at 1. The unit of 0 goes by 1, at the price 20; from 1 the least way out costs 30 above the
--- prices, which the keys say; the prices of both are raised by it, and the unit of 1 takes the other back from the link between them, at the price 40. No two
+-- at 10, and each link takes one unit. One unit is wanted at 0 and at 1. The unit of 0 goes by 1, at the price 20; then the prices of both are raised by 30, what
+-- the least way out of them leaves, and the unit of 1 takes the other back from the link between them, at the price 40. No two
 -- walks that start at 0 and 1 cost less than what the two take. Assumes nothing.
 use mathlib.Core.Path.{_≡_, refl}
 use mathlib.Core.Logic.{inl, inr}
@@ -22,7 +22,6 @@ use Rattle.price.specs.Cost.{cost, walksCost}
 use Rattle.price.specs.Moves.{Open, Tight, takes, adds, tight-residual}
 use Rattle.price.specs.Priced.{Priced, wired-least}
 use Rattle.price.specs.Tight.{tight-push, none-priced}
-use Rattle.price.specs.Keys.{Keyed, raised, keyed-priced}
 
 abbrev rev : ℕ → ℕ
 rev d = getD (2 ∷ 5 ∷ 0 ∷ 4 ∷ 3 ∷ 1 ∷ []) d 0
@@ -93,35 +92,28 @@ f-priced = tight-push (0 ∷ 3 ∷ []) first-priced (path-once first-path) (λ d
 
 -- ---- the prices of 0 and 1 are raised
 
-abbrev key : ℕ → ℕ
-key u = getD (0 ∷ 0 ∷ 30 ∷ []) u 30
+abbrev ρ : ℕ → ℕ
+ρ u = getD (50 ∷ 40 ∷ []) u 0
 
-keyed : Keyed G c f π 30 key
+second-priced : Priced G c f ρ
 unfolding below total
-keyed =
+second-priced =
     record {
-      most = λ u l. leb→le _ _ (below-at 3 (λ u. leb (key u) 30) tt u l);
-      ends = λ u l o. eqb→eq _ _ (if-so (G .outside u) _ (below-at 3 (λ u. not (G .outside u) || eqb (key u) 30) tt u l) o);
       adding = by;
       taking = λ d l h. leb→le _ _
           (if-so (ltb 0 (back G f d)) _
-          (below-at 6 (λ d. not (ltb 0 (back G f d)) || leb (key (head G d) + (π (G .tail d) + c (G .rev d))) (key (G .tail d) + π (head G d))) tt d l)
+          (below-at 6 (λ d. not (ltb 0 (back G f d)) || leb (ρ (G .tail d) + c (G .rev d)) (ρ (head G d))) tt d l)
           (lt→ltb 0 (back G f d) h));
+      grounded = λ u l o. eqb→eq _ _ (if-so (G .outside u) _ (below-at 3 (λ u. not (G .outside u) || eqb (ρ u) 0) tt u l) o);
     }
   where
-    by : (d : ℕ) → d < 6 → Open G f d → key (head G d) + π (G .tail d) ≤ key (G .tail d) + (π (head G d) + c d)
+    by : (d : ℕ) → d < 6 → Open G f d → ρ (G .tail d) ≤ ρ (head G d) + c d
     by d l (inl h) =
         leb→le _ _
         (if-so (ltb (f d) (G .cap d)) _
-        (below-at 6 (λ d. not (ltb (f d) (G .cap d)) || leb (key (head G d) + π (G .tail d)) (key (G .tail d) + (π (head G d) + c d))) tt d l)
+        (below-at 6 (λ d. not (ltb (f d) (G .cap d)) || leb (ρ (G .tail d)) (ρ (head G d) + c d)) tt d l)
         (lt→ltb (f d) (G .cap d) h))
     by d l (inr h) = absurd h
-
-abbrev ρ : ℕ → ℕ
-ρ = raised π 30 key
-
-second-priced : Priced G c f ρ
-second-priced = keyed-priced f-priced keyed
 
 -- ---- the unit of 1 takes it back
 

@@ -5,7 +5,6 @@ pub mod Moves
 pub mod Priced
 -- How a priced flow is changed, and how its prices are.
 pub mod Tight
-pub mod Keys
 pub mod Less
 pub mod Ceiling
 -- An example.

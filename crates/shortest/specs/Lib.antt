@@ -2,3 +2,7 @@
 pub mod Shortest
 -- Prices by the moves of the search.
 pub mod MovesPriced
+pub mod Slack
+-- How a record with prices is changed, and how high they go.
+pub mod PricedLaid
+pub mod Ceiling
