@@ -6,3 +6,5 @@ pub mod Slack
 -- How a record with prices is changed, and how high they go.
 pub mod PricedLaid
 pub mod Ceiling
+-- First prices.
+pub mod Rings
