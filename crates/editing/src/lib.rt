@@ -185,7 +185,7 @@ pub fn diagonal(rec: &mut [u8], row: usize, column: usize, d: usize) -> Answer
 
 // A lower E, as `set` does.
 fn set_lower(rec: &mut [u8], e: usize)
-    requires { ⌜ Legal (now rec) × (e ≤ jobOf (now rec) .E) ⌝ }
+    requires { ⌜ Legal (now rec) × (e < 256) ⌝ }
     ensures { λ _. ⌜ now (rec .exit) ≡ loweredTo e (now (rec .entry)) ⌝ }
 {
     let mut was = [0u8; 32768];

@@ -6,12 +6,12 @@ use mathlib.Core.List.{List, [], _∷_, _++_, List·Memᴰ, List·Memᴰ·head, 
 use Prim.Native.Nat.{ℕ, zero, suc, _+_, _*_, _/_, _%_, _≤_, _<_}
 use native.Mathlib.Omega.{arith}
 use native.Mathlib.Numerals.{add-one}
-use lib.Dec.{T}
+use lib.Dec.{T, eqb→eq}
 use lib.ListN.{length, set}
 use Rattle.sums.specs.Counting.{only, those}
 use Rattle.sums.specs.Tests.{so, below-or, those-has}
 use Rattle.model.specs.Job.{Job, withExtra, isMissing}
-use Rattle.model.specs.Links.{PlaceKind, pin, missing, centre, outside, nowhere, side, Place, at, theOutside, holds, isPlace, isMissingKind, places, Step, head}
+use Rattle.model.specs.Links.{PlaceKind, pin, missing, centre, outside, nowhere, side, Place, at, theOutside, holds, isPlace, isMissingKind, places, placeCode, Step, head}
 use Rattle.model.specs.Near.{exitOf, exit}
 use Rattle.model.specs.Record.{recordSize, jobOf, load, Legal, recordOf, over}
 use Rattle.model.specs.Wires.{isWired}
@@ -36,12 +36,12 @@ missingTo J (suc n) =
 those-so : {A : Type 0} {x : A} (p : A → Bool) (l : List A) → List·Memᴰ x (those p l) → T (p x)
 unfolding those
 those-so p [] m = absurd (List·Memᴰ·not-nil m)
-those-so {A} {x} p (y ∷ l) m = by (p y) refl m
+those-so {A} {x} p (y ∷ l) m = by (p y) refl m (those-so p l)
   where
-    by : (b : Bool) → p y ≡ b → List·Memᴰ x (only b (y ∷ []) ++ those p l) → T (p x)
-    by true e (List·Memᴰ·head z) = subst (λ (w : A). T (p w)) (sym z) (so e)
-    by true e (List·Memᴰ·tail n) = those-so p l n
-    by false e n = those-so p l n
+    by : (b : Bool) → p y ≡ b → List·Memᴰ x (only b (y ∷ []) ++ those p l) → (List·Memᴰ x (those p l) → T (p x)) → T (p x)
+    by true e (List·Memᴰ·head z) h = subst (λ (w : A). T (p w)) (sym z) (so e)
+    by true e (List·Memᴰ·tail n) h = h n
+    by false e n h = h n
 
 module _ (was : List ℕ) (g : Legal was) where
   abbrev J : Job
@@ -59,6 +59,10 @@ module _ (was : List ℕ) (g : Legal was) where
       ap (missingTo J) (add-one n)
       ∙ ap (λ (x : Bool). elim x as (λ y. List Place) [ true ↦ at missing (n / 40) (n % 40) ∷ missingTo J n | false ↦ missingTo J n ]) e
 
+  pub missing-first : (a : List ℕ) → Marks was a [] → Marks was a (missingTo J 0)
+  unfolding missingTo
+  missing-first a M = M
+
   pub missing-more : (n u : ℕ) (a b : List ℕ) → isMissing J (n / 40) (n % 40) ≡ true → u ≡ exit (at pin (n / 40) (n % 40)) → AddsAt was u a b
       → Marks was a (missingTo J n) → Marks was b (missingTo J (n + 1))
   unfolding exitOf
@@ -74,31 +78,32 @@ module _ (was : List ℕ) (g : Legal was) where
   listed-of : (n : ℕ) (y : Place) → List·Memᴰ y (missingTo J n) → List·Memᴰ y (missingPlaces J)
   unfolding missingTo missingPlaces
   listed-of zero y m = absurd (List·Memᴰ·not-nil m)
-  listed-of (suc n) y m = by (isMissing J (n / 40) (n % 40)) refl m
+  listed-of (suc n) y m = by (isMissing J (n / 40) (n % 40)) refl m (listed-of n y)
     where
       by : (b : Bool) → isMissing J (n / 40) (n % 40) ≡ b
           → List·Memᴰ y (elim b as (λ x. List Place) [ true ↦ at missing (n / 40) (n % 40) ∷ missingTo J n | false ↦ missingTo J n ])
-          → List·Memᴰ y (those isMissingKind (places J))
-      by true e (List·Memᴰ·head z) =
+          → (List·Memᴰ y (missingTo J n) → List·Memᴰ y (those isMissingKind (places J))) → List·Memᴰ y (those isMissingKind (places J))
+      by true e (List·Memᴰ·head z) h =
           subst (λ (x : Place). List·Memᴰ x (those isMissingKind (places J))) (sym z)
           (those-has isMissingKind (places J) tt (place-listed J (at missing (n / 40) (n % 40)) (so e)))
-      by true e (List·Memᴰ·tail k) = listed-of n y k
-      by false e k = listed-of n y k
+      by true e (List·Memᴰ·tail k) h = h k
+      by false e k h = h k
 
   cell-listed : (n r c : ℕ) → c < 40 → 40 * r + c < n → T (isMissing J r c) → List·Memᴰ (at missing r c) (missingTo J n)
   unfolding missingTo
   cell-listed zero r c m l t = absurd (omega arith)
-  cell-listed (suc n) r c m l t = by (isMissing J (n / 40) (n % 40)) refl (below-or (40 * r + c) n)
+  cell-listed (suc n) r c m l t = by (isMissing J (n / 40) (n % 40)) refl (below-or (40 * r + c) n) (λ k. cell-listed n r c m k t)
     where
       by : (b : Bool) → isMissing J (n / 40) (n % 40) ≡ b → (40 * r + c < n) ⊎ (n ≤ 40 * r + c)
+          → (40 * r + c < n → List·Memᴰ (at missing r c) (missingTo J n))
           → List·Memᴰ (at missing r c) (elim b as (λ x. List Place) [ true ↦ at missing (n / 40) (n % 40) ∷ missingTo J n | false ↦ missingTo J n ])
-      by true e (inl k) = List·Memᴰ·tail (cell-listed n r c m k t)
-      by true e (inr k) =
+      by true e (inl k) h = List·Memᴰ·tail (h k)
+      by true e (inr k) h =
           let p : r ≡ n / 40 = omega arith in
           let q : c ≡ n % 40 = omega arith in
           List·Memᴰ·head (λ i. at missing (p i) (q i))
-      by false e (inl k) = cell-listed n r c m k t
-      by false e (inr k) =
+      by false e (inl k) h = h k
+      by false e (inr k) h =
           let p : r ≡ n / 40 = omega arith in
           let q : c ≡ n % 40 = omega arith in
           absurd (subst T (λ i. ((λ j. isMissing J (p j) (q j)) ∙ e) i) t)
@@ -110,7 +115,7 @@ module _ (was : List ℕ) (g : Legal was) where
   kind-listed n centre r c l t h = absurd t
   kind-listed n outside r c l t h = absurd t
   kind-listed n nowhere r c l t h = absurd t
-  kind-listed n (side d) r c l t h = absurd t
+  kind-listed n (side d) r c l t h = absurd (omega (arith, eqb→eq (placeCode (side d)) (placeCode missing) t))
 
   -- a wire that meets one passes it
   met-listed : (n q d : ℕ) (y : Place) → 1600 ≤ n → T (isWired J f q d) → T (isMissingKind y) → Meets J f q d y → List·Memᴰ y (missingTo J n)

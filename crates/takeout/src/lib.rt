@@ -253,7 +253,7 @@ fn mark_missing(was: &[u8], taken: &mut [u8])
 
 // A lower E, in a record from which only the wires that pass a missing pin are taken out.
 pub fn extra_keeping(was: &[u8], rec: &mut [u8], e: usize)
-    requires { ⌜ Legal (now was) × (32768 ≤ length (now rec)) × SameRecord (now was) (now rec) × (e ≤ jobOf (now was) .E) ⌝ }
+    requires { ⌜ Legal (now was) × (32768 ≤ length (now rec)) × SameRecord (now was) (now rec) × (e < 256) ⌝ }
     ensures { λ _. ⌜ now (rec .exit) ≡ over (recordOf (withExtra (jobOf (now (was .entry))) e) (extraLeft (jobOf (now (was .entry))) (load (now (was .entry)))))
         (now (rec .entry)) ⌝ }
 {

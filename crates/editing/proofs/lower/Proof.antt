@@ -1,6 +1,5 @@
 -- `lower` meets its contract: refused where E is greater; else the record of the job with the E, or the record as it was. Assumes nothing.
-use mathlib.Core.Path.{subst}
-use Prim.Native.Nat.{ℕ, _≤_}
+use native.Mathlib.Omega.{arith}
 use denote.Ref.{now}
 use borrow.Author.Needs.{needs}
 use Rattle.editing.specs.Lowering.{extra-above, extra-same, extra-anew}
@@ -29,7 +28,7 @@ returns-2 c =
 set-lower-requires : tie.Need-set-lower-requires
 set-lower-requires c κs =
     let s = c .before .before .before .before .before .before in
-    (s .pre, subst (λ (o : ℕ). s .args .e ≤ o) (c .before .before .before .extra .ensures .0) (c .before .before .if1 .left))
+    (s .pre, omega (arith, c .before .before .before .extra .ensures .1, c .before .before .if1 .left))
 
 same-length-3 : tie.Need-same-length-3
 same-length-3 c = search needs

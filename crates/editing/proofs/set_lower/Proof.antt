@@ -1,13 +1,13 @@
 -- `set_lower` meets its contract: the wires are followed in a copy, which is legal, of the same job and with the same loads. Assumes nothing.
-use mathlib.Core.Path.{sym, subst, _∙_}
-use Prim.Native.Nat.{ℕ, _≤_}
+use mathlib.Core.Path.{_∙_}
+use Prim.Native.Nat.{ℕ}
 use denote.Ref.{now}
 use borrow.Author.Needs.{needs}
 use Rattle.model.specs.Job.{Job, withExtra}
 use Rattle.model.specs.Links.{Step}
 use Rattle.model.specs.Record.{recordOf, over}
 use Rattle.model.specs.Left.{extraLeft}
-use Rattle.editing.specs.Copied.{copied-same, copied-legal, copied-job, as-copied}
+use Rattle.editing.specs.Copied.{copied-same, copied-legal, as-copied}
 use Rattle.editing.proofs.set_lower.Statement.{statement}
 use Rattle.editing.proofs.set_lower.Tie as tie
 
@@ -28,7 +28,7 @@ extra-keeping-requires c κs =
       copied-legal (p .0) (c3 .copy .ensures),
       p .0 .long,
       copied-same (p .0) (c3 .copy .ensures),
-      subst (λ (J : Job). s .args .e ≤ J .E) (sym (copied-job (p .0) (c3 .copy .ensures))) (p .1),
+      p .1,
     )
 
 same-length : tie.Need-same-length
