@@ -5,17 +5,22 @@ use mathlib.Core.List.{List, [], _∷_}
 use Prim.Native.Nat.{ℕ, _≤_, _<_}
 use lib.ListN.{length, set}
 use Rattle.model.specs.Job.{Job, sideOf, marked, closed, laidBy, withOwnD}
-use Rattle.model.specs.Links.{centre, at, pinAt, Step}
+use Rattle.model.specs.Links.{centre, at, pinAt, Step, Place}
 use Rattle.model.specs.Record.{recordSize, markPlane, statePlane, ownDPlane, offset, jobOf, load, Legal, recordOf, over}
 use Rattle.channel.specs.Laid.{sideOffset, side-inside}
 use Rattle.channel.specs.Written.{marked-with, closed-with, own-with, laid-with}
-use Rattle.model.specs.Left.{leftLoads, tilePlaces, markLeft, closeLeft, centreLeft, laidLeft}
+use Rattle.model.specs.Left.{leftLoads, tilePlaces, markLeft, closeLeft, centreLeft, laidLeft, avoids}
 use Rattle.takeout.specs.Marks.{isMarked}
 use Rattle.takeout.specs.Edited.{Marks, left-avoids}
 
 -- rec′ is rec, a copy of the record `was`, without the wires of the pins that are marked
 abbrev pub Unwired : List ℕ → List ℕ → List ℕ → List ℕ → Type 0
 Unwired was taken rec rec′ = rec′ ≡ over (recordOf (jobOf was) (leftLoads (jobOf was) (load was) (λ q d. not (isMarked taken q d)))) rec
+
+-- for any places that the marks are of: the wires that avoid them are left
+pub unwired-avoids : (was taken rec rec′ : List ℕ) (xs : List Place) → Legal was → Marks was taken xs → Unwired was taken rec rec′
+    → rec′ ≡ over (recordOf (jobOf was) (leftLoads (jobOf was) (load was) (avoids (jobOf was) (load was) xs))) rec
+unwired-avoids was taken rec rec′ xs g M e = e ∙ ap (λ (h : Step → ℕ). over (recordOf (jobOf was) h) rec) (left-avoids was g xs taken M)
 
 module _ (was taken rec rec′ rec″ : List ℕ) (g : Legal was) (r c v : ℕ) (long : recordSize ≤ length rec) (e : Unwired was taken rec rec′) where
   abbrev J : Job
@@ -29,7 +34,7 @@ module _ (was taken rec rec′ rec″ : List ℕ) (g : Legal was) (r c v : ℕ) 
   unfolding markLeft
   mark-stored lr lc M k =
       k
-      ∙ (ap (λ (z : List ℕ). set z (offset markPlane r c) v) (e ∙ ap (λ (h : Step → ℕ). over (recordOf J h) rec) (left-avoids was g (pinAt J r c ∷ []) taken M))
+      ∙ (ap (λ (z : List ℕ). set z (offset markPlane r c) v) (unwired-avoids was taken rec rec′ (pinAt J r c ∷ []) g M e)
       ∙ marked-with J (markLeft J f r c) rec r c v long lr lc)
 
   pub close-stored : r < 40 → c < 40 → Marks was taken (tilePlaces r c) → rec″ ≡ set rec′ (offset statePlane r c) v
@@ -37,7 +42,7 @@ module _ (was taken rec rec′ rec″ : List ℕ) (g : Legal was) (r c v : ℕ) 
   unfolding closeLeft
   close-stored lr lc M k =
       k
-      ∙ (ap (λ (z : List ℕ). set z (offset statePlane r c) v) (e ∙ ap (λ (h : Step → ℕ). over (recordOf J h) rec) (left-avoids was g (tilePlaces r c) taken M))
+      ∙ (ap (λ (z : List ℕ). set z (offset statePlane r c) v) (unwired-avoids was taken rec rec′ (tilePlaces r c) g M e)
       ∙ closed-with J (closeLeft J f r c) rec r c v long lr lc)
 
   pub diagonal-stored : r < 40 → c < 40 → Marks was taken (at centre r c ∷ []) → rec″ ≡ set rec′ (offset ownDPlane r c) v
