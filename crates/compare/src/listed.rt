@@ -4,6 +4,10 @@ use listing::NearFilled;
 use listing::near_page;
 use listing::refused_page;
 use listing::short_page;
+use oracle_text::job::CHOSEN;
+use oracle_text::job::Job;
+use oracle_text::job::mark;
+use oracle_text::job::set_mark;
 use oracle_text::page::Page as Sheet;
 use search::route_all;
 use service::Answer;
@@ -11,6 +15,8 @@ use service::list_wires;
 use text::Judged;
 use text::read_into;
 use verdict::bytes::first;
+use verdict::legal::is_wired;
+use verdict::record::Record;
 ghost use Prim.Native.Nat.{_≤_, _<_};
 
 pub type Near = [u8; 32768];
@@ -51,6 +57,21 @@ pub fn listed(rec: &[u8], page: &mut Page) -> usize {
         return DAMAGED;
     };
     n
+}
+
+fn idle(job: &mut Job, rec: &Record, p: usize) {
+    if !is_wired(rec, p) && mark(job, p) == CHOSEN {
+        set_mark(job, p, 0);
+    }
+}
+
+// The job with every chosen pin idle that has no wire: the one that the record's listing wires.
+pub fn only_wired(rec: &Record, job: &Job) -> Job {
+    let mut other = *job;
+    for p in 0..1600 {
+        idle(&mut other, rec, p);
+    }
+    other
 }
 
 // All wires laid that fit; gives how many chosen pins stay unwired, with the near side where some do.

@@ -6,6 +6,7 @@ use compare::lent::write_on;
 use compare::listed::Page;
 use compare::listed::held;
 use compare::listed::listed;
+use compare::listed::only_wired;
 use compare::listed::routed;
 use compare::listed::shown;
 use compare::said::ADDED;
@@ -23,7 +24,6 @@ use oracle_text::job::CHOSEN;
 use oracle_text::job::Job;
 use oracle_text::job::blank;
 use oracle_text::job::count_marked;
-use oracle_text::job::set_mark;
 use oracle_text::random::random_job;
 use oracle_text::random::random_laid;
 use oracle_text::random::random_own;
@@ -34,7 +34,6 @@ use verdict::bytes::begins;
 use verdict::bytes::hold;
 use verdict::bytes::line;
 use verdict::bytes::split_at;
-use verdict::legal::is_wired;
 use verdict::record::BEYOND;
 use verdict::record::Record;
 use verdict::record::count_direct;
@@ -100,21 +99,6 @@ fn ask_listing(tally: &mut Tally, rec: &Record, job: &Job, page: &mut Page) -> u
     let w = check_listing(&only_wired(rec, job), shown(page, n));
     hold(tally, w.fault == LEGAL, b"the listing is legal");
     n
-}
-
-fn idle(job: &mut Job, rec: &Record, p: usize) {
-    if !is_wired(rec, p) && oracle_text::job::mark(job, p) == CHOSEN {
-        set_mark(job, p, 0);
-    }
-}
-
-// The job with every chosen pin idle that has no wire.
-fn only_wired(rec: &Record, job: &Job) -> Job {
-    let mut other = *job;
-    for p in 0..1600 {
-        idle(&mut other, rec, p);
-    }
-    other
 }
 
 fn steps(tally: &mut Tally, rec: &mut Record, job: &Job, n: usize) {

@@ -1,4 +1,4 @@
-// Random calls on one record, of all nine kinds, on buffers of all lengths. The job of the list is kept beside it in the oracle's terms, and says what each
+// Random calls on one record, of all kinds, on buffers of all lengths. The job of the list is kept beside it in the oracle's terms, and says what each
 // call has to answer; a call that is refused, or has nothing to change, leaves every byte as it is.
 use crate::draws::pick;
 use crate::draws::pick_length;
@@ -16,6 +16,7 @@ use crate::expect::expect_part;
 use crate::expect::expect_shortfall;
 use crate::expect::expect_step;
 use crate::expect::expect_write;
+use crate::kept::Kept;
 use crate::lookup::put_expected;
 use check::same;
 use compare::lent::list_on;
@@ -126,7 +127,7 @@ fn hold_part(
 }
 
 fn call_part(tally: &mut Tally, rec: &Record, job: &Job, page: &mut Page, seed: u32) -> u32 {
-    let at = pick_spot(seed, 6);
+    let at = pick_spot(seed, job);
     let index = pick(at.next, 0, 9);
     let answer = service::part(first(rec, at.n), at.row, at.column, index);
     let expected = expect_part(job, at.n, at.row, at.column);
@@ -189,6 +190,7 @@ fn call_listing(tally: &mut Tally, rec: &Record, page: &mut Page, seed: u32) -> 
 // A call of this kind.
 fn call(
     tally: &mut Tally,
+    kept: &mut Kept,
     rec: &mut Record,
     job: &mut Job,
     page: &mut Page,
@@ -198,30 +200,45 @@ fn call(
     match kind {
         0 => call_new(tally, rec, job, seed),
         1 => call_read(tally, rec, job, seed),
-        2 => call_mark(tally, rec, job, seed),
-        3 => call_close(tally, rec, job, seed),
+        2 => call_mark(tally, kept, rec, job, seed),
+        3 => call_close(tally, kept, rec, job, seed),
         4 => call_step(tally, rec, job, seed),
         5 => call_shortfall(tally, rec, job, seed),
         6 => call_part(tally, rec, job, page, seed),
         7 => call_write(tally, rec, job, seed),
-        9 => call_lay(tally, rec, job, seed),
+        9 => call_lay(tally, kept, rec, job, seed),
         10 => call_trial(tally, rec, job, seed),
         _ => call_listing(tally, rec, page, seed),
+    }
+}
+
+// A kind at random: mostly a new job.
+fn making(n: usize) -> usize {
+    match n {
+        0..=3 => 0,
+        4..=19 => 1,
+        20..=22 => 2,
+        23 => 3,
+        24 => 9,
+        25 => 10,
+        26 => 4,
+        27 => 5,
+        28 => 6,
+        29 | 30 => 7,
+        _ => 8,
     }
 }
 
 // A kind at random: mostly an edit.
 fn editing(n: usize) -> usize {
     match n {
-        0 => 0,
-        1..=3 => 1,
-        4..=11 => 2,
-        12..=16 => 3,
-        17..=22 => 9,
-        23 | 24 => 4,
-        25 => 5,
-        26..=28 => 6,
-        29 | 30 => 7,
+        0..=8 => 2,
+        9..=14 => 3,
+        15..=22 => 9,
+        23..=26 => 4,
+        27 => 5,
+        28 | 29 => 6,
+        30 => 7,
         _ => 8,
     }
 }
@@ -240,13 +257,15 @@ fn asking(n: usize) -> usize {
     }
 }
 
-// The kind of the k-th call.
+// The kind of the k-th call. Of 128 calls the first make jobs, then wires are laid, and then the job is edited under them, with steps in between.
 fn kind_of(x: u32, k: usize) -> usize {
     let n = below(x, 32);
-    if k % 256 == 60 {
-        return 10;
+    match k % 128 {
+        0..=5 => making(n),
+        6..=39 => asking(n),
+        40..=111 => editing(n),
+        _ => asking(n),
     }
-    if k % 128 < 56 { editing(n) } else { asking(n) }
 }
 
 // Counts the call: whether some wire of the record leaves its pin directly afterwards, or none.
@@ -262,6 +281,7 @@ fn note(direct: &mut Tally, rec: &Record) {
 fn draw(
     tally: &mut Tally,
     direct: &mut Tally,
+    kept: &mut Kept,
     rec: &mut Record,
     job: &mut Job,
     page: &mut Page,
@@ -270,7 +290,7 @@ fn draw(
 ) -> u32 {
     let x = xorshift(seed);
     let wrong = tally[1];
-    let next = call(tally, rec, job, page, x, kind_of(x, k));
+    let next = call(tally, kept, rec, job, page, x, kind_of(x, k));
     if tally[1] != wrong {
         line(b"in the random call", k as u64);
     }
@@ -281,22 +301,24 @@ fn draw(
 fn draw_all(
     tally: &mut Tally,
     direct: &mut Tally,
+    kept: &mut Kept,
     rec: &mut Record,
     job: &mut Job,
     page: &mut Page,
 ) {
     let mut seed = 88675123;
     for k in 0..6000 {
-        seed = draw(tally, direct, rec, job, page, seed, k);
+        seed = draw(tally, direct, kept, rec, job, page, seed, k);
     }
 }
 
-// A list of calls that starts with an accepted New. `direct` counts them: those after which some wire leaves its pin directly, and the others.
-pub fn calls(tally: &mut Tally, direct: &mut Tally) {
+// A list of calls that starts with an accepted New. `direct` counts them: those after which some wire leaves its pin directly, and the others; `kept` the wires
+// that edits leave and take out.
+pub fn calls(tally: &mut Tally, direct: &mut Tally, kept: &mut Kept) {
     let mut page = [0u8; 1048576];
     let mut rec = [BEYOND; 32800];
     let mut job = fresh(4, 5, 2, 3, 1);
     let answer = service::new(&mut rec, 4, 5, 2, 3, 1);
     hold(tally, compare::said::is(answer, DONE, 0), b"the first new");
-    draw_all(tally, direct, &mut rec, &mut job, &mut page);
+    draw_all(tally, direct, kept, &mut rec, &mut job, &mut page);
 }

@@ -1,4 +1,8 @@
 // Arguments at random: mostly such as fit, and some far out.
+use oracle_text::job::COLUMNS;
+use oracle_text::job::Job;
+use oracle_text::job::ROWS;
+use oracle_text::job::number;
 use oracle_text::page::Page as Sheet;
 use oracle_text::page::byte;
 use oracle_text::random::below;
@@ -27,11 +31,11 @@ pub fn pick(x: u32, least: usize, n: usize) -> usize {
     }
 }
 
-// A mark, mostly chosen.
+// A mark, most often chosen.
 pub fn pick_mark(x: u32) -> usize {
     match below(x, 8) {
-        0 => 0,
-        1 | 2 | 3 | 4 => 1,
+        0 | 1 => 0,
+        2 | 3 | 4 => 1,
         5 | 6 => 2,
         _ => pick(x / 8, 0, 5),
     }
@@ -64,13 +68,14 @@ pub struct Spot {
     pub next: u32,
 }
 
-pub fn pick_spot(seed: u32, size: usize) -> Spot {
+// A spot of the job, or of the row and the column behind its last ones.
+pub fn pick_spot(seed: u32, job: &Job) -> Spot {
     let a = xorshift(seed);
     let b = xorshift(a);
     let c = xorshift(b);
     let n = pick_length(a, 32768, 32800);
-    let row = pick(b, 0, size);
-    let column = pick(c, 0, size);
+    let row = pick(b, 0, number(job, ROWS) + 1);
+    let column = pick(c, 0, number(job, COLUMNS) + 1);
     let next = xorshift(c);
     Spot {
         n,

@@ -16,6 +16,11 @@ use crate::expect::expect_trial;
 use crate::expect::letter_of;
 use crate::expect::mark_at;
 use crate::expect::state_at;
+use crate::kept::Kept;
+use crate::kept::closing;
+use crate::kept::hold_kept;
+use crate::kept::laying;
+use crate::kept::marking;
 use check::same;
 use compare::lent::close_on;
 use compare::lent::lay_on;
@@ -28,9 +33,11 @@ use compare::said::Said;
 use compare::said::agree;
 use compare::said::coded;
 use oracle_text::job::Job;
+use oracle_text::job::SIDE;
 use oracle_text::job::blank;
 use oracle_text::job::fresh;
 use oracle_text::job::laid;
+use oracle_text::job::number;
 use oracle_text::job::set_laid;
 use oracle_text::job::set_mark;
 use oracle_text::job::set_state;
@@ -97,7 +104,7 @@ pub fn call_new(tally: &mut Tally, rec: &mut Record, job: &mut Job, seed: u32) -
 pub fn call_read(tally: &mut Tally, rec: &mut Record, job: &mut Job, seed: u32) -> u32 {
     let mut sheet = [0u8; 262144];
     let mut other = blank();
-    let x = random_job(seed, 7, &mut other);
+    let x = random_job(seed, 10, &mut other);
     let y = xorshift(x);
     let length = write_text(&other, &mut sheet);
     let m = alter(&mut sheet, length, x);
@@ -111,65 +118,96 @@ pub fn call_read(tally: &mut Tally, rec: &mut Record, job: &mut Job, seed: u32) 
     y
 }
 
-// The record after an edit: as it was, or without a wire where the edit changes something.
-fn hold_edit(tally: &mut Tally, before: &Record, rec: &Record, job: &Job, changes: bool) {
-    if changes {
-        hold(
-            tally,
-            holds_unwired(rec, job),
-            b"an edit takes out all wires",
-        );
-    } else {
-        hold_same(tally, before, rec);
-    }
-}
-
-pub fn call_mark(tally: &mut Tally, rec: &mut Record, job: &mut Job, seed: u32) -> u32 {
-    let at = pick_spot(seed, 8);
+pub fn call_mark(
+    tally: &mut Tally,
+    kept: &mut Kept,
+    rec: &mut Record,
+    job: &mut Job,
+    seed: u32,
+) -> u32 {
+    let at = pick_spot(seed, job);
     let value = pick_mark(at.next);
     let before = *rec;
     let answer = mark_on(rec, at.n, at.row, at.column, value);
     let expected = expect_mark(job, at.n, at.row, at.column, value);
     hold_answer(tally, answer, expected, b"mark answers");
-    let changes = expected.kind == DONE && mark_at(job, at.row, at.column) != value;
-    if changes {
+    let old = mark_at(job, at.row, at.column);
+    if expected.kind == DONE && old != value {
         set_mark(job, cell(at.row, at.column), value);
+        hold_kept(
+            tally,
+            kept,
+            &before,
+            rec,
+            job,
+            marking(at.row, at.column, old, value),
+        );
+    } else {
+        hold_same(tally, &before, rec);
     }
-    hold_edit(tally, &before, rec, job, changes);
     at.next
 }
 
-pub fn call_close(tally: &mut Tally, rec: &mut Record, job: &mut Job, seed: u32) -> u32 {
-    let at = pick_spot(seed, 8);
+pub fn call_close(
+    tally: &mut Tally,
+    kept: &mut Kept,
+    rec: &mut Record,
+    job: &mut Job,
+    seed: u32,
+) -> u32 {
+    let at = pick_spot(seed, job);
     let value = pick_state(at.next);
     let before = *rec;
     let answer = close_on(rec, at.n, at.row, at.column, value);
     let expected = expect_close(job, at.n, at.row, at.column, value);
     hold_answer(tally, answer, expected, b"close answers");
-    let changes = expected.kind == DONE && state_at(job, at.row, at.column) != value;
-    if changes {
+    if expected.kind == DONE && state_at(job, at.row, at.column) != value {
         set_state(job, cell(at.row, at.column), value);
+        hold_kept(
+            tally,
+            kept,
+            &before,
+            rec,
+            job,
+            closing(at.row, at.column, value),
+        );
+    } else {
+        hold_same(tally, &before, rec);
     }
-    hold_edit(tally, &before, rec, job, changes);
     at.next
 }
 
 // The wires already laid on a side of a tile.
-pub fn call_lay(tally: &mut Tally, rec: &mut Record, job: &mut Job, seed: u32) -> u32 {
-    let at = pick_spot(seed, 8);
+pub fn call_lay(
+    tally: &mut Tally,
+    kept: &mut Kept,
+    rec: &mut Record,
+    job: &mut Job,
+    seed: u32,
+) -> u32 {
+    let at = pick_spot(seed, job);
     let x = xorshift(at.next);
     let side = pick(x, 0, 4);
-    let count = pick(xorshift(x), 0, 4);
+    let count = pick(xorshift(x), 0, number(job, SIDE) + 2);
     let letter = letter_of(side);
     let before = *rec;
     let answer = lay_on(rec, at.n, at.row, at.column, side, count);
     let expected = expect_lay(job, at.n, at.row, at.column, side, count);
     hold_answer(tally, answer, expected, b"lay answers");
-    let changes = expected.kind == DONE && laid(job, at.row, at.column, letter) != count;
-    if changes {
+    let old = laid(job, at.row, at.column, letter);
+    if expected.kind == DONE && old != count {
         set_laid(job, at.row, at.column, letter, count);
+        hold_kept(
+            tally,
+            kept,
+            &before,
+            rec,
+            job,
+            laying(job, at.row, at.column, letter, old, count),
+        );
+    } else {
+        hold_same(tally, &before, rec);
     }
-    hold_edit(tally, &before, rec, job, changes);
     x
 }
 

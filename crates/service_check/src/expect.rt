@@ -22,6 +22,7 @@ use oracle_text::job::state;
 use oracle_text::text::ACCEPTED;
 use oracle_text::text::Reading;
 use oracle_text::trial::Percents;
+ghost use Prim.Native.Nat.{_<_};
 
 fn in_range(x: usize, least: usize, most: usize) -> bool {
     x >= least && x <= most
@@ -121,7 +122,9 @@ pub fn letter_of(side: usize) -> u8 {
 }
 
 // The cell 40 r + c; 1,600, which is none, where one of the two is too large.
-pub fn cell(row: usize, column: usize) -> usize {
+pub fn cell(row: usize, column: usize) -> usize
+    ensures { λ p. ⌜ p < 1601 ⌝ }
+{
     if row < 40 {
         if column < 40 {
             return 40 * row + column;

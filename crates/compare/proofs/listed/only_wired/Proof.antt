@@ -1,8 +1,8 @@
 -- `only_wired` is safe and ends. The loop's counter is at most its end. Assumes nothing.
 use Prim.Native.Nat.{_≤_, _-_}
 use borrow.Author.Needs.{needs}
-use Rattle.job_check.proofs.jobs.only_wired.Statement.{statement}
-use Rattle.job_check.proofs.jobs.only_wired.Tie as tie
+use Rattle.compare.proofs.listed.only_wired.Statement.{statement}
+use Rattle.compare.proofs.listed.only_wired.Tie as tie
 
 abbrev Inv-loop : tie.InvT-loop
 Inv-loop rec job other₀ p₀ other p = p ≤ 1600
