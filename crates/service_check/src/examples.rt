@@ -170,13 +170,13 @@ fn ranges(tally: &mut Tally) {
 }
 
 // The text is read into the record.
-fn read_into(tally: &mut Tally, rec: &mut [u8; 32768], text: &[u8]) {
+pub fn read_into(tally: &mut Tally, rec: &mut [u8; 32768], text: &[u8]) {
     let answer = service::read_text(rec, text);
     hold(tally, is(answer, DONE, 0), text);
 }
 
 // The next step answers so.
-fn steps(tally: &mut Tally, rec: &mut [u8; 32768], kind: usize) {
+pub fn steps(tally: &mut Tally, rec: &mut [u8; 32768], kind: usize) {
     let mut scratch = [0u8; 65536];
     let answer = service::step(rec, &mut scratch);
     hold(tally, is(answer, kind, 0), b"an example's step");

@@ -323,6 +323,11 @@ fn put(rec: &mut Record, at: usize, value: usize) {
     }
 }
 
+// Every byte of the record is the expected one.
+fn hold_bytes(tally: &mut Tally, expected: &Record, rec: &Record) {
+    hold(tally, same(expected, rec), b"the record after an edit");
+}
+
 // The wires of the record are legal, in the job whose other pins are idle.
 fn hold_legal(tally: &mut Tally, rec: &Record, job: &Job, list: &[u8]) {
     let w = check_listing(&only_wired(rec, job), list);
@@ -351,7 +356,7 @@ pub fn hold_kept(
     put(&mut expected, edit.at, edit.value);
     note(kept, edit, s);
     hold(tally, s.right, b"an edit keeps the other wires");
-    hold(tally, same(&expected, rec), b"the record after an edit");
+    hold_bytes(tally, &expected, rec);
     hold(tally, holds_job(rec, job), b"the job after an edit");
     hold(
         tally,
