@@ -165,12 +165,18 @@ double each(const std::function<void()> &prepare, const std::function<uint64_t()
     return median(times);
 }
 
-// The columns of the second table: a record that is kept, the text of its job, a chosen pin where it has one.
+struct Cell {
+    uint64_t row = 0, column = 0;
+};
+
+// The columns of the table of operations: a record that is kept, the text of its job, a chosen pin, an idle pin and an open tile, each the nearest to the
+// middle where there is one, and the side of a tile that has the most wires.
 struct Column {
     Host host;
     Bytes kept;
     std::string text;
-    uint64_t row = 0, column = 0;
+    Cell chosen, idle, tile, side;
+    uint64_t code = 0, wires = 0;
 
     explicit Column(const std::string &job) : text(job) {
         host.read(text);
@@ -178,12 +184,32 @@ struct Column {
         kept = host.record;
         baseline::Job read;
         baseline::read(text, read);
-        // the chosen pin that is nearest to the middle
-        int best = 1000;
+        chosen = middle([&](int i) { return read.mark[i] == 1; });
+        idle = middle([&](int i) { return read.mark[i] == 0; });
+        tile = middle([&](int i) { return i / 40 < 39 && i % 40 < 39 && kept[2368 + i] == 0; });
+        for (int i = 0; i < 3200; i++)
+            if (i % 1600 / 40 < 39 && i % 40 < 39 && kept[3968 + i] % 32 > wires) {
+                wires = kept[3968 + i] % 32;
+                code = i < 1600 ? 0 : 3;
+                side = cell(i % 1600);
+            }
+    }
+
+    static Cell cell(int i) { return {static_cast<uint64_t>(i / 40), static_cast<uint64_t>(i % 40)}; }
+
+    // The cell that passes the test and is nearest to the middle; the first where none does.
+    static Cell middle(const std::function<bool(int)> &test) {
+        int best = 1000, found = 0;
         for (int i = 0; i < 1600; i++) {
-            const int r = i / 40, c = i % 40, far = std::abs(2 * r - 39) + std::abs(2 * c - 39);
-            if (read.mark[i] == 1 && far < best) best = far, row = r, column = c;
+            const int far = std::abs(2 * (i / 40) - 39) + std::abs(2 * (i % 40) - 39);
+            if (far < best && test(i)) best = far, found = i;
         }
+        return cell(found);
+    }
+
+    // As many wires laid on that side as leave room for all of its wires but one.
+    uint64_t lay(Host &h) const {
+        return talusdish_lay(h.record.data(), h.record.size(), side.row, side.column, code, wires == 0 ? 1 : kept[2] - wires + 1);
     }
 
     double time(const std::function<uint64_t(Host &)> &call) {
@@ -201,18 +227,19 @@ void table(std::vector<Column> &columns) {
     line("New", [](Column &, Host &h) { return talusdish_new(h.record.data(), h.record.size(), 40, 40, 8, 12, 8); });
     line("Read text", [](Column &c, Host &h) { return h.read(c.text); });
     line("Write text", [&](Column &, Host &h) { return talusdish_write_text(h.record.data(), h.record.size(), text.data(), text.size()); });
-    line("Mark, the mark already there (the audit)", [](Column &c, Host &h) {
-        return talusdish_mark(h.record.data(), h.record.size(), c.row, c.column, h.record[768 + 40 * c.row + c.column]);
+    const auto mark = [](Host &h, Cell c, uint64_t value) { return talusdish_mark(h.record.data(), h.record.size(), c.row, c.column, value); };
+    const auto close = [](Host &h, Cell c, uint64_t value) { return talusdish_close(h.record.data(), h.record.size(), c.row, c.column, value); };
+    line("Mark, the mark already there (the audit)", [&](Column &c, Host &h) {
+        return mark(h, c.chosen, h.record[768 + 40 * c.chosen.row + c.chosen.column]);
     });
-    line("Mark, another", [](Column &c, Host &h) { return talusdish_mark(h.record.data(), h.record.size(), c.row, c.column, 2); });
-    line("Close, the state already there (the audit)", [](Column &, Host &h) {
-        return talusdish_close(h.record.data(), h.record.size(), 0, 0, h.record[2368]);
-    });
-    line("Close, another", [](Column &, Host &h) {
-        return talusdish_close(h.record.data(), h.record.size(), 0, 0, 1 - h.record[2368]);
-    });
-    line("Part at 0", [](Column &c, Host &h) { return talusdish_part(h.record.data(), h.record.size(), c.row, c.column, 0); });
-    line("Part past the end", [](Column &c, Host &h) { return talusdish_part(h.record.data(), h.record.size(), c.row, c.column, 100000); });
+    line("Mark, another, of an idle pin", [&](Column &c, Host &h) { return mark(h, c.idle, 1); });
+    line("Mark, another, of a pin with a wire", [&](Column &c, Host &h) { return mark(h, c.chosen, 2); });
+    line("Close, the state already there (the audit)", [&](Column &, Host &h) { return close(h, Cell(), h.record[2368]); });
+    line("Close, a tile in the middle", [&](Column &c, Host &h) { return close(h, c.tile, 1); });
+    line("Close, a tile at the corner", [&](Column &, Host &h) { return close(h, Cell(), 1 - h.record[2368]); });
+    line("`lay`, one wire of the fullest side goes", [](Column &c, Host &h) { return c.lay(h); });
+    line("Part at 0", [](Column &c, Host &h) { return talusdish_part(h.record.data(), h.record.size(), c.chosen.row, c.chosen.column, 0); });
+    line("Part past the end", [](Column &c, Host &h) { return talusdish_part(h.record.data(), h.record.size(), c.chosen.row, c.chosen.column, 100000); });
     line("Step, nothing to add", [](Column &, Host &h) { return h.step(); });
     line("Shortfall", [](Column &, Host &h) { return h.shortfall(); });
 }
