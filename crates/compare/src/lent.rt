@@ -37,6 +37,13 @@ pub fn close_on(rec: &mut [u8], n: usize, row: usize, column: usize, value: usiz
     Answer::Done
 }
 
+pub fn diagonal_on(rec: &mut [u8], n: usize, row: usize, column: usize, d: usize) -> Answer {
+    if n <= rec.len() {
+        return service::diagonal(&mut rec[..n], row, column, d);
+    }
+    Answer::Done
+}
+
 pub fn lay_on(
     rec: &mut [u8],
     n: usize,

@@ -13,6 +13,7 @@ use oracle_text::random::xorshift;
 use oracle_text::text::write_text;
 use service::Answer;
 use talusdish::exports::talusdish_close;
+use talusdish::exports::talusdish_diagonal;
 use talusdish::exports::talusdish_lay;
 use talusdish::exports::talusdish_listing;
 use talusdish::exports::talusdish_mark;
@@ -113,6 +114,18 @@ fn call_lay(tally: &mut Tally, rec: &mut [u8], twin: &mut [u8], seed: u32) -> An
     let answer = service::lay(rec, row, column, side, count);
     let word = talusdish_lay(twin, row as u64, column as u64, side as u64, count as u64);
     hold(tally, says(word, answer), b"the word of lay");
+    answer
+}
+
+fn call_diagonal(tally: &mut Tally, rec: &mut [u8], twin: &mut [u8], seed: u32) -> Answer {
+    let a = xorshift(seed);
+    let b = xorshift(a);
+    let row = pick(seed, 0, 7);
+    let column = pick(a, 0, 7);
+    let d = pick(b, 0, 9);
+    let answer = service::diagonal(rec, row, column, d);
+    let word = talusdish_diagonal(twin, row as u64, column as u64, d as u64);
+    hold(tally, says(word, answer), b"the word of diagonal");
     answer
 }
 
@@ -309,6 +322,7 @@ fn call(tally: &mut Tally, rec: &mut [u8], twin: &mut [u8], seed: u32, kind: usi
         7 => call_write(tally, rec, twin, seed),
         9 => call_lay(tally, rec, twin, seed),
         10 => call_trial(tally, rec, twin, seed),
+        11 => call_diagonal(tally, rec, twin, seed),
         _ => call_listing(tally, rec, twin, seed),
     }
 }
@@ -356,7 +370,8 @@ fn kind_of(n: usize, k: usize) -> usize {
             8..=11 => 1,
             12..=19 => 2,
             20..=25 => 3,
-            _ => 9,
+            26..=28 => 9,
+            _ => 11,
         }
     } else {
         match n {

@@ -1,6 +1,7 @@
 // The examples of document 01 and of include/talusdish.h, each with its word: 256 times the value, and the code.
 use check::same;
 use talusdish::exports::talusdish_close;
+use talusdish::exports::talusdish_diagonal;
 use talusdish::exports::talusdish_mark;
 use talusdish::exports::talusdish_new;
 use talusdish::exports::talusdish_part;
@@ -110,6 +111,11 @@ fn closes(tally: &mut Tally, rec: &mut Bytes, row: u64, column: u64, state: u64,
     hold(tally, word == expected, b"an example of close");
 }
 
+fn gives(tally: &mut Tally, rec: &mut Bytes, row: u64, column: u64, d: u64, expected: u64) {
+    let word = talusdish_diagonal(rec, row, column, d);
+    hold(tally, word == expected, b"an example of diagonal");
+}
+
 fn edits(tally: &mut Tally) {
     let mut rec = [7u8; 32768];
     marks(tally, &mut rec, 2, 0, 3, 1);
@@ -123,6 +129,11 @@ fn edits(tally: &mut Tally) {
     closes(tally, &mut rec, 0, 1, 1, 4);
     closes(tally, &mut rec, 0, 0, 2, 5);
     closes(tally, &mut rec, 0, 0, 0, 0);
+    gives(tally, &mut rec, 1, 0, 3, 4);
+    gives(tally, &mut rec, 0, 0, 3, 3);
+    gives(tally, &mut rec, 0, 0, 0, 3);
+    gives(tally, &mut rec, 0, 0, 1, 0);
+    gives(tally, &mut rec, 0, 0, 2, 0);
 }
 
 fn steps(tally: &mut Tally, rec: &mut Bytes, expected: u64) {

@@ -4,6 +4,7 @@ use crate::draws::pick;
 use crate::draws::pick_length;
 use crate::draws::pick_spot;
 use crate::edits::call_close;
+use crate::edits::call_diagonal;
 use crate::edits::call_lay;
 use crate::edits::call_mark;
 use crate::edits::call_new;
@@ -208,6 +209,7 @@ fn call(
         7 => call_write(tally, rec, job, seed),
         9 => call_lay(tally, kept, rec, job, seed),
         10 => call_trial(tally, rec, job, seed),
+        11 => call_diagonal(tally, kept, rec, job, seed),
         _ => call_listing(tally, rec, page, seed),
     }
 }
@@ -217,7 +219,8 @@ fn making(n: usize) -> usize {
     match n {
         0..=3 => 0,
         4..=19 => 1,
-        20..=22 => 2,
+        20 | 21 => 2,
+        22 => 11,
         23 => 3,
         24 => 9,
         25 => 10,
@@ -232,9 +235,10 @@ fn making(n: usize) -> usize {
 // A kind at random: mostly an edit.
 fn editing(n: usize) -> usize {
     match n {
-        0..=8 => 2,
-        9..=14 => 3,
-        15..=22 => 9,
+        0..=7 => 2,
+        8..=12 => 3,
+        13..=17 => 9,
+        18..=22 => 11,
         23..=26 => 4,
         27 => 5,
         28 | 29 => 6,

@@ -1,4 +1,4 @@
-// Examples of K5: three wires by one side of a tile, and what edits leave of them.
+// Examples of K5 and K7: three wires by one side of a tile, and what edits leave of them.
 use crate::examples::read_into;
 use crate::examples::steps;
 use check::same;
@@ -29,6 +29,10 @@ const WITHOUT_FIRST: [u8; 259] =
 // Without that in lane 2.
 const WITHOUT_LAST: [u8; 285] =
     *b"(wires 2)\n(wire (pin 3 1) (to 2 1 w 0) (to 2 1 n 0) (to 1 1 s 0) (to 1 1 w 0) (to 1 1 n 0) (to 0 1 s 0) (to 0 1 w 0) (to 0 1 n 0) (out n 0))\n(wire (pin 3 2) (to 2 1 s 0) (to 2 1 e 0) (to 2 1 n 0) (to 1 1 s 1) (to 1 1 c 0) (to 1 1 n 0) (to 0 1 s 1) (to 0 1 c 0) (to 0 1 n 0) (out n 1))\n";
+
+// Without that through the centre of tile 1 1.
+const WITHOUT_MIDDLE: [u8; 246] =
+    *b"(wires 2)\n(wire (pin 2 2) (to 1 1 s 0) (to 1 1 e 0) (to 1 1 n 0) (to 0 1 s 1) (to 0 1 e 0) (to 0 1 n 0) (out n 1))\n(wire (pin 3 1) (to 2 1 w 0) (to 2 1 n 0) (to 1 1 s 0) (to 1 1 w 0) (to 1 1 n 0) (to 0 1 s 0) (to 0 1 w 0) (to 0 1 n 0) (out n 0))\n";
 
 // That in lane 0 alone.
 const FIRST: [u8; 141] =
@@ -75,6 +79,13 @@ fn close(
 fn lay(tally: &mut Tally, rec: &mut Bytes, side: usize, count: usize, wires: &[u8]) {
     let answer = service::lay(rec, 1, 1, side, count);
     hold(tally, is(answer, DONE, 0), b"an example of lay");
+    leaves(tally, rec, wires);
+}
+
+// The D of tile 1 1.
+fn give(tally: &mut Tally, rec: &mut Bytes, d: usize, wires: &[u8]) {
+    let answer = service::diagonal(rec, 1, 1, d);
+    hold(tally, is(answer, DONE, 0), b"an example of diagonal");
     leaves(tally, rec, wires);
 }
 
@@ -125,6 +136,17 @@ fn tile_goes(tally: &mut Tally) {
     close(tally, &mut rec, 1, 1, 1, &NONE);
 }
 
+// The D in force changes nothing; another, lower or higher, takes out the wire through the centre of the tile, and none that goes round it.
+fn middle_goes(tally: &mut Tally) {
+    let mut rec = wired(tally);
+    give(tally, &mut rec, 6, &ALL);
+    give(tally, &mut rec, 5, &WITHOUT_MIDDLE);
+    steps(tally, &mut rec, ADDED);
+    leaves(tally, &rec, &ALL);
+    give(tally, &mut rec, 5, &ALL);
+    give(tally, &mut rec, 6, &WITHOUT_MIDDLE);
+}
+
 // The direct exit of a closed tile's corner pin stays.
 fn direct_stays(tally: &mut Tally) {
     let mut rec = wired(tally);
@@ -138,5 +160,6 @@ pub fn edited(tally: &mut Tally) {
     pin_goes(tally);
     lanes_go(tally);
     tile_goes(tally);
+    middle_goes(tally);
     direct_stays(tally);
 }

@@ -8,6 +8,7 @@ use crate::draws::pick_state;
 use crate::expect::cell;
 use crate::expect::cut;
 use crate::expect::expect_close;
+use crate::expect::expect_diagonal;
 use crate::expect::expect_lay;
 use crate::expect::expect_mark;
 use crate::expect::expect_new;
@@ -18,11 +19,13 @@ use crate::expect::mark_at;
 use crate::expect::state_at;
 use crate::kept::Kept;
 use crate::kept::closing;
+use crate::kept::giving;
 use crate::kept::hold_kept;
 use crate::kept::laying;
 use crate::kept::marking;
 use check::same;
 use compare::lent::close_on;
+use compare::lent::diagonal_on;
 use compare::lent::lay_on;
 use compare::lent::mark_on;
 use compare::lent::new_on;
@@ -32,14 +35,17 @@ use compare::said::DONE;
 use compare::said::Said;
 use compare::said::agree;
 use compare::said::coded;
+use oracle_text::job::DIAGONAL;
 use oracle_text::job::Job;
 use oracle_text::job::SIDE;
 use oracle_text::job::blank;
+use oracle_text::job::figure;
 use oracle_text::job::fresh;
 use oracle_text::job::laid;
 use oracle_text::job::number;
 use oracle_text::job::set_laid;
 use oracle_text::job::set_mark;
+use oracle_text::job::set_own;
 use oracle_text::job::set_state;
 use oracle_text::random::random_job;
 use oracle_text::random::xorshift;
@@ -204,6 +210,40 @@ pub fn call_lay(
             rec,
             job,
             laying(job, at.row, at.column, letter, old, count),
+        );
+    } else {
+        hold_same(tally, &before, rec);
+    }
+    x
+}
+
+// The D of a tile: mostly from O to twice O.
+pub fn call_diagonal(
+    tally: &mut Tally,
+    kept: &mut Kept,
+    rec: &mut Record,
+    job: &mut Job,
+    seed: u32,
+) -> u32 {
+    let at = pick_spot(seed, job);
+    let x = xorshift(at.next);
+    let o = number(job, SIDE);
+    let d = pick(x, o, o + 2);
+    let before = *rec;
+    let answer = diagonal_on(rec, at.n, at.row, at.column, d);
+    let expected = expect_diagonal(job, at.n, at.row, at.column, d);
+    hold_answer(tally, answer, expected, b"diagonal answers");
+    let p = cell(at.row, at.column);
+    if expected.kind == DONE && figure(job, p) != d {
+        let own = if d == number(job, DIAGONAL) { 0 } else { d };
+        set_own(job, p, own);
+        hold_kept(
+            tally,
+            kept,
+            &before,
+            rec,
+            job,
+            giving(at.row, at.column, own),
         );
     } else {
         hold_same(tally, &before, rec);

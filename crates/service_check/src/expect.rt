@@ -11,12 +11,14 @@ use compare::said::WRONG_TEXT;
 use compare::said::WROTE;
 use compare::said::say;
 use oracle_text::job::CHOSEN;
+use oracle_text::job::DIAGONAL;
 use oracle_text::job::Job;
 use oracle_text::job::SIDE;
 use oracle_text::job::count_marked;
 use oracle_text::job::is_pin;
 use oracle_text::job::is_tile;
 use oracle_text::job::mark;
+use oracle_text::job::may_own;
 use oracle_text::job::number;
 use oracle_text::job::state;
 use oracle_text::text::ACCEPTED;
@@ -83,6 +85,19 @@ pub fn expect_close(job: &Job, n: usize, row: usize, column: usize, value: usize
     }
     if value > 1 {
         return say(REFUSED, 5);
+    }
+    say(DONE, 0)
+}
+
+pub fn expect_diagonal(job: &Job, n: usize, row: usize, column: usize, d: usize) -> Said {
+    if n < 32768 {
+        return say(REFUSED, 1);
+    }
+    if !is_tile(job, row, column) {
+        return say(REFUSED, 4);
+    }
+    if d != number(job, DIAGONAL) && !may_own(job, d) {
+        return say(REFUSED, 3);
     }
     say(DONE, 0)
 }

@@ -29,7 +29,7 @@ use verdict::ends::load;
 use verdict::record::Record;
 use verdict::record::holds_job;
 
-// Which wires an edit takes out: none, those that start at a pin, pass it, meet a place of a tile, or have the highest lanes of a link.
+// Which wires an edit takes out: none, those that start at a pin, pass it, meet a place of a tile, have the highest lanes of a link, or pass the centre of a tile.
 const NONE: usize = 0;
 
 const START: usize = 1;
@@ -39,6 +39,8 @@ const PASS: usize = 2;
 const MEET: usize = 3;
 
 const LANES: usize = 4;
+
+const THROUGH: usize = 5;
 
 // An edit that puts `value` at the byte `at` of the record, and takes out wires of the pin or the tile p, or of the link from the lane `limit` on.
 pub struct Edit {
@@ -82,6 +84,19 @@ pub fn closing(row: usize, column: usize, value: usize) -> Edit {
     }
 }
 
+// Another D of a tile, of which it keeps `own`.
+pub fn giving(row: usize, column: usize, own: usize) -> Edit {
+    let p = cell(row, column);
+    Edit {
+        at: 31168 + p,
+        value: own,
+        takes: THROUGH,
+        p: p,
+        link: NO_LINK,
+        limit: 0,
+    }
+}
+
 // Another count of a side, of which `old` wires were laid.
 pub fn laying(job: &Job, row: usize, column: usize, letter: u8, old: usize, count: usize) -> Edit {
     let link = side_at(cell(row, column), kind_of(letter as usize));
@@ -107,7 +122,7 @@ fn strikes(edit: Edit, u: usize, v: usize, lane: usize) -> bool {
     if v % 8 == 0 {
         edit.takes == PASS
     } else {
-        edit.takes == MEET
+        edit.takes == MEET || (edit.takes == THROUGH && v % 8 == 6)
     }
 }
 
@@ -289,11 +304,11 @@ fn pass_all(rec: &mut Record, was: &[u8], now: &[u8], edit: Edit) -> Compared {
     stands(s, ended && value(f, 0) == all && value(g, 0) == s.stay)
 }
 
-// Of all edits together: the wires that stay, those that go by what takes them out (START to LANES), the edits that leave wires, and those that take some out.
-pub type Kept = [u64; 7];
+// Of all edits together: the wires that stay, those that go by what takes them out (START to THROUGH), the edits that leave wires, and those that take some out.
+pub type Kept = [u64; 8];
 
 fn add(kept: &mut Kept, k: usize, n: usize) {
-    if k < 7 {
+    if k < 8 {
         kept[k] = std::num::wrapping_add_u64(kept[k], n as u64);
     }
 }
@@ -301,18 +316,19 @@ fn add(kept: &mut Kept, k: usize, n: usize) {
 fn note(kept: &mut Kept, edit: Edit, s: Compared) {
     add(kept, 0, s.stay);
     add(kept, edit.takes, s.go);
-    add(kept, 5, if s.stay > 0 { 1 } else { 0 });
-    add(kept, 6, if s.go > 0 { 1 } else { 0 });
+    add(kept, 6, if s.stay > 0 { 1 } else { 0 });
+    add(kept, 7, if s.go > 0 { 1 } else { 0 });
 }
 
 pub fn tell_kept(kept: &Kept) {
-    line(b"edits that leave wires", kept[5]);
-    line(b"edits that take out wires", kept[6]);
+    line(b"edits that leave wires", kept[6]);
+    line(b"edits that take out wires", kept[7]);
     line(b"wires that stay", kept[0]);
     line(b"wires that go, from their pin", kept[1]);
     line(b"wires that go, past a missing pin", kept[2]);
     line(b"wires that go, through a closed tile", kept[3]);
     line(b"wires that go, in the highest lanes", kept[4]);
+    line(b"wires that go, through a centre", kept[5]);
 }
 
 fn put(rec: &mut Record, at: usize, value: usize) {
