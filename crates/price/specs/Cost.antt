@@ -34,7 +34,7 @@ module _ (G : Net) (c : ℕ → ℕ) where
   unfolding cost
   cost-le g h e = sum-le (G .darts) _ _ (λ d l. mul-le-mul-left (c d) (e d l))
 
-  cost-none : cost (λ d. 0) ≡ 0
+  pub cost-none : cost (λ d. 0) ≡ 0
   unfolding cost
   cost-none = sum-none (G .darts) (λ d. c d * 0) (λ d l. omega arith)
 

@@ -3,14 +3,17 @@
 use mathlib.Core.Path.{_≡_, ap}
 use mathlib.Core.Logic.{_⊎_, inl, inr}
 use mathlib.Core.List.{List, List·Memᴰ}
-use Prim.Native.Nat.{ℕ, _+_, _≤_, _<_}
+use Prim.Native.Nat.{ℕ, _+_, _*_, _≤_, _<_}
 use native.Mathlib.Nat.{eq-zero-or-pos}
 use native.Mathlib.Omega.{arith}
+use Rattle.sums.specs.Sums.{sum-none}
 use Rattle.flow.specs.Network.{Net, head, times, times-has}
-use Rattle.flow.specs.Balance.{back}
+use Rattle.flow.specs.Balance.{back, balanced-none}
+use Rattle.flow.specs.Flow.{Load}
 use Rattle.flow.specs.Push.{push}
+use Rattle.price.specs.Cost.{cost, cost-none}
 use Rattle.price.specs.Moves.{Open, Grounded, Tight, takes, adds}
-use Rattle.price.specs.Priced.{Priced}
+use Rattle.price.specs.Priced.{Priced, worth, priced-le}
 
 -- Pushing darts once each along tight moves keeps the prices.
 pub tight-push : {G : Net} {c f π : ℕ → ℕ} (ds : List ℕ) → Priced G c f π → ((d : ℕ) → times ds d ≤ 1)
@@ -48,3 +51,14 @@ tight-push {G} {c} {f} {π} ds P one tight =
 pub none-priced : {G : Net} {c π : ℕ → ℕ} → Grounded G π → ((d : ℕ) → d < G .darts → Open G (λ d. 0) d → π (G .tail d) ≤ π (head G d) + c d)
     → Priced G c (λ d. 0) π
 none-priced z h = record { adding = h; taking = λ d l k. absurd (omega arith); grounded = z }
+
+-- No load within the limits costs less than such prices say of what starts.
+pub none-worth : {G : Net} {c π g t : ℕ → ℕ} → Priced G c (λ d. 0) π → Load G g t → worth G π t ≤ cost G c g
+unfolding worth
+none-worth {G} {c} {π} P L =
+    omega (
+      arith,
+      priced-le P (record { within = λ d l f. omega arith; wanted = λ u l. omega arith; balanced = balanced-none G }) L,
+      cost-none G c,
+      sum-none (G .nodes) (λ u. π u * 0) (λ u l. omega arith),
+    )

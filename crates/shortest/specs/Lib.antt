@@ -8,3 +8,4 @@ pub mod PricedLaid
 pub mod Ceiling
 -- First prices.
 pub mod Rings
+pub mod FirstPrices

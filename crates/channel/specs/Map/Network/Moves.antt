@@ -12,8 +12,8 @@ use native.Mathlib.Omega.{arith}
 use lib.Dec.{T, eqb, ltb, ltb→lt, lt→ltb}
 use Rattle.sums.specs.Counting.{when, total}
 use Rattle.sums.specs.Tests.{and-left, and-right, and-both, or-by}
-use Rattle.sums.specs.Sums.{when-so, when-some}
-use Rattle.sums.specs.Totals.{total-has}
+use Rattle.sums.specs.Sums.{when-so, when-none, when-some}
+use Rattle.sums.specs.Totals.{total-none, total-has}
 use Rattle.flow.specs.Residual.{Residual, undo, room, unlimited, Closed}
 use Rattle.model.specs.Job.{Job, arrayFits, centreLimit, northLimit, westLimit, tileD, extraLimit}
 use Rattle.model.specs.Links.{Compass, north, east, south, west, pin, missing, Place, at, theOutside, isPlace, LinkKind, northSide, westSide, corner, spoke, leg, direct, link, behindOf, aheadOf, limitOf, Step, turn, head, tail, may, limit, pass, around}
@@ -88,11 +88,11 @@ module _ (J : Job) where
   -- ---- loaded darts
 
   -- a dart along a link that may be taken, or through a place
-  data Leads (d : ℕ) : Type 0 where
+  pub data Leads (d : ℕ) : Type 0 where
     along : T (isLinkDart d) → T (may J (stepOf d)) → Leads d
     through : T (isPassDart d) → T (isPlace J (passedOf d)) → Leads d
 
-  cap-leads : (d : ℕ) → 0 < cap J d → Leads d
+  pub cap-leads : (d : ℕ) → 0 < cap J d → Leads d
   unfolding cap
   cap-leads d p = by (eq-zero-or-pos (when (isLinkDart d && may J (stepOf d)) (size (limit J (stepOf d .link)))))
     where
@@ -280,6 +280,16 @@ module _ (J : Job) (fits : T (arrayFits (J .rows) (J .columns))) (rec : List ℕ
   free-detour d l f p =
       let (g, q) = when-some (inGrid (ownerCell d)) (load rec (turn (stepOf d))) (unfold opposed in p) in
       detoured d l (free-link J d f) (free-may J d f) g q (free-ends J (stepOf d) (free-unlimited J d f))
+
+-- where no link has a load, no dart has one
+pub view-none : (rec : List ℕ) → ((s : Step) → load rec s ≡ 0) → (d : ℕ) → view rec d ≡ 0
+unfolding view arrivals
+view-none rec z d =
+    omega (
+      arith,
+      when-none (isLinkDart d) (load rec (stepOf d)) (λ t. z (stepOf d)),
+      when-none (isPassDart d) (arrivals (load rec) (passedOf d)) (λ t. total-none (around (passedOf d)) (λ s. load rec (turn s)) (λ s. z (turn s))),
+    )
 
 -- what a move is
 pub undo-moves : (J : Job) (rec : List ℕ) (d : ℕ) → 0 < view rec (rev d) → T (moves J rec d)
