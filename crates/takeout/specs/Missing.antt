@@ -23,8 +23,8 @@ use Rattle.wire.specs.Around.{step-lands}
 use Rattle.wire.specs.Next.{hop-may}
 use Rattle.wire.specs.Apart.{wire-loaded}
 use Rattle.keep.specs.Edits.{Meets, starts, comes}
-use Rattle.takeout.specs.Edited.{Marks, AddsAt, marks-place, left-avoids}
-use Rattle.takeout.specs.Stored.{Unwired}
+use Rattle.takeout.specs.Edited.{Marks, AddsAt, marks-place}
+use Rattle.takeout.specs.Stored.{Unwired, unwired-avoids}
 
 -- the missing pins of the first n cells
 unfoldable pub missingTo : Job → ℕ → List Place
@@ -141,5 +141,5 @@ module _ (was : List ℕ) (g : Legal was) where
   unfolding extraLeft
   extra-stored taken rec rec′ rec″ e long z M k =
       k
-      ∙ (ap (λ (x : List ℕ). set x 4 e) (z ∙ ap (λ (h : Step → ℕ). over (recordOf J h) rec) (left-avoids was g (missingPlaces J) taken M))
+      ∙ (ap (λ (x : List ℕ). set x 4 e) (unwired-avoids was taken rec rec′ (missingPlaces J) g M z)
       ∙ extra-with J (extraLeft J f) rec e long)

@@ -50,7 +50,7 @@ module _ (was taken rec rec′ rec″ : List ℕ) (g : Legal was) (r c v : ℕ) 
   unfolding centreLeft
   diagonal-stored lr lc M k =
       k
-      ∙ (ap (λ (z : List ℕ). set z (offset ownDPlane r c) v) (e ∙ ap (λ (h : Step → ℕ). over (recordOf J h) rec) (left-avoids was g (at centre r c ∷ []) taken M))
+      ∙ (ap (λ (z : List ℕ). set z (offset ownDPlane r c) v) (unwired-avoids was taken rec rec′ (at centre r c ∷ []) g M e)
       ∙ own-with J (centreLeft J f r c) rec r c v long lr lc)
 
   -- the count v of a side
