@@ -7,7 +7,7 @@ import command
 import talusdish
 from layout import hops, link
 from support import EXAMPLES, ROOT, random_job
-from talusdish import CHOSEN, MISSING, SHORT, Job, Out, Refused, To, ball_name, ball_place, row_name, wires_of
+from talusdish import CHOSEN, IDLE, MISSING, SHORT, Job, Out, Refused, To, ball_name, ball_place, row_name, wires_of
 
 HEADER = (ROOT / 'include' / 'talusdish.h').read_text()
 
@@ -122,6 +122,35 @@ class Binding(unittest.TestCase):
                 if through:
                     break
         self.assertGreater(min(taken, kept), 50)
+
+    def test_an_edit_keeps_the_other_wires(self):
+        gone = kept = 0
+        for seed in range(60):
+            job = random_job(seed)
+            job.route()
+            for edit, meets in self.edits_of(job):
+                before = job.wires()
+                edit()
+                after = job.wires()
+                self.assertEqual(set(after), {pin for pin, parts in before.items() if not meets(pin, parts)})
+                for pin, parts in after.items():
+                    self.assertEqual([part[:-1] for part in parts], [part[:-1] for part in before[pin]])
+                    self.assertTrue(all(part[-1] <= was[-1] for part, was in zip(parts, before[pin])))
+                gone, kept = gone + len(before) - len(after), kept + len(after)
+        self.assertGreater(min(gone, kept), 100)
+
+    def edits_of(self, job):
+        """Edits of a wired job, each with a test of the pins and parts of wires that it takes out."""
+        for row, column in job.pins(CHOSEN)[:2]:
+            yield lambda: job.mark(row, column, IDLE), lambda pin, parts: pin == (row, column)
+        for row, column in job.pins(MISSING)[:2]:
+            yield lambda: job.mark(row, column, IDLE), lambda pin, parts: any(part[:-1] == (row, column, 'r') for part in parts)
+        for row, column in job.tiles(True)[:2]:
+            yield lambda: job.close(row, column, 1), lambda pin, parts: any(part[:2] == (row, column) and part[2] != 'r' for part in parts if len(part) == 4)
+        for row, column in job.pins(IDLE)[:1]:
+            yield lambda: job.mark(row, column, CHOSEN), lambda pin, parts: False
+        for row, column in job.tiles(False)[:1]:
+            yield lambda: job.close(row, column, 0), lambda pin, parts: False
 
     def test_the_longest_text(self):
         job = Job(40, 40, 8, 16, 16)

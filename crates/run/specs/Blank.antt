@@ -1,4 +1,4 @@
--- Document 01, "Record and operations": New, Read text, a trial and every edit leave no wires, for the record that they write has no loads; and a buffer that is
+-- Document 01, "Record and operations": New, Read text and a trial leave no wires, for the record that they write has no loads; and a buffer that is
 -- long enough is accepted by New, Read text and a trial. So every service starts a run from every such job, with nothing wired. Assumes nothing.
 use mathlib.Core.Path.{_≡_, refl, ap, _∙_}
 use mathlib.Core.Bool.{Bool, true, false, _&&_}
