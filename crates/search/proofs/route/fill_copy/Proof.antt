@@ -1,6 +1,7 @@
 -- `route::fill_copy` meets its contract: the loads of the copy are filled and freed of loops, and what is left unwired is counted and shown.
 -- Assumes nothing.
-use mathlib.Core.Path.{refl}
+use mathlib.Core.Path.{refl, sym, subst}
+use Prim.Native.Nat.{ℕ, _≤_}
 use borrow.Author.Needs.{needs}
 use Rattle.channel.specs.Map.Numbers.{spots-is}
 use Rattle.search.specs.Routing.{copied-front, copy-held, routed-whole, routed-short}
@@ -56,7 +57,16 @@ untangle-requires c κs =
     }
 
 unwired-requires : tie.Need-unwired-requires
-unwired-requires c κs = search needs
+unwired-requires c κs =
+    let c6 = c .before .before .before .before .before .before in
+    let c18 = c6 .before .before .before .before .before .before .before .before .before .before .before .before in
+    let c27 = c18 .before .before .before .before .before .before .before .before .before in
+    let p = c27 .before .before .before .before .before .pre in
+    let H = c18 .fill .ensures .more .held in
+    record {
+      asked = p .0 .long;
+      loads = subst (λ (n : ℕ). 32768 ≤ n) (sym (c6 .untangle .ensures .loose _ H .kept .size)) (H .long);
+    }
 
 same-length : tie.Need-same-length
 same-length c = search needs
