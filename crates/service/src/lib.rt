@@ -13,4 +13,5 @@ pub use routing::list_wires;
 pub use routing::part;
 pub use routing::shortfall;
 pub use routing::step;
+pub use sheets::sheet;
 pub use trials::trial;

@@ -9,10 +9,11 @@ use lib.Dec.{T, T-not, eqb, ltb, eqb→eq, ltb→lt}
 use Rattle.sums.specs.Tests.{and-left, and-right}
 use Rattle.model.specs.Links.{Compass, north, east, south, west, compassCode, PlaceKind, pin, missing, side, centre, outside, nowhere}
 use Rattle.model.specs.Wires.{Part, unwired, to, out, pastTheEnd}
-use Rattle.model.specs.Calls.{Call, new, mark, close, lay, diagonal, step, shortfall, part, readText, writeText, listing, trial, extra}
-use Rattle.model.specs.Calls.{Answer, refused, wrongText, done, added, allWired, short, lacks, lists, wrote}
-use Rattle.talusdish.specs.Words.{placeNumber, number, partNumber, value, code, word, placeOf, partWith, partRead, stepRead, valueRead, codeRead, wordRead}
-use Rattle.talusdish.specs.Words.{isNumbered, partFits, operation, few, refusalFits, fits}
+use Rattle.model.specs.Calls.{Call, new, mark, close, lay, diagonal, step, shortfall, part, readText, writeText, listing, trial, extra, sheet}
+use Rattle.model.specs.Calls.{Answer, refused, wrongText, done, added, allWired, short, lacks, lists, wrote, sheetIs}
+use Rattle.talusdish.specs.Words.{placeNumber, number, partNumber, value, code, word, placeOf, partWith, partRead, stepRead, valueRead, codeRead, wordRead, verdictNumber, verdictWith, verdictRead}
+use Rattle.talusdish.specs.Words.{isNumbered, partFits, operation, few, refusalFits, fits, verdictFits}
+use Rattle.model.specs.Sheet.{SheetVerdict, carried, failsAt}
 
 -- ---- places and parts
 
@@ -80,6 +81,24 @@ part-small (to r c p i) t =
     )
 part-small (out p i) t = omega (arith, place-few p, ltb→lt i 32 (and-left (ltb i 32) (isNumbered p) t))
 
+-- ---- verdicts of sheets
+
+pub verdict-back : (v : SheetVerdict) → T (verdictFits v) → verdictRead (verdictNumber v) ≡ v
+verdict-back carried t = refl
+verdict-back (failsAt r c) t =
+    let l = ltb→lt r 64 (and-left (ltb r 64) (ltb c 64) t) in
+    let n : ℕ = number 1 0 0 r c in
+    let y : n / 1024 ≡ r + 64 * c = omega arith in
+    let x₀ : n % 4 ≡ 1 = omega arith in
+    let x₁ : n / 1024 % 64 ≡ r = ap (λ (m : ℕ). m % 64) y ∙ omega arith in
+    let x₂ : n / 65536 ≡ c = omega arith in
+    λ j. verdictWith (x₀ j) (x₁ j) (x₂ j)
+
+verdict-small : (v : SheetVerdict) → T (verdictFits v) → verdictNumber v < 2 ^ 23
+verdict-small carried t = omega arith
+verdict-small (failsAt r c) t =
+    omega (arith, ltb→lt r 64 (and-left (ltb r 64) (ltb c 64) t), ltb→lt c 64 (and-right (ltb r 64) (ltb c 64) t))
+
 -- ---- code and value
 
 split : (v k : ℕ) → k < 256 → ((256 * v + k) % 256 ≡ k) × ((256 * v + k) / 256 ≡ v)
@@ -106,6 +125,7 @@ code-few c short t = omega arith
 code-few c (lacks k) t = omega arith
 code-few c (lists p) t = omega arith
 code-few c (wrote n) t = omega arith
+code-few c (sheetIs v) t = omega arith
 
 value-few : (c : Call) (x : Answer) → T (fits c x) → value x < 2 ^ 56
 value-few c (refused k) t = omega arith
@@ -117,6 +137,7 @@ value-few c short t = omega arith
 value-few c (lacks k) t = ltb→lt k (2 ^ 56) (and-right (eqb (operation c) 4) (few k) t)
 value-few c (lists p) t = omega (arith, part-small p (and-right (eqb (operation c) 5) (partFits p) t))
 value-few c (wrote n) t = ltb→lt n (2 ^ 56) (and-right (eqb (operation c) 7) (few n) t)
+value-few c (sheetIs v) t = omega (arith, verdict-small v (and-right (eqb (operation c) 8) (verdictFits v) t))
 
 -- "256 * value + code": the remainder by 256 is the code, the quotient the value
 pub word-code : (c : Call) (x : Answer) → T (fits c x) → word x % 256 ≡ code x
@@ -135,7 +156,7 @@ abbrev valueBy : ℕ → ℕ → Answer
 valueBy n v =
     elim (eqb n 3) [
       | true ↦ stepRead v
-      | false ↦ elim (eqb n 4) [ true ↦ lacks v | false ↦ elim (eqb n 5) [ true ↦ lists (partRead v) | false ↦ elim (eqb n 7) [ true ↦ wrote v | false ↦ done ] ] ]
+      | false ↦ elim (eqb n 4) [ true ↦ lacks v | false ↦ elim (eqb n 5) [ true ↦ lists (partRead v) | false ↦ elim (eqb n 7) [ true ↦ wrote v | false ↦ elim (eqb n 8) [ true ↦ sheetIs (verdictRead v) | false ↦ done ] ] ] ]
     ]
 
 value-by : (c : Call) (v : ℕ) → valueRead c v ≡ valueBy (operation c) v
@@ -152,6 +173,7 @@ value-by (writeText output) v = refl
 value-by (listing output) v = refl
 value-by (trial t) v = refl
 value-by (extra e) v = refl
+value-by (sheet loads) v = refl
 
 value-of : (c : Call) (v n : ℕ) → T (eqb (operation c) n) → valueRead c v ≡ valueBy n v
 value-of c v n t = value-by c v ∙ ap (λ (m : ℕ). valueBy m v) (eqb→eq (operation c) n t)
@@ -170,6 +192,7 @@ done-back (writeText output) t = absurd t
 done-back (listing output) t = absurd t
 done-back (trial t) u = refl
 done-back (extra e) t = refl
+done-back (sheet loads) t = absurd t
 
 code-back : (c : Call) (x : Answer) → T (fits c x) → codeRead c (code x) (value x) ≡ x
 code-back c (refused k) t =
@@ -186,6 +209,8 @@ code-back c (lacks k) t = value-of c k 4 (and-left (eqb (operation c) 4) (few k)
 code-back c (lists p) t =
     value-of c (partNumber p) 5 (and-left (eqb (operation c) 5) (partFits p) t) ∙ ap lists (part-back p (and-right (eqb (operation c) 5) (partFits p) t))
 code-back c (wrote n) t = value-of c n 7 (and-left (eqb (operation c) 7) (few n) t)
+code-back c (sheetIs v) t =
+    value-of c (verdictNumber v) 8 (and-left (eqb (operation c) 8) (verdictFits v) t) ∙ ap sheetIs (verdict-back v (and-right (eqb (operation c) 8) (verdictFits v) t))
 
 pub word-back : (c : Call) (x : Answer) → T (fits c x) → wordRead c (word x) ≡ x
 word-back c x t = ap₂ (codeRead c) (word-code c x t) (word-value c x t) ∙ code-back c x t

@@ -2,13 +2,14 @@
 -- known: a test that can fail in neither case passes.
 -- Assumes nothing.
 use mathlib.Core.Path.{_≡_, sym, subst}
-use mathlib.Core.Bool.{Bool, true, false, not}
+use mathlib.Core.Bool.{Bool, true, false, not, _&&_}
 use mathlib.Core.List.{List, [], _∷_}
-use Prim.Native.Nat.{ℕ, _-_, _*_, _^_, _≤_, _<_}
+use Prim.Native.Nat.{ℕ, _-_, _*_, _^_, _≤_, _<_, suc}
 use native.Mathlib.Omega.{arith}
 use lib.Dec.{T, eqb, leb, ltb, leb→le, nleb→lt, ltb→lt, lt→ltb}
 use lib.ListN.{length}
 use Rattle.sums.specs.Counting.{when}
+use Rattle.sums.specs.Tests.{and-left, and-right, and-both}
 use Rattle.sums.specs.Totals.{total-le, length-total}
 use Rattle.model.specs.Job.{Job, arrayFits, capsAdmitted, fresh, marked, closed, sideOf, laidOn, laidBy, diagonalBy, tileD, inRange, isPin, isTile, isChosen, withExtra}
 use Rattle.model.specs.Links.{places, isPinKind, Step}
@@ -19,16 +20,17 @@ use Rattle.model.specs.Left.{markLeft, closeLeft, laidLeft, centreLeft, extraLe
 use Rattle.model.specs.Text.{Verdict, reads, wrongAt, Reading, textOf}
 use Rattle.model.specs.Listing.{wiresListing}
 use Rattle.model.specs.Trial.{Trial, seedFits, percentsFit, trialJob}
-use Rattle.model.specs.Calls.{Call, new, mark, close, lay, diagonal, step, shortfall, part, readText, writeText, listing, trial, Answer, refused, wrongText, done, lacks, lists, wrote, extra}
-use Rattle.model.specs.Calls.{After, after, Test, test, asked, edited, newly, triedOn, listed, readIn, putOut, Stepped, adds, stays, lacking, On, Steps, Lacks, ReadIn, Did}
-use Rattle.model.proofs.Asked.{allHold, numbered, asked-either}
+use Rattle.model.specs.Calls.{Call, new, mark, close, lay, diagonal, step, shortfall, part, readText, writeText, listing, trial, Answer, refused, wrongText, done, lacks, lists, wrote, extra, sheet, sheetIs}
+use Rattle.model.specs.Calls.{After, after, Test, test, asked, edited, newly, triedOn, listed, readIn, putOut, Stepped, adds, stays, lacking, On, Steps, Lacks, ReadIn, Did, OnSheet}
+use Rattle.model.proofs.Asked.{allHold, numbered, asked-either, both-hold}
+use Rattle.model.specs.Sheet.{sheetJob, sheetFits, SheetVerdict, Judged, all-carried, first-fails}
 use Rattle.model.proofs.Over.{legal-proper}
 use Rattle.model.proofs.ListingLength.{listing-short}
 use Rattle.wire.specs.Places.{when-drop}
 use Rattle.wire.specs.Lengths.{places-few}
 use Rattle.talusdish.specs.TextBound.{reading-within, text-short}
 use Rattle.talusdish.specs.PartBound.{part-fits}
-use Rattle.talusdish.specs.Words.{word, wordRead, refusalFits, fits}
+use Rattle.talusdish.specs.Words.{word, wordRead, refusalFits, verdictFits, fits}
 use Rattle.talusdish.specs.Decoded.{word-small, word-back}
 
 abbrev Fits : Call → After → Type 0
@@ -136,6 +138,25 @@ tried-fits t rec =
     ∷ test (percentsFit (t .chosen) (t .missing) (t .closed)) 13
     ∷ []) rec [] (after done (over (unwiredRecord (trialJob t)) rec) [] []) tt (λ u. tt)
 
+judged-fits : (rec loads : List ℕ) → Legal rec → (v : SheetVerdict) → Judged (jobOf rec) loads v → T (verdictFits v)
+judged-fits rec loads g v (all-carried k) = tt
+judged-fits rec loads g v (first-fails r c t n b) =
+    let J : Job = jobOf rec in
+    let lr = ltb→lt (suc r) (J .rows) (and-left (ltb (suc r) (J .rows)) (ltb (suc c) (J .columns)) t) in
+    let lc = ltb→lt (suc c) (J .columns) (and-right (ltb (suc r) (J .rows)) (ltb (suc c) (J .columns)) t) in
+    let a = g .values .array in
+    let mr = leb→le (J .rows) 40 (and-right (leb 2 (J .rows)) (leb (J .rows) 40) (and-left (inRange 2 40 (J .rows)) (inRange 2 40 (J .columns)) a)) in
+    let mc = leb→le (J .columns) 40 (and-right (leb 2 (J .columns)) (leb (J .columns) 40) (and-right (inRange 2 40 (J .rows)) (inRange 2 40 (J .columns)) a)) in
+    and-both (ltb r 64) (ltb c 64) (lt→ltb r 64 (omega arith)) (lt→ltb c 64 (omega arith))
+
+sheet-fits : (loads rec : List ℕ) → Legal rec → (a : After) → OnSheet loads rec a → Fits (sheet loads) a
+sheet-fits loads rec g a s =
+    let j : Bool = sheetJob (jobOf rec) in
+    let f : Bool = sheetFits (jobOf rec) loads in
+    as-fits (sheet loads) (s .left)
+    (asked-fits (sheet loads) (test j 14 ∷ test f 15 ∷ []) rec [] (after (sheetIs (s .verdict)) rec [] []) tt
+    (λ t. let (u, v) = both-hold j f t in judged-fits rec loads g (s .verdict) (s .judged u v)))
+
 -- ---- every operation
 
 pub did-fits : (c : Call) (rec : List ℕ) (a : After) → Did c rec a → Fits c a
@@ -197,6 +218,7 @@ did-fits (extra e) rec a d =
     (λ g h.
     as-fits (extra e) h
     (asked-fits (extra e) (test (leb e (J .E)) 3 ∷ []) rec [] leaves tt (λ t. edited-fits (extra e) tt (eqb (J .E) e) (withExtra J e) left rec)))
+did-fits (sheet loads) rec a d = on-fits (sheet loads) rec [] [] a d (λ g s. sheet-fits loads rec g a s)
 
 pub did-small : (c : Call) (rec : List ℕ) (a : After) → Did c rec a → word (a .answer) < 2 ^ 64
 did-small c rec a d = word-small c (a .answer) (did-fits c rec a d)

@@ -5,8 +5,9 @@ use Prim.Native.Nat.{ℕ, zero, suc, _+_, _*_, _^_, _/_, _%_}
 use lib.Dec.{eqb, ltb}
 use Rattle.model.specs.Links.{north, east, south, west, compassCode, PlaceKind, pin, missing, side, centre, outside, nowhere}
 use Rattle.model.specs.Wires.{Part, unwired, to, out, pastTheEnd}
-use Rattle.model.specs.Calls.{Call, new, mark, close, lay, diagonal, step, shortfall, part, readText, writeText, listing, trial, extra}
-use Rattle.model.specs.Calls.{Answer, refused, wrongText, done, added, allWired, short, lacks, lists, wrote, refusal}
+use Rattle.model.specs.Calls.{Call, new, mark, close, lay, diagonal, step, shortfall, part, readText, writeText, listing, trial, extra, sheet}
+use Rattle.model.specs.Calls.{Answer, refused, wrongText, done, added, allWired, short, lacks, lists, wrote, refusal, sheetIs}
+use Rattle.model.specs.Sheet.{SheetVerdict, carried, failsAt}
 
 -- 0 n, 1 e, 2 s, 3 w, 4 c, 5 r, 6 p; no part has another place
 abbrev pub placeNumber : PlaceKind → ℕ
@@ -27,6 +28,11 @@ partNumber pastTheEnd = 1
 partNumber (to r c p i) = number 2 (placeNumber p) i r c
 partNumber (out p i) = number 3 (placeNumber p) i 0 0
 
+-- 0 carried, else 1 and the row and the column of the first failing tile
+abbrev pub verdictNumber : SheetVerdict → ℕ
+verdictNumber carried = 0
+verdictNumber (failsAt r c) = number 1 0 0 r c
+
 abbrev pub value : Answer → ℕ
 value (refused k) = 0
 value (wrongText o) = o
@@ -37,6 +43,7 @@ value short = 2
 value (lacks k) = k
 value (lists p) = partNumber p
 value (wrote n) = n
+value (sheetIs v) = verdictNumber v
 
 abbrev pub code : Answer → ℕ
 code a = elim (refusal a) [ none ↦ 0 | some k ↦ k ]
@@ -72,6 +79,14 @@ stepRead zero = added
 stepRead (suc zero) = allWired
 stepRead (suc (suc v)) = short
 
+-- of a sheet 0 carried, else its row and its column
+abbrev pub verdictWith : (kind row column : ℕ) → SheetVerdict
+verdictWith zero r c = carried
+verdictWith (suc k) r c = failsAt r c
+
+abbrev pub verdictRead : ℕ → SheetVerdict
+verdictRead v = verdictWith (v % 4) (v / 1024 % 64) (v / 65536)
+
 abbrev pub valueRead : Call → ℕ → Answer
 valueRead (new rows columns O D E) v = done
 valueRead (mark r c m) v = done
@@ -86,6 +101,7 @@ valueRead (writeText output) v = wrote v
 valueRead (listing output) v = wrote v
 valueRead (trial t) v = done
 valueRead (extra e) v = done
+valueRead (sheet loads) v = sheetIs (verdictRead v)
 
 -- what a code and a value say: 0 accepted, 6 wrong text with its offset, else the number of the refusal
 abbrev pub codeRead : Call → ℕ → ℕ → Answer
@@ -127,6 +143,7 @@ operation (writeText output) = 7
 operation (listing output) = 7
 operation (trial t) = 0
 operation (extra e) = 2
+operation (sheet loads) = 8
 
 -- a value has 56 bits
 abbrev pub few : ℕ → Bool
@@ -134,6 +151,11 @@ few n = ltb n (2 ^ 56)
 
 abbrev pub refusalFits : ℕ → Bool
 refusalFits k = ltb 0 k && (ltb k 256 && not (eqb k 6))
+
+-- a tile that can stand in a word
+abbrev pub verdictFits : SheetVerdict → Bool
+verdictFits carried = true
+verdictFits (failsAt r c) = ltb r 64 && ltb c 64
 
 -- The answers that an operation can give: a refusal by a number from 1 to 255 that is not 6, or what its paragraph says.
 abbrev pub fits : Call → Answer → Bool
@@ -146,3 +168,4 @@ fits c short = eqb (operation c) 3
 fits c (lacks k) = eqb (operation c) 4 && few k
 fits c (lists p) = eqb (operation c) 5 && partFits p
 fits c (wrote n) = eqb (operation c) 7 && few n
+fits c (sheetIs v) = eqb (operation c) 8 && verdictFits v

@@ -1,7 +1,7 @@
 // The operations as functions for hosts. Each passes its buffers on and returns the word of an answer with which the operation did what it promises.
 ghost use mathlib.Core.Path.{_≡_};
 ghost use mathlib.Core.List.{[]};
-ghost use Rattle.model.specs.Calls.{new as New, mark as Mark, close as Close, lay as Lay, diagonal as Diagonal, step as Step, shortfall as Shortfall, part as Part, readText, writeText, listing as Listing, trial as Trial, extra as Extra};
+ghost use Rattle.model.specs.Calls.{new as New, mark as Mark, close as Close, lay as Lay, diagonal as Diagonal, step as Step, shortfall as Shortfall, part as Part, readText, writeText, listing as Listing, trial as Trial, extra as Extra, sheet as Sheet};
 ghost use Rattle.model.specs.Trial.{trialOf};
 ghost use Rattle.model.specs.Calls.{Answer, after, Did};
 ghost use Rattle.talusdish.specs.Words.{word};
@@ -164,4 +164,13 @@ pub extern "C" fn talusdish_trial(
         missing as usize,
         closed as usize,
     ))
+}
+
+// Whether the tiles carry a sheet of side loads.
+#[no_mangle]
+pub extern "C" fn talusdish_sheet(rec: &[u8], sheet: &[u8]) -> u64
+    ensures { λ n. ⌜ ((a : Answer) × (n ≡ word a)
+        × Did (Sheet (now (sheet .entry))) (now (rec .entry)) (after a (now (rec .entry)) [] [])) ⌝ }
+{
+    word_of(service::sheet(rec, sheet))
 }

@@ -68,6 +68,8 @@ fn value_of(answer: Answer) -> u64
         Answer::Lacks(k) => k as u64,
         Answer::Lists(p) => part_number(p),
         Answer::Wrote(n) => n as u64,
+        Answer::Carried => 0,
+        Answer::Fails(row, column) => numbered(1, 0, 0, row as u64, column as u64),
     }
 }
 
@@ -85,6 +87,8 @@ fn code_of(answer: Answer) -> u64
         Answer::Lacks(_) => 0,
         Answer::Lists(_) => 0,
         Answer::Wrote(_) => 0,
+        Answer::Carried => 0,
+        Answer::Fails(_, _) => 0,
     }
 }
 

@@ -3,19 +3,24 @@
 -- promises of the operations can be kept together, so that a theorem about every service has something to speak of. Assumes nothing.
 use mathlib.Core.Path.{_≡_, refl}
 use mathlib.Core.Logic.{_⊎_, inl, inr}
+use mathlib.Core.Bool.{Bool, true, false}
 use mathlib.Core.List.{List, []}
 use Prim.Native.Nat.{ℕ, _-_, _≤_, _<_}
 use native.Mathlib.Decide.{decLe, decLt}
 use native.Mathlib.Omega.{arith}
+use lib.Dec.{T}
 use lib.ListN.{length}
 use Rattle.model.specs.Route.{chosenCount}
 use Rattle.model.specs.Record.{recordSize, scratchSize, jobOf, load, Legal, over}
 use Rattle.model.specs.Text.{Verdict, Reading}
-use Rattle.model.specs.Calls.{Call, new, mark, close, lay, diagonal, step, shortfall, part, readText, writeText, listing, trial, extra}
-use Rattle.model.specs.Calls.{Answer, refused, added, allWired, short, lacks, After, after, cleared}
-use Rattle.model.specs.Calls.{newly, triedOn, markedBy, closedBy, laidIn, diagonalIn, listed, readIn, written, listedOut, OneMore, Stepped, adds, stays, lacking, wiresIn, nearBytes, extraIn}
-use Rattle.model.specs.Calls.{Shown, none-short, side, On, Steps, Lacks, ReadIn, Did}
+use Rattle.model.specs.Calls.{Call, new, mark, close, lay, diagonal, step, shortfall, part, readText, writeText, listing, trial, extra, sheet}
+use Rattle.model.specs.Calls.{Answer, refused, added, allWired, short, lacks, After, after, cleared, sheetIs}
+use Rattle.model.specs.Calls.{newly, triedOn, markedBy, closedBy, laidIn, diagonalIn, listed, readIn, written, listedOut, OneMore, Stepped, adds, stays, lacking, wiresIn, nearBytes, extraIn, sheetLeft}
+use Rattle.model.specs.Calls.{Shown, none-short, side, On, Steps, Lacks, ReadIn, Did, OnSheet}
+use Rattle.model.specs.Sheet.{sheetJob, sheetFits, SheetVerdict, carried, Judged}
 use Rattle.model.specs.Run.{Service}
+use Rattle.sheets.specs.Tests.{ready-of}
+use Rattle.sheets.specs.First.{judged-some}
 use Rattle.witness.specs.Damage.{legal?}
 use Rattle.witness.specs.Verdicts.{reading}
 use Rattle.witness.specs.Added.{Full, add-or-full}
@@ -90,6 +95,20 @@ module _ (rec : List ℕ) where
       by (no n) r = (after (refused 1) rec [] [], record { brief = λ h. refl; long = λ h. absurd (n h) })
       by (yes l) (v, r) = (readIn v rec, record { brief = λ h. absurd (omega arith); long = λ h. (v, r, refl) })
 
+  -- ---- sheet
+
+  -- a verdict, whatever it is where the job or the sheet is turned away
+  judged : (loads : List ℕ) → Legal rec → (v : SheetVerdict) × (T (sheetJob (jobOf rec)) → T (sheetFits (jobOf rec) loads) → Judged (jobOf rec) loads v)
+  judged loads g = by (sheetJob (jobOf rec)) (sheetFits (jobOf rec) loads) (λ t u. judged-some (jobOf rec) loads (ready-of rec loads g t u))
+    where
+      by : (a b : Bool) → (T a → T b → (v : SheetVerdict) × Judged (jobOf rec) loads v) → (v : SheetVerdict) × (T a → T b → Judged (jobOf rec) loads v)
+      by true true f = let (v, j) = f tt tt in (v, λ t u. j)
+      by true false f = (carried, λ t u. absurd u)
+      by false b f = (carried, λ t. absurd t)
+
+  sheet-is : (loads : List ℕ) → Legal rec → (a : After) × OnSheet loads rec a
+  sheet-is loads g = let (v, j) = judged loads g in (sheetLeft loads v rec, record { verdict = v; judged = j; left = refl })
+
 -- ---- the operations
 
 serve : (c : Call) (rec : List ℕ) → (a : After) × Did c rec a
@@ -106,6 +125,7 @@ serve (writeText output) rec = on rec [] output (λ a. a ≡ written output rec)
 serve (listing output) rec = on rec [] output (λ a. a ≡ listedOut output rec) (λ g. (listedOut output rec, refl))
 serve (trial t) rec = (triedOn t rec, refl)
 serve (extra e) rec = on rec [] [] (λ a. a ≡ extraIn e rec) (λ g. (extraIn e rec, refl))
+serve (sheet loads) rec = on rec [] [] (OnSheet loads rec) (sheet-is rec loads)
 
 pub service : Service
 service = record { does = λ c rec. serve c rec .0; did = λ c rec lent buffer. serve c rec .1 }

@@ -1,5 +1,5 @@
--- `value_of` meets its contract, by its cases: the number of a part is small enough, as the value is. Assumes nothing.
-use mathlib.Core.Path.{ap}
+-- `value_of` meets its contract, by its cases: the number of a part or of a failing tile is small enough, as the value is. Assumes nothing.
+use mathlib.Core.Path.{sym, ap, _∙_}
 use native.Mathlib.Omega.{arith}
 use borrow.Author.Needs.{needs}
 use Rattle.answers.specs.Answers.{asAnswer}
@@ -39,6 +39,17 @@ part-number-requires c κs =
 enum-known-answer-4 : tie.Need-enum-known-answer-4
 enum-known-answer-4 c = search needs
 
+enum-told-6 : tie.Need-enum-told-6
+enum-told-6 c = search needs
+
+enum-known-answer-5 : tie.Need-enum-known-answer-5
+enum-known-answer-5 c = search needs
+
+numbered-requires : tie.Need-numbered-requires
+numbered-requires c κs =
+    let e = ap (λ a. value (asAnswer a)) (c .before .answer5 .given .1) in
+    omega (arith, e, c .before .before .before .pre)
+
 returns : tie.Need-returns
 returns c = search needs
 
@@ -66,6 +77,12 @@ returns-8 c = search needs
 returns-9 : tie.Need-returns-9
 returns-9 c = search needs
 
+returns-10 : tie.Need-returns-10
+returns-10 c = search needs
+
+returns-11 : tie.Need-returns-11
+returns-11 c = c .numbered .ensures ∙ sym (ap (λ a. value (asAnswer a)) (c .before .before .answer5 .given .1))
+
 pub value-of-spec : {M : Type 1} → statement M
 value-of-spec =
     tie.close
@@ -80,6 +97,9 @@ value-of-spec =
     enum-known-answer-3
     part-number-requires
     enum-known-answer-4
+    enum-told-6
+    enum-known-answer-5
+    numbered-requires
     returns
     returns-2
     returns-3
@@ -88,4 +108,6 @@ value-of-spec =
     returns-6
     returns-7
     returns-8
-    returns-9)
+    returns-9
+    returns-10
+    returns-11)
