@@ -26,13 +26,14 @@ use Rattle.channel.specs.Map.{stepOf}
 use Rattle.channel.specs.Map.Places.{chosen-cell}
 use Rattle.pairing.specs.Sequence.{blank}
 use Rattle.wire.specs.Around.{step-lands}
-use Rattle.wire.specs.Next.{hop-may}
+use Rattle.wire.specs.Next.{Loaded, hop-may}
 use Rattle.wire.specs.Threads.{wired-chosen}
 use Rattle.wire.specs.Apart.{wire-loaded}
 use Rattle.keep.specs.Edits.{Meets, starts, comes}
 use Rattle.keep.specs.Staying.{sum-has, meets-is, hop-below}
+use Rattle.takeout.specs.Entries.{inTile, in-tile, Enters, entry}
 use Rattle.takeout.specs.Lanes.{link-ways, link-way, link-turned}
-use Rattle.takeout.specs.Marks.{isMarked, Has, Adds, OnLanes, ComesTo, mark-same, mark-or, mark-kept}
+use Rattle.takeout.specs.Marks.{isMarked, Has, Adds, OnLanes, Against, ByEnds, ComesTo, mark-same, mark-or, mark-kept, adds-as, adds-two, against-comes, comes-against}
 
 -- only the wired pins matter
 left-cong : (J : Job) (f : Step → ℕ) (a b : ℕ → ℕ → Bool) → ((q d : ℕ) → T (isWired J f q d) → a q d ≡ b q d) → leftLoads J f a ≡ leftLoads J f b
@@ -146,7 +147,9 @@ module _ (was : List ℕ) (g : Legal was) where
   -- what is left of the wires where those marked are taken out
   pub left-avoids : (xs : List Place) (taken : List ℕ) → Marks was taken xs → leftLoads J f (λ q d. not (isMarked taken q d)) ≡ leftLoads J f (avoids J f xs)
   unfolding avoids
-  left-avoids xs taken M = left-cong J f (λ q d. not (isMarked taken q d)) (avoids J f xs) (λ q d w. both-ways (not (isMarked taken q d)) (every xs (λ x. not (meets J f x q d))) (to q d w) (of q d w))
+  left-avoids xs taken M =
+      left-cong J f (λ q d. not (isMarked taken q d)) (avoids J f xs)
+      (λ q d w. both-ways (not (isMarked taken q d)) (every xs (λ x. not (meets J f x q d))) (to q d w) (of q d w))
     where
       to : (q d : ℕ) → T (isWired J f q d) → T (not (isMarked taken q d)) → T (every xs (λ x. not (meets J f x q d)))
       to q d w n =
@@ -210,16 +213,81 @@ module _ (was : List ℕ) (g : Legal was) where
         place : (k : PlaceKind) → (T (isPlace J (at k r c)) → T (isOpen J r c)) → placeCode k ≢ 3 → (xs : List Place) → Marks was a xs → Marks was a (at k r c ∷ xs)
         place k held o xs = marks-nowhere (at k r c) xs a o (λ p. subst T e (held p))
 
-    -- one place after the other, by the exits
-    pub tile-open : (m n s e w z : List ℕ) → isOpen J r c ≡ true → AddsAt was (8 * (41 + 40 * r + c) + 7) m w → AddsAt was (8 * (41 + 40 * r + c) + 5) w s
-        → AddsAt was (8 * (41 + 40 * r + c) + 4) s e → AddsAt was (8 * (41 + 40 * r + c) + 3) e n → AddsAt was (8 * (41 + 40 * r + c) + 2) n z → Marks was m []
-        → Marks was z (tilePlaces r c)
-    unfolding exitOf
-    tile-open m n s e w z t C W S E N M =
-        place north n z N (place east e n E (place south s e S (place west w s W (centre-open m w t C M))))
+    -- by one of the links that lead into the tile
+    abbrev Into : Hop → Type 0
+    Into h = (d : Compass) × ByEnds (8 * (41 + 40 * r + c) + (2 + compassCode d)) h
+
+    -- what holds of the five holds of each
+    tile-by : (P : Place → Type 0) → ((d : Compass) → P (at (side d) r c)) → P (at centre r c) → (x : Place) → List·Memᴰ x (tilePlaces r c) → P x
+    tile-by P sides mid x (List·Memᴰ·head e) = subst P (sym e) (sides north)
+    tile-by P sides mid x (List·Memᴰ·tail (List·Memᴰ·head e)) = subst P (sym e) (sides east)
+    tile-by P sides mid x (List·Memᴰ·tail (List·Memᴰ·tail (List·Memᴰ·head e))) = subst P (sym e) (sides south)
+    tile-by P sides mid x (List·Memᴰ·tail (List·Memᴰ·tail (List·Memᴰ·tail (List·Memᴰ·head e)))) = subst P (sym e) (sides west)
+    tile-by P sides mid x (List·Memᴰ·tail (List·Memᴰ·tail (List·Memᴰ·tail (List·Memᴰ·tail (List·Memᴰ·head e))))) = subst P (sym e) mid
+    tile-by P sides mid x (List·Memᴰ·tail (List·Memᴰ·tail (List·Memᴰ·tail (List·Memᴰ·tail (List·Memᴰ·tail m))))) = absurd (List·Memᴰ·not-nil m)
+
+    at-side : (d : Compass) → List·Memᴰ (at (side d) r c) (tilePlaces r c)
+    at-side north = List·Memᴰ·head refl
+    at-side east = List·Memᴰ·tail (List·Memᴰ·head refl)
+    at-side south = List·Memᴰ·tail (List·Memᴰ·tail (List·Memᴰ·head refl))
+    at-side west = List·Memᴰ·tail (List·Memᴰ·tail (List·Memᴰ·tail (List·Memᴰ·head refl)))
+
+    module _ (t : isOpen J r c ≡ true) where
+      into-comes : (h : Hop) → Loaded f h → (d : Compass) → ByEnds (8 * (41 + 40 * r + c) + (2 + compassCode d)) h → head J (h .step) ≡ at (side d) r c
+      unfolding exitOf
+      into-comes h l d (inl k) =
+          let u : ℕ = 8 * (41 + 40 * r + c) + (2 + compassCode d) in
+          let z : 8 * u ≡ 8 * u + 0 = omega arith in
+          against-comes was g (at (side d) r c) (so t) u refl h 0 (omega arith) l (subst (λ (n : ℕ). Against n h) z k)
+      into-comes h l d (inr k) = against-comes was g (at (side d) r c) (so t) (8 * (41 + 40 * r + c) + (2 + compassCode d)) refl h 4 (omega arith) l k
+
+      enters-into : (h : Hop) (d : Compass) → Enters (at (side d) r c) h → Into h
+      unfolding exitOf
+      enters-into h d (inl k) =
+          let u : ℕ = 8 * (41 + 40 * r + c) + (2 + compassCode d) in
+          let z : 8 * u + 0 ≡ 8 * u = omega arith in
+          (d, inl (subst (λ (n : ℕ). Against n h) z (comes-against was g (at (side d) r c) (so t) u refl h 0 k)))
+      enters-into h d (inr k) = (d, inr (comes-against was g (at (side d) r c) (so t) (8 * (41 + 40 * r + c) + (2 + compassCode d)) refl h 4 k))
+
+      marks-into : (a b : List ℕ) → Adds was Into a b → Marks was a [] → Marks was b (tilePlaces r c)
+      marks-into a b A M = record { met = λ q d w k. met q d w (A .only q d w k); marked = λ q d w x m k. marked q d w x m k }
+        where
+          met : (q d : ℕ) → T (isWired J f q d) → T (isMarked a q d) ⊎ Has J f Into q d → (x : Place) × List·Memᴰ x (tilePlaces r c) × Meets J f q d x
+          met q d w (inl k) = let (x, m, n) = M .met q d w k in absurd (List·Memᴰ·not-nil m)
+          met q d w (inr (n, h, l, (e, k))) = (at (side e) r c, at-side e, comes n h l (into-comes h (wire-loaded J f (g .sound) q d n h w l) e k))
+
+          marked : (q d : ℕ) → T (isWired J f q d) → (x : Place) → List·Memᴰ x (tilePlaces r c) → Meets J f q d x → T (isMarked b q d)
+          marked q d w x m (starts e) =
+              absurd (subst (λ (y : Place). T (inTile r c y)) (sym e)
+              (tile-by (λ y. T (inTile r c y)) (λ z. in-tile r c (side z) tt) (in-tile r c centre tt) x m))
+          marked q d w x m (comes n h l k) =
+              let i = tile-by (λ y. T (inTile r c y)) (λ z. in-tile r c (side z) tt) (in-tile r c centre tt) x m in
+              let p = tile-by (λ y. T (isPlace J y)) (λ z. so t) (so t) x m in
+              let E = entry J f (g .sound) r c q d n h w l (subst (λ (y : Place). T (inTile r c y)) (sym k) i) (subst (λ (y : Place). T (isPlace J y)) (sym k) p) in
+              A .found q d w (E .index, E .hop, E .listed, enters-into (E .hop) (E .point) (E .enters))
+
+    -- side after side
+    pub tile-open : (m w s e z : List ℕ) → isOpen J r c ≡ true → Adds was (ByEnds (8 * (41 + 40 * r + c) + 5)) m w → Adds was (ByEnds (8 * (41 + 40 * r + c) + 4)) w s
+        → Adds was (ByEnds (8 * (41 + 40 * r + c) + 3)) s e → Adds was (ByEnds (8 * (41 + 40 * r + c) + 2)) e z → Marks was m [] → Marks was z (tilePlaces r c)
+    tile-open m w s e z t W S E N =
+        marks-into t m z
+        (adds-as was g _ Into m z (λ h l k. to h k) (λ h l k. of h k) (adds-two was g _ _ m e z (adds-two was g _ _ m s e (adds-two was g _ _ m w s W S) E) N))
       where
-        place : (d : Compass) (a b : List ℕ) {xs : List Place} → AddsAt was (8 * (41 + 40 * r + c) + (2 + compassCode d)) a b → Marks was a xs → Marks was b (at (side d) r c ∷ xs)
-        place d a b {xs} A = marks-place (at (side d) r c) xs a b (so t) (A (at (side d) r c) (so t) refl)
+        Four : Hop → Type 0
+        Four h =
+            ((ByEnds (8 * (41 + 40 * r + c) + 5) h ⊎ ByEnds (8 * (41 + 40 * r + c) + 4) h) ⊎ ByEnds (8 * (41 + 40 * r + c) + 3) h) ⊎ ByEnds (8 * (41 + 40 * r + c) + 2) h
+
+        to : (h : Hop) → Four h → Into h
+        to h (inl (inl (inl k))) = (west, k)
+        to h (inl (inl (inr k))) = (south, k)
+        to h (inl (inr k)) = (east, k)
+        to h (inr k) = (north, k)
+
+        of : (h : Hop) → Into h → Four h
+        of h (north, k) = inr k
+        of h (east, k) = inl (inr k)
+        of h (south, k) = inl (inl (inr k))
+        of h (west, k) = inl (inl (inl k))
 
   -- ---- a side
 
@@ -277,4 +345,6 @@ module _ (was : List ℕ) (g : Legal was) where
     lanes-left =
         left-cong J f (λ q p. not (isMarked b q p)) (λ q p. not (ltb 0 (sum (hopsMost J f) (hits q p))))
         (λ q p w. ap not (both-ways (isMarked b q p) (ltb 0 (sum (hopsMost J f) (hits q p))) (λ t. high-has q p w (to q p w t)) (λ t. of q p w (has-high q p t))))
-        ∙ ap₂ (λ (l : Link) (o : ℕ). leftLoads J f (λ q p. not (ltb 0 (sum (hopsMost J f) (λ i. when (hopPasses (λ h. sameLink l (h .step .link) && leb o (h .lane)) (hopAt J f q p i)) 1))))) link limit
+        ∙ ap₂
+        (λ (l : Link) (o : ℕ). leftLoads J f
+        (λ q p. not (ltb 0 (sum (hopsMost J f) (λ i. when (hopPasses (λ h. sameLink l (h .step .link) && leb o (h .lane)) (hopAt J f q p i)) 1))))) link limit

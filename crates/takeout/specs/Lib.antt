@@ -8,6 +8,7 @@ pub mod AllTaken
 pub mod Back
 pub mod Marks
 -- In the words of request K5, and the record after an edit.
+pub mod Entries
 pub mod Lanes
 pub mod Edited
 pub mod Stored

@@ -78,6 +78,10 @@ Against d h = T (isLinkDart d) × (h .step ≡ turn (stepOf d))
 abbrev pub ByFirst : ℕ → ℕ → Hop → Type 0
 ByFirst u k h = (j : ℕ) × (j < k) × Against (8 * u + j) h
 
+-- against its first or its fifth dart
+abbrev pub ByEnds : ℕ → Hop → Type 0
+ByEnds u h = Against (8 * u) h ⊎ Against (8 * u + 4) h
+
 -- to the place x
 abbrev pub ComesTo : Job → Place → Hop → Type 0
 ComesTo J x h = head J (h .step) ≡ x
@@ -150,7 +154,9 @@ module _ (was : List ℕ) (g : Legal was) where
   home-adds d i x a l H =
       record {
         kept = λ q e t. mark-kept a x q e l t;
-        found = λ q e w (n, h, k, z). mark-same a x q e l (cell q e (lane-one J f (g .sound) (x / 40) (x % 40) (H .index) q e n (hop d i) (H .wired) w (H .listed) (k ∙ ap some z) .0));
+        found =
+            λ q e w (n, h, k, z). mark-same a x q e l
+            (cell q e (lane-one J f (g .sound) (x / 40) (x % 40) (H .index) q e n (hop d i) (H .wired) w (H .listed) (k ∙ ap some z) .0));
         only = λ q e w t. by q e w (mark-or a x q e t);
       }
     where
@@ -235,33 +241,37 @@ module _ (was : List ℕ) (g : Legal was) where
           by (inl w) = inl (j, w, p)
           by (inr w) = let e : j ≡ k = omega arith in inr (subst (λ (i : ℕ). Against (8 * u + i) h) e p)
 
-  -- the five slots of a place are all the ways to it
-  pub slots-all : (u k : ℕ) (a b : List ℕ) → k ≡ 5 → Adds was (ByFirst u k) a b → (x : Place) → T (isPlace J x) → exit x ≡ u → Adds was (ComesTo J x) a b
-  slots-all u k a b z A x p e = adds-as (ByFirst u k) (ComesTo J x) a b to of A
-    where
-      to : (h : Hop) → Loaded f h → ByFirst u k h → head J (h .step) ≡ x
-      to h l (j, m, (t, s)) = by (getElem? (around x) j) refl
-        where
-          by : (o : Option Step) → getElem? (around x) j ≡ o → head J (h .step) ≡ x
-          by none q =
-              absurd (omega (
-                arith,
-                l,
-                ap f s,
-                when-so (isLinkDart (8 * u + j)) (f (turn (stepOf (8 * u + j)))) t,
-                comes-at was g x p (8 * u) (omega (arith, e)) j (omega arith),
-                ap (loadOf (λ s. f (turn s))) q,
-              ))
-          by (some v) q =
-              let w : stepOf (8 * u + j) ≡ v = ap (λ (n : ℕ). stepOf (8 * n + j)) (sym e) ∙ slot-step J (g .values .array) x p j v q .2 in
-              ap (head J) (s ∙ ap turn w) ∙ around-leaves J x p v (entry-member (around x) j v q)
+  -- the slots of a place's exit are the links round it
+  module _ (x : Place) (p : T (isPlace J x)) (u : ℕ) (e : exit x ≡ u) (h : Hop) (j : ℕ) where
+    pub against-comes : j < 5 → Loaded f h → Against (8 * u + j) h → head J (h .step) ≡ x
+    against-comes m l (t, s) = by (getElem? (around x) j) refl
+      where
+        by : (o : Option Step) → getElem? (around x) j ≡ o → head J (h .step) ≡ x
+        by none q =
+            absurd (omega (
+              arith,
+              l,
+              ap f s,
+              when-so (isLinkDart (8 * u + j)) (f (turn (stepOf (8 * u + j)))) t,
+              comes-at was g x p (8 * u) (omega (arith, e)) j m,
+              ap (loadOf (λ s. f (turn s))) q,
+            ))
+        by (some v) q =
+            let w : stepOf (8 * u + j) ≡ v = ap (λ (n : ℕ). stepOf (8 * n + j)) (sym e) ∙ slot-step J (g .values .array) x p j v q .2 in
+            ap (head J) (s ∙ ap turn w) ∙ around-leaves J x p v (entry-member (around x) j v q)
 
-      of : (h : Hop) → Loaded f h → head J (h .step) ≡ x → ByFirst u k h
-      of h l q =
+    pub comes-against : getElem? (around x) j ≡ some (turn (h .step)) → Against (8 * u + j) h
+    comes-against m =
+        let (r, t, s) = slot-step J (g .values .array) x p j (turn (h .step)) m in
+        let w : 8 * exit x + j ≡ 8 * u + j = omega (arith, e) in
+        (subst (λ (n : ℕ). T (isLinkDart n)) w t, sym (turn-turn (h .step)) ∙ ap turn (sym s ∙ ap stepOf w))
+
+  -- five are all
+  pub slots-all : (u k : ℕ) (a b : List ℕ) → k ≡ 5 → Adds was (ByFirst u k) a b → (x : Place) → T (isPlace J x) → exit x ≡ u → Adds was (ComesTo J x) a b
+  slots-all u k a b z A x p e =
+      adds-as (ByFirst u k) (ComesTo J x) a b (λ h l (j, m, t). against-comes x p u e h j (omega arith) l t) (λ h l q. of h q) A
+    where
+      of : (h : Hop) → head J (h .step) ≡ x → ByFirst u k h
+      of h q =
           let (j, m) = has-entry (turn-listed J (h .step) x q p) in
-          let (r, t, s) = slot-step J (g .values .array) x p j (turn (h .step)) m in
-          let w : 8 * exit x + j ≡ 8 * u + j = omega (arith, e) in (
-            j,
-            omega (arith, entry-below (around x) j (turn (h .step)) m, around-five x),
-            (subst (λ (n : ℕ). T (isLinkDart n)) w t, sym (turn-turn (h .step)) ∙ ap turn (sym s ∙ ap stepOf w)),
-          )
+          (j, omega (arith, entry-below (around x) j (turn (h .step)) m, around-five x), comes-against x p u e h j m)

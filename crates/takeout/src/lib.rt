@@ -14,7 +14,7 @@ ghost use Rattle.channel.specs.Map.{stepOf, isLinkDart, dartOf, laid};
 ghost use Rattle.takeout.specs.Taken.{TakesOut};
 ghost use Rattle.takeout.specs.LeftRecord.{SameRecord};
 ghost use Rattle.takeout.specs.AllTaken.{TakesIf};
-ghost use Rattle.takeout.specs.Marks.{isMarked, Adds, OnLanes, Against, ComesTo};
+ghost use Rattle.takeout.specs.Marks.{isMarked, Adds, OnLanes, Against, ByEnds, ComesTo};
 ghost use Rattle.takeout.specs.Edited.{Marks};
 ghost use Rattle.takeout.specs.Stored.{Unwired};
 ghost use Rattle.takeout.specs.Missing.{missingTo};
@@ -148,7 +148,16 @@ fn mark_pin(was: &[u8], taken: &mut [u8], r: usize, c: usize)
     mark_place(was, taken, pin_exit(r, c));
 }
 
-// Marks the pins of the wires that meet a place of the tile (r, c); a closed tile has none.
+// Marks the pins of the wires that come into a tile at the place of which u is the exit, by the side or from a pin.
+fn mark_entries(was: &[u8], taken: &mut [u8], u: usize)
+    requires { ⌜ Legal (now was) × (1600 ≤ length (now taken)) × (u < 13128) ⌝ }
+    ensures { λ _. ⌜ Adds (now (was .entry)) (ByEnds u) (now (taken .entry)) (now (taken .exit)) ⌝ }
+{
+    mark_slot(was, taken, 8 * u);
+    mark_slot(was, taken, 8 * u + 4);
+}
+
+// Marks the pins of the wires that meet a place of the tile (r, c): of those that come into it. A closed tile has none.
 fn mark_tile(was: &[u8], taken: &mut [u8], r: usize, c: usize)
     requires { ⌜ Legal (now was) × (1600 ≤ length (now taken)) × (r < 40) × (c < 40) ⌝ }
     ensures { λ _. ⌜ (Marks (now (was .entry)) (now (taken .entry)) [] → Marks (now (was .entry)) (now (taken .exit)) (tilePlaces r c)) ⌝ }
@@ -157,11 +166,10 @@ fn mark_tile(was: &[u8], taken: &mut [u8], r: usize, c: usize)
         return;
     }
     let first = 8 * (41 + 40 * r + c);
-    mark_place(was, taken, first + 7);
-    mark_place(was, taken, first + 5);
-    mark_place(was, taken, first + 4);
-    mark_place(was, taken, first + 3);
-    mark_place(was, taken, first + 2);
+    mark_entries(was, taken, first + 5);
+    mark_entries(was, taken, first + 4);
+    mark_entries(was, taken, first + 3);
+    mark_entries(was, taken, first + 2);
 }
 
 // Marks the pins of the wires that pass the centre of the tile (r, c); a closed tile has none.

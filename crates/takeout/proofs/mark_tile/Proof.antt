@@ -1,4 +1,4 @@
--- `takeout::mark_tile` meets its contract: no wire meets a closed tile, and an open one has five places. Assumes nothing.
+-- `takeout::mark_tile` meets its contract: no wire meets a closed tile, and one that meets an open tile has come into it. Assumes nothing.
 use borrow.Author.Needs.{needs}
 use borrow.Author.Tests.{not-true, not-false}
 use mathlib.Core.Path.{sym, _∙_}
@@ -26,44 +26,38 @@ add-first-2 c = search needs
 mul-first-2 : tie.Need-mul-first-2
 mul-first-2 c = search needs
 
-add-mark-place : tie.Need-add-mark-place
-add-mark-place c = search needs
+add-mark-entries : tie.Need-add-mark-entries
+add-mark-entries c = search needs
 
-mark-place-requires : tie.Need-mark-place-requires
-mark-place-requires c κs = search needs
+mark-entries-requires : tie.Need-mark-entries-requires
+mark-entries-requires c κs = search needs
 
-add-mark-place-2 : tie.Need-add-mark-place-2
-add-mark-place-2 c = search needs
+add-mark-entries-2 : tie.Need-add-mark-entries-2
+add-mark-entries-2 c = search needs
 
-mark-place-requires-2 : tie.Need-mark-place-requires-2
-mark-place-requires-2 c κs = search needs
+mark-entries-requires-2 : tie.Need-mark-entries-requires-2
+mark-entries-requires-2 c κs = search needs
 
-add-mark-place-3 : tie.Need-add-mark-place-3
-add-mark-place-3 c = search needs
+add-mark-entries-3 : tie.Need-add-mark-entries-3
+add-mark-entries-3 c = search needs
 
-mark-place-requires-3 : tie.Need-mark-place-requires-3
-mark-place-requires-3 c κs = search needs
+mark-entries-requires-3 : tie.Need-mark-entries-requires-3
+mark-entries-requires-3 c κs = search needs
 
-add-mark-place-4 : tie.Need-add-mark-place-4
-add-mark-place-4 c = search needs
+add-mark-entries-4 : tie.Need-add-mark-entries-4
+add-mark-entries-4 c = search needs
 
-mark-place-requires-4 : tie.Need-mark-place-requires-4
-mark-place-requires-4 c κs = search needs
-
-add-mark-place-5 : tie.Need-add-mark-place-5
-add-mark-place-5 c = search needs
-
-mark-place-requires-5 : tie.Need-mark-place-requires-5
-mark-place-requires-5 c κs = search needs
+mark-entries-requires-4 : tie.Need-mark-entries-requires-4
+mark-entries-requires-4 c κs = search needs
 
 same-length : tie.Need-same-length
 same-length c = search needs
 
 returns-2 : tie.Need-returns-2
 returns-2 c =
-    let s = c .before .before .before .before .before .before .before .before .before .before .before .before .before .before .before .before .before .before .before .before .before .before .before .before in
-    tile-open (s .args .was .now) (s .pre .0) (s .args .r) (s .args .c) _ _ _ _ _ _ (sym (c .before .before .before .before .before .before .before .before .before .before .before .before .before .before .before .before .before .before .before .before .before .is-open .ensures) ∙ not-false _ (c .before .before .before .before .before .before .before .before .before .before .before .before .before .before .before .before .before .before .before .before .if1 .left))
-    (c .before .before .before .before .before .before .before .before .before .before .before .before .before .before .before .before .before .before .mark-place .ensures) (c .before .before .before .before .before .before .before .before .before .before .before .before .before .before .mark-place2 .ensures) (c .before .before .before .before .before .before .before .before .before .before .mark-place3 .ensures) (c .before .before .before .before .before .before .mark-place4 .ensures) (c .before .before .mark-place5 .ensures)
+    let s = c .before .before .before .before .before .before .before .before .before .before .before .before .before .before .before .before .before .before .before .before in
+    tile-open (s .args .was .now) (s .pre .0) (s .args .r) (s .args .c) _ _ _ _ _ (sym (c .before .before .before .before .before .before .before .before .before .before .before .before .before .before .before .before .before .is-open .ensures) ∙ not-false _ (c .before .before .before .before .before .before .before .before .before .before .before .before .before .before .before .before .if1 .left))
+    (c .before .before .before .before .before .before .before .before .before .before .before .before .before .before .mark-entries .ensures) (c .before .before .before .before .before .before .before .before .before .before .mark-entries2 .ensures) (c .before .before .before .before .before .before .mark-entries3 .ensures) (c .before .before .mark-entries4 .ensures)
 
 pub mark-tile-spec : {M : Type 1} → statement M
 mark-tile-spec =
@@ -75,15 +69,13 @@ mark-tile-spec =
     add-first
     add-first-2
     mul-first-2
-    add-mark-place
-    mark-place-requires
-    add-mark-place-2
-    mark-place-requires-2
-    add-mark-place-3
-    mark-place-requires-3
-    add-mark-place-4
-    mark-place-requires-4
-    add-mark-place-5
-    mark-place-requires-5
+    add-mark-entries
+    mark-entries-requires
+    add-mark-entries-2
+    mark-entries-requires-2
+    add-mark-entries-3
+    mark-entries-requires-3
+    add-mark-entries-4
+    mark-entries-requires-4
     same-length
     returns-2)
