@@ -356,31 +356,50 @@ fn call_on(
     call_both(tally, rec, twin, seed, kind)
 }
 
-// A kind at random. Of 256 calls the first seven make or edit a job, the eighth reads one, and the others make and edit none.
+// A kind at random: a new job, or an edit of it.
+fn making(n: usize) -> usize {
+    match n {
+        0..=7 => 0,
+        8..=11 => 1,
+        12..=19 => 2,
+        20..=25 => 3,
+        26..=28 => 9,
+        _ => 11,
+    }
+}
+
+// A kind at random: no new job, and no edit.
+fn asking(n: usize) -> usize {
+    match n {
+        0..=14 => 4,
+        15..=16 => 5,
+        17..=28 => 6,
+        29 | 30 => 8,
+        _ => 7,
+    }
+}
+
+// A kind at random: mostly an edit of a job that has wires.
+fn editing(n: usize) -> usize {
+    match n {
+        0..=6 => 2,
+        7..=11 => 3,
+        12..=14 => 9,
+        15..=17 => 11,
+        18..=24 => 4,
+        25..=29 => 6,
+        30 => 8,
+        _ => 5,
+    }
+}
+
+// The kind of the k-th call. Of 256 calls the first seven make or edit a job, the eighth reads one, and of the others every fourth sixteen edit it.
 fn kind_of(n: usize, k: usize) -> usize {
-    if k % 256 == 7 {
-        return 1;
-    }
-    if k % 256 == 135 {
-        return 10;
-    }
-    if k % 256 < 7 {
-        match n {
-            0..=7 => 0,
-            8..=11 => 1,
-            12..=19 => 2,
-            20..=25 => 3,
-            26..=28 => 9,
-            _ => 11,
-        }
-    } else {
-        match n {
-            0..=14 => 4,
-            15..=16 => 5,
-            17..=28 => 6,
-            29 | 30 => 8,
-            _ => 7,
-        }
+    match k % 256 {
+        0..=6 => making(n),
+        7 => 1,
+        135 => 10,
+        _ => { if k % 64 < 48 { asking(n) } else { editing(n) } }
     }
 }
 

@@ -2,6 +2,7 @@
 use check::same;
 use talusdish::exports::talusdish_close;
 use talusdish::exports::talusdish_diagonal;
+use talusdish::exports::talusdish_lay;
 use talusdish::exports::talusdish_mark;
 use talusdish::exports::talusdish_new;
 use talusdish::exports::talusdish_part;
@@ -116,6 +117,12 @@ fn gives(tally: &mut Tally, rec: &mut Bytes, row: u64, column: u64, d: u64, expe
     hold(tally, word == expected, b"an example of diagonal");
 }
 
+// The north side of tile 1 1.
+fn lays(tally: &mut Tally, rec: &mut Bytes, count: u64, expected: u64) {
+    let word = talusdish_lay(rec, 1, 1, 0, count);
+    hold(tally, word == expected, b"an example of lay");
+}
+
 fn edits(tally: &mut Tally) {
     let mut rec = [7u8; 32768];
     marks(tally, &mut rec, 2, 0, 3, 1);
@@ -221,6 +228,26 @@ fn shared(tally: &mut Tally) {
     lists(tally, &rec, 2, 2, 2, 2 + 32 + 1024 + 65536);
 }
 
+// Edits of these wires. An idle pin that is chosen leaves both; without the wire of pin 2 1 the other has lane 0 of its way to n of tile 1 1; a tile that it
+// does not meet leaves it, and a count on the north side of tile 1 1 takes it out.
+fn kept(tally: &mut Tally) {
+    let mut rec = [7u8; 32768];
+    reads(tally, &mut rec, &SHARED, 0);
+    steps(tally, &mut rec, 0);
+    steps(tally, &mut rec, 0);
+    marks(tally, &mut rec, 0, 0, 1, 0);
+    lists(tally, &rec, 2, 1, 3, 2 + 4 * 5 + 1024 + 65536);
+    lists(tally, &rec, 2, 2, 2, 2 + 32 + 1024 + 65536);
+    marks(tally, &mut rec, 2, 1, 0, 0);
+    unlisted(tally, &rec, 2, 1);
+    lists(tally, &rec, 2, 2, 2, 2 + 1024 + 65536);
+    closes(tally, &mut rec, 0, 0, 1, 0);
+    lists(tally, &rec, 2, 2, 3, 2 + 4 * 2 + 65536);
+    lays(tally, &mut rec, 2, 11);
+    lays(tally, &mut rec, 1, 0);
+    lists(tally, &rec, 2, 2, 0, 0);
+}
+
 // The wire of pin 2 2: w, c and e of tile 1 2, and out to the east.
 fn east(tally: &mut Tally) {
     let mut rec = [7u8; 32768];
@@ -244,5 +271,6 @@ pub fn examples(tally: &mut Tally) {
     sixty_four(tally);
     shut(tally);
     shared(tally);
+    kept(tally);
     east(tally);
 }
