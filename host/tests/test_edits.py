@@ -78,7 +78,7 @@ class Edits(unittest.TestCase):
                 stayed, went, shrunk = stayed + len(kept), went + len(before) - len(kept), shrunk + sum(new < old for old, new in lanes)
         self.assertGreater(stayed, 20000)
         self.assertGreater(went, 500)
-        self.assertGreater(shrunk, 500)
+        self.assertGreater(shrunk, 100)
 
     def route(self, job):
         """Steps to the end, in as many additions as are lacking."""
