@@ -44,6 +44,13 @@ pub fn diagonal_on(rec: &mut [u8], n: usize, row: usize, column: usize, d: usize
     Answer::Done
 }
 
+pub fn extra_on(rec: &mut [u8], n: usize, e: usize) -> Answer {
+    if n <= rec.len() {
+        return service::extra(&mut rec[..n], e);
+    }
+    Answer::Done
+}
+
 pub fn lay_on(
     rec: &mut [u8],
     n: usize,

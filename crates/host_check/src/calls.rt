@@ -14,6 +14,7 @@ use oracle_text::text::write_text;
 use service::Answer;
 use talusdish::exports::talusdish_close;
 use talusdish::exports::talusdish_diagonal;
+use talusdish::exports::talusdish_extra;
 use talusdish::exports::talusdish_lay;
 use talusdish::exports::talusdish_listing;
 use talusdish::exports::talusdish_mark;
@@ -310,6 +311,14 @@ fn call_trial(tally: &mut Tally, rec: &mut [u8], twin: &mut [u8], seed: u32) -> 
 }
 
 // A call of this kind.
+fn call_extra(tally: &mut Tally, rec: &mut [u8], twin: &mut [u8], seed: u32) -> Answer {
+    let e = pick(seed, 0, 4);
+    let answer = service::extra(rec, e);
+    let word = talusdish_extra(twin, e as u64);
+    hold(tally, says(word, answer), b"the word of extra");
+    answer
+}
+
 fn call(tally: &mut Tally, rec: &mut [u8], twin: &mut [u8], seed: u32, kind: usize) -> Answer {
     match kind {
         0 => call_new(tally, rec, twin, seed),
@@ -323,6 +332,7 @@ fn call(tally: &mut Tally, rec: &mut [u8], twin: &mut [u8], seed: u32, kind: usi
         9 => call_lay(tally, rec, twin, seed),
         10 => call_trial(tally, rec, twin, seed),
         11 => call_diagonal(tally, rec, twin, seed),
+        12 => call_extra(tally, rec, twin, seed),
         _ => call_listing(tally, rec, twin, seed),
     }
 }
@@ -364,7 +374,8 @@ fn making(n: usize) -> usize {
         12..=19 => 2,
         20..=25 => 3,
         26..=28 => 9,
-        _ => 11,
+        29 | 30 => 11,
+        _ => 12,
     }
 }
 
@@ -385,7 +396,8 @@ fn editing(n: usize) -> usize {
         0..=6 => 2,
         7..=11 => 3,
         12..=14 => 9,
-        15..=17 => 11,
+        15 | 16 => 11,
+        17 => 12,
         18..=24 => 4,
         25..=29 => 6,
         30 => 8,

@@ -5,6 +5,7 @@ use crate::draws::pick_length;
 use crate::draws::pick_spot;
 use crate::edits::call_close;
 use crate::edits::call_diagonal;
+use crate::edits::call_extra;
 use crate::edits::call_lay;
 use crate::edits::call_mark;
 use crate::edits::call_new;
@@ -12,6 +13,7 @@ use crate::edits::call_read;
 use crate::edits::call_trial;
 use crate::edits::hold_answer;
 use crate::edits::hold_same;
+use crate::edits::make_old;
 use crate::expect::cell;
 use crate::expect::expect_part;
 use crate::expect::expect_shortfall;
@@ -210,6 +212,8 @@ fn call(
         9 => call_lay(tally, kept, rec, job, seed),
         10 => call_trial(tally, rec, job, seed),
         11 => call_diagonal(tally, kept, rec, job, seed),
+        12 => call_extra(tally, kept, rec, job, seed),
+        13 => make_old(rec, job, seed),
         _ => call_listing(tally, rec, page, seed),
     }
 }
@@ -218,7 +222,8 @@ fn call(
 fn making(n: usize) -> usize {
     match n {
         0..=3 => 0,
-        4..=19 => 1,
+        4..=17 => 1,
+        18 | 19 => 13,
         20 | 21 => 2,
         22 => 11,
         23 => 3,
@@ -238,8 +243,9 @@ fn editing(n: usize) -> usize {
         0..=7 => 2,
         8..=12 => 3,
         13..=17 => 9,
-        18..=22 => 11,
-        23..=26 => 4,
+        18..=21 => 11,
+        22 | 23 => 12,
+        24..=26 => 4,
         27 => 5,
         28 | 29 => 6,
         30 => 7,

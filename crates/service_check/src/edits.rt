@@ -9,6 +9,7 @@ use crate::expect::cell;
 use crate::expect::cut;
 use crate::expect::expect_close;
 use crate::expect::expect_diagonal;
+use crate::expect::expect_extra;
 use crate::expect::expect_lay;
 use crate::expect::expect_mark;
 use crate::expect::expect_new;
@@ -22,10 +23,12 @@ use crate::kept::closing;
 use crate::kept::giving;
 use crate::kept::hold_kept;
 use crate::kept::laying;
+use crate::kept::lowering;
 use crate::kept::marking;
 use check::same;
 use compare::lent::close_on;
 use compare::lent::diagonal_on;
+use compare::lent::extra_on;
 use compare::lent::lay_on;
 use compare::lent::mark_on;
 use compare::lent::new_on;
@@ -36,6 +39,7 @@ use compare::said::Said;
 use compare::said::agree;
 use compare::said::coded;
 use oracle_text::job::DIAGONAL;
+use oracle_text::job::EXTRA;
 use oracle_text::job::Job;
 use oracle_text::job::SIDE;
 use oracle_text::job::blank;
@@ -45,6 +49,7 @@ use oracle_text::job::laid;
 use oracle_text::job::number;
 use oracle_text::job::set_laid;
 use oracle_text::job::set_mark;
+use oracle_text::job::set_number;
 use oracle_text::job::set_own;
 use oracle_text::job::set_state;
 use oracle_text::random::random_job;
@@ -58,6 +63,7 @@ use verdict::bytes::Tally;
 use verdict::bytes::hold;
 use verdict::record::Record;
 use verdict::record::holds_unwired;
+use verdict::record::put_unwired;
 
 pub fn hold_answer(tally: &mut Tally, answer: Answer, expected: Said, what: &[u8]) {
     hold(tally, agree(coded(answer), expected), what);
@@ -248,6 +254,41 @@ pub fn call_diagonal(
     } else {
         hold_same(tally, &before, rec);
     }
+    x
+}
+
+// A lower E: now and then the same, or a greater one.
+pub fn call_extra(
+    tally: &mut Tally,
+    kept: &mut Kept,
+    rec: &mut Record,
+    job: &mut Job,
+    seed: u32,
+) -> u32 {
+    let a = xorshift(seed);
+    let b = xorshift(a);
+    let old = number(job, EXTRA);
+    let n = pick_length(a, 32768, 32800);
+    let e = pick(b, 0, old + 2);
+    let before = *rec;
+    let answer = extra_on(rec, n, e);
+    let expected = expect_extra(job, n, e);
+    hold_answer(tally, answer, expected, b"extra answers");
+    if expected.kind == DONE && e != old {
+        set_number(job, EXTRA, e);
+        hold_kept(tally, kept, &before, rec, job, lowering(e));
+    } else {
+        hold_same(tally, &before, rec);
+    }
+    b
+}
+
+// A record as it was given while an E above D was accepted: its job without wires. No call makes one any more.
+pub fn make_old(rec: &mut Record, job: &mut Job, seed: u32) -> u32 {
+    let x = random_job(seed, 8, job);
+    set_number(job, EXTRA, 16);
+    set_number(job, DIAGONAL, number(job, SIDE));
+    put_unwired(rec, job);
     x
 }
 

@@ -12,6 +12,7 @@ use compare::said::WROTE;
 use compare::said::say;
 use oracle_text::job::CHOSEN;
 use oracle_text::job::DIAGONAL;
+use oracle_text::job::EXTRA;
 use oracle_text::job::Job;
 use oracle_text::job::SIDE;
 use oracle_text::job::count_marked;
@@ -97,6 +98,16 @@ pub fn expect_diagonal(job: &Job, n: usize, row: usize, column: usize, d: usize)
         return say(REFUSED, 4);
     }
     if d != number(job, DIAGONAL) && !may_own(job, d) {
+        return say(REFUSED, 3);
+    }
+    say(DONE, 0)
+}
+
+pub fn expect_extra(job: &Job, n: usize, e: usize) -> Said {
+    if n < 32768 {
+        return say(REFUSED, 1);
+    }
+    if e > number(job, EXTRA) {
         return say(REFUSED, 3);
     }
     say(DONE, 0)

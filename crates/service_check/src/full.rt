@@ -2,6 +2,7 @@
 // sixteen edits all wires that fit are laid again.
 use crate::edits::call_close;
 use crate::edits::call_diagonal;
+use crate::edits::call_extra;
 use crate::edits::call_lay;
 use crate::edits::call_mark;
 use crate::kept::Kept;
@@ -51,10 +52,11 @@ fn refill(tally: &mut Tally, rec: &mut Record, job: &Job) {
 // An edit at random; gives the generator's number afterwards.
 fn edit(tally: &mut Tally, kept: &mut Kept, rec: &mut Record, job: &mut Job, seed: u32) -> u32 {
     let x = xorshift(seed);
-    match below(x, 4) {
-        0 => call_mark(tally, kept, rec, job, x),
-        1 => call_close(tally, kept, rec, job, x),
-        2 => call_diagonal(tally, kept, rec, job, x),
+    match below(x, 16) {
+        0..=3 => call_mark(tally, kept, rec, job, x),
+        4..=7 => call_close(tally, kept, rec, job, x),
+        8..=11 => call_diagonal(tally, kept, rec, job, x),
+        12 => call_extra(tally, kept, rec, job, x),
         _ => call_lay(tally, kept, rec, job, x),
     }
 }

@@ -29,7 +29,8 @@ use verdict::ends::load;
 use verdict::record::Record;
 use verdict::record::holds_job;
 
-// Which wires an edit takes out: none, those that start at a pin, pass it, meet a place of a tile, have the highest lanes of a link, or pass the centre of a tile.
+// Which wires an edit takes out: none, those that start at a pin, pass it, meet a place of a tile, have the highest lanes of a link, pass the centre of a tile, or
+// pass any missing pin.
 const NONE: usize = 0;
 
 const START: usize = 1;
@@ -41,6 +42,8 @@ const MEET: usize = 3;
 const LANES: usize = 4;
 
 const THROUGH: usize = 5;
+
+const PAST: usize = 6;
 
 // An edit that puts `value` at the byte `at` of the record, and takes out wires of the pin or the tile p, or of the link from the lane `limit` on.
 pub struct Edit {
@@ -97,6 +100,18 @@ pub fn giving(row: usize, column: usize, own: usize) -> Edit {
     }
 }
 
+// A lower E.
+pub fn lowering(e: usize) -> Edit {
+    Edit {
+        at: 4,
+        value: e,
+        takes: PAST,
+        p: 1600,
+        link: NO_LINK,
+        limit: 0,
+    }
+}
+
 // Another count of a side, of which `old` wires were laid.
 pub fn laying(job: &Job, row: usize, column: usize, letter: u8, old: usize, count: usize) -> Edit {
     let link = side_at(cell(row, column), kind_of(letter as usize));
@@ -115,6 +130,9 @@ pub fn laying(job: &Job, row: usize, column: usize, letter: u8, old: usize, coun
 fn strikes(edit: Edit, u: usize, v: usize, lane: usize) -> bool {
     if edit.takes == LANES {
         return link_between(u, v) == edit.link && lane >= edit.limit;
+    }
+    if edit.takes == PAST {
+        return v < OUT && v % 8 == 0;
     }
     if v >= OUT || v / 8 != edit.p {
         return false;
@@ -304,11 +322,11 @@ fn pass_all(rec: &mut Record, was: &[u8], now: &[u8], edit: Edit) -> Compared {
     stands(s, ended && value(f, 0) == all && value(g, 0) == s.stay)
 }
 
-// Of all edits together: the wires that stay, those that go by what takes them out (START to THROUGH), the edits that leave wires, and those that take some out.
-pub type Kept = [u64; 8];
+// Of all edits together: the wires that stay, those that go by what takes them out (START to PAST), the edits that leave wires, and those that take some out.
+pub type Kept = [u64; 9];
 
 fn add(kept: &mut Kept, k: usize, n: usize) {
-    if k < 8 {
+    if k < 9 {
         kept[k] = std::num::wrapping_add_u64(kept[k], n as u64);
     }
 }
@@ -316,19 +334,20 @@ fn add(kept: &mut Kept, k: usize, n: usize) {
 fn note(kept: &mut Kept, edit: Edit, s: Compared) {
     add(kept, 0, s.stay);
     add(kept, edit.takes, s.go);
-    add(kept, 6, if s.stay > 0 { 1 } else { 0 });
-    add(kept, 7, if s.go > 0 { 1 } else { 0 });
+    add(kept, 7, if s.stay > 0 { 1 } else { 0 });
+    add(kept, 8, if s.go > 0 { 1 } else { 0 });
 }
 
 pub fn tell_kept(kept: &Kept) {
-    line(b"edits that leave wires", kept[6]);
-    line(b"edits that take out wires", kept[7]);
+    line(b"edits that leave wires", kept[7]);
+    line(b"edits that take out wires", kept[8]);
     line(b"wires that stay", kept[0]);
     line(b"wires that go, from their pin", kept[1]);
     line(b"wires that go, past a missing pin", kept[2]);
     line(b"wires that go, through a closed tile", kept[3]);
     line(b"wires that go, in the highest lanes", kept[4]);
     line(b"wires that go, through a centre", kept[5]);
+    line(b"wires that go, where E is lowered", kept[6]);
 }
 
 fn put(rec: &mut Record, at: usize, value: usize) {

@@ -17,7 +17,7 @@ use verdict::bytes::tell;
 fn random_calls() {
     let mut calls = [0u64; 2];
     let mut direct = [0u64; 2];
-    let mut kept = [0u64; 8];
+    let mut kept = [0u64; 9];
     calls::calls(&mut calls, &mut direct, &mut kept);
     tell(b"random calls", &calls);
     line(b"calls after which a wire leaves directly", direct[0]);
@@ -27,7 +27,7 @@ fn random_calls() {
 
 fn full_records() {
     let mut full = [0u64; 2];
-    let mut kept = [0u64; 8];
+    let mut kept = [0u64; 9];
     full::full(&mut full, &mut kept);
     tell(b"edits of full records", &full);
     kept::tell_kept(&kept);

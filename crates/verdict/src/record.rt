@@ -34,6 +34,34 @@ pub fn holds_unwired(rec: &Record, job: &[u8]) -> bool {
     holds_job(rec, job) && all(span(rec, 3968, 24000), 0)
 }
 
+// The byte of an unwired record of the job.
+fn unwired_byte(job: &[u8], i: usize) -> u8 {
+    if i < 5 {
+        return byte_of(job, i);
+    }
+    if i < 768 {
+        return 0;
+    }
+    if i < 3968 {
+        return byte_of(job, i - 763);
+    }
+    if i < 27968 {
+        return 0;
+    }
+    byte_of(job, i - 24763)
+}
+
+fn byte_of(job: &[u8], i: usize) -> u8 {
+    if i < job.len() { job[i] } else { 0 }
+}
+
+// The record becomes that of the job without a wire.
+pub fn put_unwired(rec: &mut Record, job: &[u8]) {
+    for i in 0..32768 {
+        rec[i] = unwired_byte(job, i);
+    }
+}
+
 fn wired(rec: &Record, p: usize) -> usize
     ensures { λ r. ⌜ r < 2 ⌝ }
 {
