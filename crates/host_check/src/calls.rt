@@ -50,7 +50,7 @@ fn call_new(tally: &mut Tally, rec: &mut [u8], twin: &mut [u8], seed: u32) -> An
     let columns = pick(a, 2, 7);
     let side = pick(b, 1, 4);
     let diagonal = pick(c, side, 4);
-    let extra = pick(d, 0, 18);
+    let extra = pick(d, 0, 8);
     let answer = service::new(rec, rows, columns, side, diagonal, extra);
     let word = talusdish_new(
         twin,

@@ -88,4 +88,6 @@ pub fn vectors(tally: &mut Tally) {
     series(tally, &mut page, b"K3/text", 8);
     series(tally, &mut page, b"K7/job", 12);
     series(tally, &mut page, b"K7/text", 8);
+    series(tally, &mut page, b"K9/job", 14);
+    series(tally, &mut page, b"K9/text", 6);
 }

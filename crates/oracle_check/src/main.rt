@@ -283,7 +283,7 @@ fn direct_exits() {
 fn main() {
     vectors();
     spoil(b"four");
-    spoil(b"job000");
+    spoil(b"job003");
     spoil(b"K2/job05");
     direct_exits();
     random();

@@ -193,6 +193,8 @@ fn vectors(counts: &mut [u64; 5]) {
     series(counts, b"K3/text", 8);
     series(counts, b"K7/job", 12);
     series(counts, b"K7/text", 8);
+    series(counts, b"K9/job", 14);
+    series(counts, b"K9/text", 6);
 }
 
 // The examples that document 01 gives, and an output that is too short for the first.
