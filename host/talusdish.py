@@ -36,6 +36,7 @@ SIGNATURES = {
     'talusdish_listing': 'bb',
     'talusdish_rules': 'nnnnrrrrr',
     'talusdish_trial': 'bnnnnnnnnn',
+    'talusdish_sheet': 'bb',
 }
 
 REFUSALS = {
@@ -52,6 +53,8 @@ REFUSALS = {
     11: 'more wires are laid on a side than fit there (O)',
     12: 'the starting number is not 1 to 4,294,967,295',
     13: 'the percentages are out of range: chosen and missing together are 0 to 100, closed is 0 to 100',
+    14: 'a sheet is for a job with O of 2 and no missing pin',
+    15: 'the sheet is not 9,600 bytes long, or has a load over its side or inward at the rim, or wrong marks',
 }
 
 
@@ -271,6 +274,11 @@ class Job:
     def extra(self, e):
         """Lowers E: every wire that passes a missing pin is taken out."""
         call('talusdish_extra', self._record, e)
+
+    def sheet(self, sheet):
+        """None where the tiles carry the sheet, else the row and the column of the first that fails."""
+        value = call('talusdish_sheet', self._record, buffer(len(sheet), bytes(sheet)))
+        return (value >> 10 & 63, value >> 16) if value else None
 
     def step(self):
         """ADDED, ALL_WIRED or SHORT."""

@@ -18,6 +18,8 @@
  *       11  a count of laid wires above O
  *       12  a starting number of 0, or of more than 32 bits
  *       13  percentages: chosen and missing together above 100, or closed above 100
+ *       14  a sheet for a job whose O is not 2, or that has a missing pin
+ *       15  a sheet that is not 9,600 bytes long, or with a load over its side or inward at the rim, or with wrong marks
  * value  as said below; 0 where nothing is said, and with every code but 0 and 6
  *
  * Where several codes fit, the one that stands first at the function is returned. A refused call changes no byte.
@@ -26,7 +28,7 @@
  * with length 0 is an empty buffer. The buffers of one call do not overlap, and nobody else writes them during the call. A function keeps nothing between
  * calls, so calls on different records may run at the same time. docs/RECORD.md says what each byte of a record and of shortfall's output holds.
  *
- * A call works on the stack of its thread: step and shortfall need 263 KiB of it, listing, mark, close, lay and diagonal 135 KiB, part and write_text 103 KiB, new, read_text, trial and rules at most
+ * A call works on the stack of its thread: step and shortfall need 263 KiB of it, listing, mark, close, lay, diagonal and extra 135 KiB, part, write_text and sheet 103 KiB, new, read_text, trial and rules at most
  * 17 KiB (measured on x86-64 with two 40 by 40 jobs, not proved). A thread with 512 KiB is safe.
  */
 #ifndef TALUSDISH_H
@@ -36,6 +38,7 @@
 
 #define TALUSDISH_RECORD 32768  /* bytes of a record, and of shortfall's output */
 #define TALUSDISH_SCRATCH 65536 /* bytes of scratch */
+#define TALUSDISH_SHEET 9600    /* bytes of a sheet */
 
 #define TALUSDISH_CODE(word) ((word) & 255)
 #define TALUSDISH_VALUE(word) ((word) >> 8)
@@ -107,6 +110,11 @@ uint64_t talusdish_rules(uint64_t p, uint64_t d, uint64_t w, uint64_t s, uint64_
  * missing, else idle; then each tile, in the same order: below `closed` it is closed. */
 uint64_t talusdish_trial(uint8_t *record, uint64_t record_len, uint64_t rows, uint64_t columns, uint64_t o, uint64_t d, uint64_t e, uint64_t seed,
                          uint64_t chosen, uint64_t missing, uint64_t closed);
+
+/* Whether the tiles carry a sheet of side loads: whether wires can go on inside every tile so that the loads of its sides and the marks of its pins fit. 1; 14;
+ * 15. The value is 0 where the sheet is carried, else 1 + 1024 * row + 65536 * column of the first failing tile by row and column. docs/RECORD.md has the
+ * sheet's bytes. The record is only read; its own wires do not matter. */
+uint64_t talusdish_sheet(const uint8_t *record, uint64_t record_len, const uint8_t *sheet, uint64_t sheet_len);
 
 #ifdef __cplusplus
 }

@@ -26,6 +26,10 @@ pub const LISTS: usize = 7;
 
 pub const WROTE: usize = 8;
 
+pub const CARRIED: usize = 9;
+
+pub const FAILS: usize = 10;
+
 pub struct Said {
     pub kind: usize,
     pub number: usize,
@@ -46,6 +50,8 @@ pub fn coded(a: Answer) -> Said {
         Answer::Lacks(n) => say(LACKS, n),
         Answer::Lists(_) => say(LISTS, 0),
         Answer::Wrote(n) => say(WROTE, n),
+        Answer::Carried => say(CARRIED, 0),
+        Answer::Fails(_, _) => say(FAILS, 0),
     }
 }
 

@@ -77,6 +77,8 @@ pub fn says(w: u64, answer: Answer) -> bool {
         Answer::Lacks(k) => code == 0 && value == k,
         Answer::Lists(_) => code == 0 && lists(value, answer),
         Answer::Wrote(n) => code == 0 && value == n,
+        Answer::Carried => code == 0 && value == 0,
+        Answer::Fails(r, c) => { code == 0 && value % 1024 == 1 && value / 1024 % 64 == r && value / 65536 == c }
     }
 }
 
@@ -109,6 +111,8 @@ fn kind(answer: Answer) -> usize {
         Answer::Lacks(_) => 13,
         Answer::Lists(part) => part_kind(part),
         Answer::Wrote(_) => 20,
+        Answer::Carried => 22,
+        Answer::Fails(_, _) => 22,
     }
 }
 
