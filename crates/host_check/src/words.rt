@@ -78,7 +78,9 @@ pub fn says(w: u64, answer: Answer) -> bool {
         Answer::Lists(_) => code == 0 && lists(value, answer),
         Answer::Wrote(n) => code == 0 && value == n,
         Answer::Carried => code == 0 && value == 0,
-        Answer::Fails(r, c) => { code == 0 && value % 1024 == 1 && value / 1024 % 64 == r && value / 65536 == c }
+        Answer::Fails(r, c) => {
+            code == 0 && value % 1024 == 1 && value / 1024 % 64 == r && value / 65536 == c
+        }
     }
 }
 

@@ -11,3 +11,5 @@ pub mod Tiles
 pub mod Tests
 pub mod First
 pub mod Answered
+-- the other way round
+pub mod Wired
