@@ -15,6 +15,7 @@ use Rattle.model.specs.Job.{Job, fresh, arrayFits, capsAdmitted, isPin, isTile,
 use Rattle.model.specs.Text.{Group, chosenPins, missingPins, closedTiles, ownDs, laidSides, Line, arrayLine, groupLine, endLine, lineBytes, begin, afterArray, finished}
 use Rattle.model.specs.Text.{within, rank, Reader}
 use Rattle.model.specs.Text.{start, asking, inTurn, names, writesSide, admit, wrongAt, wrong, Reading, says, keyOf}
+use Rattle.model.proofs.Admitted.{admitted-fit}
 use Rattle.model.proofs.TextUnique.{Says, admit-says, line-unique}
 use Rattle.model.proofs.TextProper.{asked, by-word, names-says, names-own, names-laid}
 use Rattle.model.proofs.TextNames.{names-inside}
@@ -56,7 +57,7 @@ not-begun e = omega (arith, ap rank e)
 pub open-wrong : (text : List ℕ) → ArrayAt text WrongOpening → Reading text (wrongAt 0)
 open-wrong text f =
     wrong (λ s. absurd (not-begun s))
-    (λ l R rest q p. let (a, b, o, d, e, i, s, t) = opened l R q in f a b o d e rest (five-small a b o d e s t) (p ∙ ap (λ (m : Line). lineBytes m ++ rest) i))
+    (λ l R rest q p. let (a, b, o, d, e, i, s, t) = opened l R q in f a b o d e rest (five-small a b o d e s (admitted-fit o d e t)) (p ∙ ap (λ (m : Line). lineBytes m ++ rest) i))
 
 abbrev afterArray′ : ℕ → ℕ → ℕ → ℕ → ℕ → Reader
 afterArray′ a b o d e = record { stage = afterArray; from = 0; job = fresh a b o d e }
