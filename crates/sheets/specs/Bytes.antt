@@ -9,7 +9,7 @@ use native.Mathlib.Omega.{arith}
 use lib.Dec.{T, T-not, eqb, leb, ltb, eqb→eq, eqb-refl, leb→le, ltb→lt}
 use lib.ListN.{length, getD}
 use Rattle.sums.specs.Counting.{when}
-use Rattle.sums.specs.Tests.{every-at, below, below-at, and-left, and-right}
+use Rattle.sums.specs.Tests.{every-at, below, below-at, and-left, and-right, and-both}
 use Rattle.model.specs.Job.{Job, northLimit, westLimit, hasNorth, hasWest, isChosen}
 use Rattle.model.specs.Links.{Compass, north, east, south, west}
 use Rattle.model.specs.Record.{forthPart, backPart}
@@ -19,6 +19,14 @@ use Rattle.model.specs.Sheet.{sheetSize, sheetCell, legPlane, everywhere, loadW
 
 pub everywhere-at : (p : ℕ → ℕ → Bool) → T (everywhere p) → (r c : ℕ) → r < 40 → c < 40 → T (p r c)
 everywhere-at p t r c lr lc = below-at 40 (p r) (below-at 40 (λ i. below 40 (p i)) t r lr) c lc
+
+below-all : (n : ℕ) (p : ℕ → Bool) → ((i : ℕ) → T (p i)) → T (below n p)
+unfolding below
+below-all zero p f = tt
+below-all (suc n) p f = and-both (below n p) (p n) (below-all n p f) (f n)
+
+pub everywhere-all : (p : ℕ → ℕ → Bool) → ((r c : ℕ) → T (p r c)) → T (everywhere p)
+everywhere-all p f = below-all 40 (λ r. below 40 (p r)) (λ r. below-all 40 (p r) (f r))
 
 -- a byte of the grid, or none
 pub cell-or : (sheet : List ℕ) (p r c : ℕ) → ((r < 40) × (c < 40)) ⊎ (sheetCell sheet p r c ≡ 0)

@@ -14,6 +14,7 @@ use Rattle.sums.specs.Tests.{below-or, and-left, and-right, and-both, or-by, so
 use Rattle.model.specs.Job.{Job, isTile}
 use Rattle.model.specs.Sheet.{Carried, TileCarried, SheetVerdict, carried, failsAt, isBefore, Judged, all-carried, first-fails}
 use Rattle.sheets.specs.Glued.{carried-tiles}
+use Rattle.sheets.specs.Tests.{or-left, or-right}
 use Rattle.sheets.specs.Tiles.{tileTest, Ready, tile-few, test-carried, carried-test}
 
 -- ---- the first number that does not pass
@@ -110,14 +111,6 @@ module _ (J : Job) (sheet : List ℕ) (ready : Ready J sheet) where
   judged-some = let (i, f) = first-of (passesAt J sheet) 1600 in (verdictAt i, first-judged i f)
 
 -- ---- a verdict is settled
-
-or-right : (a b : Bool) → T b → T (a || b)
-or-right true b t = tt
-or-right false b t = t
-
-or-left : (a b : Bool) → T a → T (a || b)
-or-left true b t = tt
-or-left false b t = absurd t
 
 higher-row : (i j r c : ℕ) → i < r → T (isBefore i j r c)
 higher-row i j r c l = or-left (ltb i r) (eqb i r && ltb j c) (lt→ltb i r l)

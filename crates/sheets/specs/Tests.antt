@@ -56,11 +56,11 @@ within-so most b l t =
     (and-both (not (eqb b 32)) (leb (forthPart b + backPart b) most) (not-T (eqb b 32) (λ u. other (eqb→eq b 32 u)))
     (le→leb (forthPart b + backPart b) most few))
 
-or-right : (a b : Bool) → T b → T (a || b)
+pub or-right : (a b : Bool) → T b → T (a || b)
 or-right true b t = tt
 or-right false b t = t
 
-or-left : (a b : Bool) → T a → T (a || b)
+pub or-left : (a b : Bool) → T a → T (a || b)
 or-left true b t = tt
 or-left false b t = absurd t
 

@@ -1,22 +1,25 @@
 -- The other way round: the side loads and leg marks of a legal record make a sheet that the tiles carry, for the record's own loads fit it inside every tile.
 -- Assumes nothing.
 use mathlib.Core.Path.{_≡_, refl, sym, ap, ap₂, subst, _∙_}
-use mathlib.Core.Bool.{Bool, true, false, not, _&&_}
+use mathlib.Core.Bool.{Bool, true, false, not, _&&_, _||_}
 use mathlib.Core.List.{List, []}
 use mathlib.Core.Logic.{_≢_, _⊎_, inl, inr, ⊎-elim}
 use Prim.Native.Nat.{ℕ, zero, suc, _+_, _*_, _/_, _%_, _≤_, _<_}
 use native.Mathlib.Omega.{arith}
-use lib.Dec.{T, T-not, not-T, leb, ltb, leb→le, ltb→lt, eqb, eqb→eq}
-use lib.ListN.{getD}
+use lib.Dec.{T, T-not, not-T, leb, ltb, leb→le, le→leb, ltb→lt, lt→ltb, eqb, eqb→eq}
+use lib.ListN.{length, getD}
 use Rattle.sums.specs.Counting.{when, those, total}
-use Rattle.sums.specs.Tests.{below-or, and-left, and-right, and-both}
-use Rattle.model.specs.Job.{Job, inRange, isTile, isOpen, isClosed, isChosen, isMissing}
-use Rattle.model.specs.Links.{Compass, north, east, south, west, pin, missing, centre, side, Place, at, theOutside, isPlace, isEntered, beside, pinAt, LinkKind, northSide, westSide, leg, Step, go, come, turn, head, tail, behindOf, aheadOf, may}
+use Rattle.sums.specs.Tests.{every, below-or, and-left, and-right, and-both, so}
+use borrow.Author.Tests.{eq-eqb}
+use Rattle.model.specs.Job.{Job, inRange, northLimit, westLimit, hasNorth, hasWest, onRim, isTile, isOpen, isClosed, isChosen, isMissing}
+use Rattle.model.specs.Links.{Compass, north, east, south, west, PlaceKind, pin, missing, centre, outside, nowhere, side, Place, at, theOutside, placeCode, holds, straightOut, limitOf, isPlace, isEntered, beside, pinAt, LinkKind, northSide, westSide, direct, leg, Step, go, come, turn, head, tail, behindOf, aheadOf, may}
 use Rattle.model.specs.Loads.{arrivals, departures, Feasible}
 use Rattle.model.specs.Record.{jobOf, load, loadPlane, offset, cell, forthPart, backPart, bytes, Legal}
-use Rattle.model.specs.Sheet.{isInner, innerSteps, outerSteps, Inside, sheetSize, sheetCell, legPlane, sheetLoad, everywhere, sheetJob, brings, takes, TileFits, Carried, sheetPlanes, sheetFrom}
-use Rattle.model.proofs.RecordOf.{byte-at}
-use Rattle.sheets.specs.Bytes.{everywhere-at}
+use Rattle.model.specs.Sheet.{isInner, innerSteps, outerSteps, Inside, sheetSize, sheetCell, legPlane, sheetLoad, everywhere, sheetJob, loadWithin, sidesWithin, isInward, noneInward, leadsIn, marksWithin, marksOf, isMarked, sheetCellFits, sheetFits, brings, takes, TileFits, Carried, sheetPlanes, sheetFrom}
+use Rattle.model.specs.Wires.{isWired}
+use Rattle.model.proofs.RecordOf.{length-bytes, byte-at}
+use Rattle.sheets.specs.Bytes.{everywhere-at, everywhere-all}
+use Rattle.sheets.specs.Tests.{or-left, or-right}
 
 -- ---- the bytes
 
@@ -222,3 +225,229 @@ module _ (rec : List ℕ) (g : Legal rec) where
 
     pub record-carried : Carried J (sheetFrom rec)
     record-carried = (f, λ r c t. record { opened = open-inside r c; shut = λ u d. closed-even r c u d })
+
+    -- ---- and the sheet is not turned away
+
+    -- where there is no side there is no load
+    place-tile : (d : Compass) (r c : ℕ) → T (isPlace J (beside J d r c)) → T (isTile J r c)
+    place-tile d r c = by (isTile J r c)
+      where
+        by : (b : Bool) → T (isPlace J (elim b as (λ x. Place) [ true ↦ at (side d) r c | false ↦ theOutside ])) → T b
+        by true t = tt
+        by false t = absurd t
+
+    open-tile : (r c : ℕ) → T (isOpen J r c) → T (isTile J r c)
+    unfolding isOpen
+    open-tile r c t = and-left (isTile J r c) (eqb (J .state r c) 0) t
+
+    tile-north : (r c : ℕ) → T (isTile J r c) → T (hasNorth J r c)
+    tile-north r c t =
+        and-both (ltb r (J .rows)) (ltb (suc c) (J .columns))
+        (lt→ltb r (J .rows) (omega (arith, ltb→lt (suc r) (J .rows) (and-left (ltb (suc r) (J .rows)) (ltb (suc c) (J .columns)) t))))
+        (and-right (ltb (suc r) (J .rows)) (ltb (suc c) (J .columns)) t)
+
+    tile-west : (r c : ℕ) → T (isTile J r c) → T (hasWest J r c)
+    tile-west r c t =
+        and-both (ltb (suc r) (J .rows)) (ltb c (J .columns)) (and-left (ltb (suc r) (J .rows)) (ltb (suc c) (J .columns)) t)
+        (lt→ltb c (J .columns) (omega (arith, ltb→lt (suc c) (J .columns) (and-right (ltb (suc r) (J .rows)) (ltb (suc c) (J .columns)) t))))
+
+    goes-north : (r c : ℕ) → T (may J (go northSide r c)) → T (hasNorth J r c)
+    unfolding may head behindOf
+    goes-north r c t = tile-north r c (place-tile north r c (and-left (isPlace J (tail J (go northSide r c))) (isEntered J (head J (go northSide r c))) t))
+
+    comes-north : (r c : ℕ) → T (may J (come northSide r c)) → T (hasNorth J r c)
+    unfolding may head aheadOf
+    comes-north zero c t = absurd t
+    comes-north (suc r) c t = open-tile r c (and-left (isOpen J r c) (isEntered J (head J (come northSide (suc r) c))) t)
+
+    goes-west : (r c : ℕ) → T (may J (go westSide r c)) → T (hasWest J r c)
+    unfolding may head behindOf
+    goes-west r zero t = absurd t
+    goes-west r (suc c) t = open-tile r c (and-left (isOpen J r c) (isEntered J (head J (go westSide r (suc c)))) t)
+
+    comes-west : (r c : ℕ) → T (may J (come westSide r c)) → T (hasWest J r c)
+    unfolding may head aheadOf
+    comes-west r c t = tile-west r c (place-tile west r c (and-left (isPlace J (tail J (come westSide r c))) (isEntered J (head J (come westSide r c))) t))
+
+    -- a load byte whose wires each way are a and b
+    within : (most x a b : ℕ) → x < 64 → x ≢ 32 → forthPart x ≡ a → backPart x ≡ b → a + b ≤ most → T (loadWithin most x)
+    within most x a b l n p q h =
+        and-both (ltb x 64) (not (eqb x 32) && leb (forthPart x + backPart x) most) (lt→ltb x 64 l)
+        (and-both (not (eqb x 32)) (leb (forthPart x + backPart x) most) (not-T (eqb x 32) (λ u. n (eqb→eq x 32 u)))
+        (le→leb (forthPart x + backPart x) most (omega arith)))
+
+    few-when : (b : Bool) (m x y : ℕ) → (T b → x + y ≤ m) → ((T b → ⊥) → x ≡ 0) → ((T b → ⊥) → y ≡ 0) → x + y ≤ when b m
+    few-when true m x y p q s = p tt
+    few-when false m x y p q s = omega (arith, q (λ t. t), s (λ t. t))
+
+    north-within : (r c : ℕ) → T (loadWithin (when (hasNorth J r c) (northLimit J r c)) (sheetCell (sheetFrom rec) 0 r c))
+    unfolding load limitOf
+    north-within r c =
+        let v = g .values .loads northSide r c in
+        subst (λ (x : ℕ). T (loadWithin (when (hasNorth J r c) (northLimit J r c)) x)) (sym (sheet-cell rec 0 r c (omega arith)))
+        (within (when (hasNorth J r c) (northLimit J r c)) (cell rec 2 r c) (f (go northSide r c)) (f (come northSide r c)) (v .0) (v .1) refl refl
+        (few-when (hasNorth J r c) (northLimit J r c) (f (go northSide r c)) (f (come northSide r c))
+        (λ t. feasible .limits (go northSide r c) (northLimit J r c) refl)
+        (λ n. unloaded (go northSide r c) (λ t. n (goes-north r c t)))
+        (λ n. unloaded (come northSide r c) (λ t. n (comes-north r c t)))))
+
+    west-within : (r c : ℕ) → T (loadWithin (when (hasWest J r c) (westLimit J r c)) (sheetCell (sheetFrom rec) 1 r c))
+    unfolding load limitOf
+    west-within r c =
+        let v = g .values .loads westSide r c in
+        subst (λ (x : ℕ). T (loadWithin (when (hasWest J r c) (westLimit J r c)) x)) (sym (sheet-cell rec 1 r c (omega arith)))
+        (within (when (hasWest J r c) (westLimit J r c)) (cell rec 3 r c) (f (go westSide r c)) (f (come westSide r c)) (v .0) (v .1) refl refl
+        (few-when (hasWest J r c) (westLimit J r c) (f (go westSide r c)) (f (come westSide r c))
+        (λ t. feasible .limits (go westSide r c) (westLimit J r c) refl)
+        (λ n. unloaded (go westSide r c) (λ t. n (goes-west r c t)))
+        (λ n. unloaded (come westSide r c) (λ t. n (comes-west r c t)))))
+
+    -- the outside is never left
+    outside-none : (x : Place) → T (eqb (placeCode (x .kind)) (placeCode outside)) → T (isPlace J x) → ⊥
+    outside-none x = by (x .kind)
+      where
+        by : (k : PlaceKind) → T (eqb (placeCode k) (placeCode outside)) → T (holds J k (x .row) (x .column)) → ⊥
+        by pin t u = t
+        by missing t u = t
+        by centre t u = t
+        by outside t u = u
+        by nowhere t u = t
+        by (side north) t u = t
+        by (side east) t u = t
+        by (side south) t u = t
+        by (side west) t u = t
+
+    not-inward : (s : Step) → sheetLoad (sheetFrom rec) s ≡ f s → T (not (isInward J (sheetFrom rec) s))
+    unfolding may
+    not-inward s e =
+        not-T (isInward J (sheetFrom rec) s)
+        (λ t.
+        let o = and-left (eqb (placeCode (tail J s .kind)) (placeCode outside)) (ltb 0 (sheetLoad (sheetFrom rec) s)) t in
+        let l = ltb→lt 0 (sheetLoad (sheetFrom rec) s) (and-right (eqb (placeCode (tail J s .kind)) (placeCode outside)) (ltb 0 (sheetLoad (sheetFrom rec) s)) t) in
+        let z = unloaded s (λ m. outside-none (tail J s) o (and-left (isPlace J (tail J s)) (isEntered J (head J s)) m)) in
+        omega arith)
+
+    none-inward : (r c : ℕ) → T (noneInward J (sheetFrom rec) r c)
+    unfolding every
+    none-inward r c =
+        and-both (not (isInward J (sheetFrom rec) (go northSide r c)))
+        (not (isInward J (sheetFrom rec) (come northSide r c)) && (not (isInward J (sheetFrom rec) (go westSide r c)) && (not (isInward J (sheetFrom rec) (come westSide r c)) && true)))
+        (not-inward (go northSide r c) (north-load r c .0))
+        (and-both (not (isInward J (sheetFrom rec) (come northSide r c)))
+        (not (isInward J (sheetFrom rec) (go westSide r c)) && (not (isInward J (sheetFrom rec) (come westSide r c)) && true))
+        (not-inward (come northSide r c) (north-load r c .1))
+        (and-both (not (isInward J (sheetFrom rec) (go westSide r c))) (not (isInward J (sheetFrom rec) (come westSide r c)) && true)
+        (not-inward (go westSide r c) (west-load r c .0))
+        (and-both (not (isInward J (sheetFrom rec) (come westSide r c))) true (not-inward (come westSide r c) (west-load r c .1)) tt)))
+
+    -- a loaded leg starts at a chosen pin and leads into a tile
+    leg-chosen : (d : Compass) (r c : ℕ) → T (may J (go (leg d) r c)) → T (isChosen J r c)
+    unfolding may head behindOf
+    leg-chosen d r c t = by (eqb (J .mark r c) 2) (and-left (isPlace J (tail J (go (leg d) r c))) (isEntered J (head J (go (leg d) r c))) t)
+      where
+        by : (b : Bool) → T (isPlace J (elim b as (λ x. Place) [ true ↦ at missing r c | false ↦ at pin r c ])) → T (isChosen J r c)
+        by true u = absurd (none-missing r c u)
+        by false u = u
+
+    leg-leads : (d : Compass) (r c : ℕ) → T (isEntered J (aheadOf J (leg d) r c)) → T (leadsIn J d r c)
+    unfolding aheadOf
+    leg-leads north zero c t = absurd t
+    leg-leads north (suc r) c t = open-tile r c t
+    leg-leads east r c t = open-tile r c t
+    leg-leads south r zero t = absurd t
+    leg-leads south r (suc c) t = open-tile r c t
+    leg-leads west zero c t = absurd t
+    leg-leads west (suc r) zero t = absurd t
+    leg-leads west (suc r) (suc c) t = open-tile r c t
+
+    leg-may : (d : Compass) (r c : ℕ) → T (may J (go (leg d) r c)) → T (isChosen J r c && leadsIn J d r c)
+    unfolding may head
+    leg-may d r c t =
+        and-both (isChosen J r c) (leadsIn J d r c) (leg-chosen d r c t)
+        (leg-leads d r c (and-right (isPlace J (tail J (go (leg d) r c))) (isEntered J (head J (go (leg d) r c))) t))
+
+    leg-one : (d : Compass) (r c : ℕ) → T (isChosen J r c) → f (go (leg d) r c) ≤ 1
+    unfolding departures total
+    leg-one north r c t = omega (arith, feasible .starts r c t)
+    leg-one east r c t = omega (arith, feasible .starts r c t)
+    leg-one south r c t = omega (arith, feasible .starts r c t)
+    leg-one west r c t = omega (arith, feasible .starts r c t)
+
+    mark-within : (d : Compass) (r c : ℕ) → T (leb (sheetCell (sheetFrom rec) (legPlane d) r c) (when (isChosen J r c && leadsIn J d r c) 1))
+    unfolding sheetLoad
+    mark-within d r c =
+        le→leb (sheetCell (sheetFrom rec) (legPlane d) r c) (when (isChosen J r c && leadsIn J d r c) 1)
+        (omega (
+          arith,
+          leg-load d r c,
+          few-when (isChosen J r c && leadsIn J d r c) 1 (f (go (leg d) r c)) 0
+              (λ t. omega (arith, leg-one d r c (and-left (isChosen J r c) (leadsIn J d r c) t)))
+              (λ n. unloaded (go (leg d) r c) (λ t. n (leg-may d r c t))) (λ n. refl),
+        ))
+
+    marks-within : (r c : ℕ) → T (marksWithin J (sheetFrom rec) r c)
+    unfolding every
+    marks-within r c =
+        and-both (test north) (test east && (test south && (test west && true))) (mark-within north r c)
+        (and-both (test east) (test south && (test west && true)) (mark-within east r c)
+        (and-both (test south) (test west && true) (mark-within south r c) (and-both (test west) true (mark-within west r c) tt)))
+      where
+        test : Compass → Bool
+        test d = leb (sheetCell (sheetFrom rec) (legPlane d) r c) (when (isChosen J r c && leadsIn J d r c) 1)
+
+    -- a pin that leaves directly is on the rim
+    direct-rim : (r c : ℕ) → T (may J (go direct r c)) → T (onRim J r c)
+    unfolding may head aheadOf
+    direct-rim r c t = by (isChosen J r c) (onRim J r c) (and-right (isPlace J (tail J (go direct r c))) (isEntered J (straightOut J r c)) t)
+      where
+        by : (a b : Bool) → T (isEntered J (elim (a && b) as (λ x. Place) [ true ↦ theOutside | false ↦ at nowhere 0 0 ])) → T b
+        by true true u = tt
+        by true false u = absurd u
+        by false b u = absurd u
+
+    direct-none : (r c : ℕ) → sheetLoad (sheetFrom rec) (go direct r c) ≡ 0
+    unfolding sheetLoad
+    direct-none r c = refl
+
+    marks-all : (r c : ℕ) → marksOf (sheetFrom rec) r c + f (go direct r c) ≡ departures f (at pin r c)
+    unfolding departures total
+    marks-all r c = omega (arith, leg-load north r c, leg-load east r c, leg-load south r c, leg-load west r c, direct-none r c)
+
+    module _ (wired : (r c : ℕ) → T (isChosen J r c) → T (isWired J f r c)) where
+      one-start : (r c : ℕ) → T (isChosen J r c) → departures f (at pin r c) ≡ 1
+      unfolding isWired
+      one-start r c t =
+          omega (arith, feasible .starts r c t, ltb→lt 0 (departures f (at pin r c)) (and-right (isChosen J r c) (ltb 0 (departures f (at pin r c))) (wired r c t)))
+
+      is-marked : (r c : ℕ) → T (isMarked J (sheetFrom rec) r c)
+      is-marked r c = by (isChosen J r c) (one-start r c)
+        where
+          m : ℕ
+          m = marksOf (sheetFrom rec) r c
+
+          by : (a : Bool) → (T a → departures f (at pin r c) ≡ 1) → T (not a || (eqb m 1 || (onRim J r c && eqb m 0)))
+          by false h = tt
+          by true h = ⊎-elim (λ l. or-right (eqb m 1) (onRim J r c && eqb m 0) (and-both (onRim J r c) (eqb m 0) (rim l) (so (eq-eqb m 0 (omega (arith, h tt, marks-all r c))))))
+              (λ l. or-left (eqb m 1) (onRim J r c && eqb m 0) (so (eq-eqb m 1 (omega (arith, h tt, marks-all r c))))) (below-or 0 (f (go direct r c)))
+            where
+              rim : 0 < f (go direct r c) → T (onRim J r c)
+              rim l = by-may (may J (go direct r c)) refl
+                where
+                  by-may : (b : Bool) → may J (go direct r c) ≡ b → T (onRim J r c)
+                  by-may true e = direct-rim r c (so e)
+                  by-may false e = absurd (omega (arith, unloaded (go direct r c) (λ t. subst T e t)))
+
+      sheet-size : length (sheetFrom rec) ≡ sheetSize
+      unfolding sheetFrom
+      sheet-size = length-bytes 9600 (λ i. cell rec (getD sheetPlanes (i / 1600) 0) (i % 1600 / 40) (i % 40))
+
+      pub record-fits : T (sheetFits J (sheetFrom rec))
+      record-fits =
+          and-both (eqb (length (sheetFrom rec)) sheetSize) (everywhere (sheetCellFits J (sheetFrom rec))) (so (eq-eqb (length (sheetFrom rec)) sheetSize sheet-size))
+          (everywhere-all (sheetCellFits J (sheetFrom rec))
+          (λ r c.
+          and-both (sidesWithin J (sheetFrom rec) r c && noneInward J (sheetFrom rec) r c) (marksWithin J (sheetFrom rec) r c && isMarked J (sheetFrom rec) r c)
+          (and-both (sidesWithin J (sheetFrom rec) r c) (noneInward J (sheetFrom rec) r c)
+          (and-both (loadWithin (when (hasNorth J r c) (northLimit J r c)) (sheetCell (sheetFrom rec) 0 r c)) (loadWithin (when (hasWest J r c) (westLimit J r c)) (sheetCell (sheetFrom rec) 1 r c))
+          (north-within r c) (west-within r c)) (none-inward r c))
+          (and-both (marksWithin J (sheetFrom rec) r c) (isMarked J (sheetFrom rec) r c) (marks-within r c) (is-marked r c))))
