@@ -7,14 +7,16 @@ use Prim.Native.Nat.{ℕ}
 use native.Mathlib.Omega.{arith}
 use lib.ListN.{length, getD, replicate, length-replicate}
 use lib.Seq.{getD-take}
-use Rattle.model.specs.Job.{Job, marked, closed, sideOf, laidBy}
+use Rattle.model.specs.Job.{Job, marked, closed, sideOf, laidBy, withOwnD, withExtra}
 use Rattle.model.specs.Links.{Step}
 use Rattle.model.specs.Record.{recordSize, jobOf, load, Legal, recordOf, over}
-use Rattle.model.specs.Left.{markLeft, closeLeft, laidLeft}
+use Rattle.model.specs.Left.{markLeft, closeLeft, laidLeft, centreLeft, extraLeft}
 use Rattle.channel.specs.Copies.{front, over-whole, front-length}
 use Rattle.takeout.specs.LeftRecord.{SameRecord, copy-job, copy-loads, copy-legal}
 use Rattle.editing.specs.Edits.{setIn}
 use Rattle.editing.specs.Laying.{countIn}
+use Rattle.editing.specs.Diagonals.{ownIn}
+use Rattle.editing.specs.Lowering.{loweredTo}
 
 -- over zeros
 module _ {rec was : List ℕ} (g : Legal rec) (e : was ≡ over (front rec) (replicate recordSize 0)) where
@@ -46,3 +48,9 @@ module _ {rec was : List ℕ} (g : Legal rec) (e : was ≡ over (front rec) (rep
   pub lay-copied : (r c d n : ℕ)
       → over (recordOf (laidBy (jobOf was) (sideOf r c d) n) (laidLeft (jobOf was) (load was) (sideOf r c d) n)) rec ≡ countIn r c d n rec
   lay-copied r c d n = as-copied (λ J f. over (recordOf (laidBy J (sideOf r c d) n) (laidLeft J f (sideOf r c d) n)) rec)
+
+  pub own-copied : (r c d : ℕ) → over (recordOf (withOwnD (jobOf was) r c d) (centreLeft (jobOf was) (load was) r c)) rec ≡ ownIn r c d rec
+  own-copied r c d = as-copied (λ J f. over (recordOf (withOwnD J r c d) (centreLeft J f r c)) rec)
+
+  pub lower-copied : (x : ℕ) → over (recordOf (withExtra (jobOf was) x) (extraLeft (jobOf was) (load was))) rec ≡ loweredTo x rec
+  lower-copied x = as-copied (λ J f. over (recordOf (withExtra J x) (extraLeft J f)) rec)

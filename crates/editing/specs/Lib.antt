@@ -2,9 +2,9 @@
 pub mod Edits
 -- what setting a count does
 pub mod Laying
--- the copy in which the wires are followed
-pub mod Copied
 -- what giving a tile its D does
 pub mod Diagonals
 -- what lowering E does
 pub mod Lowering
+-- the copy in which the wires are followed
+pub mod Copied

@@ -93,14 +93,16 @@ module _ (S : Service) (rec : List ℕ) (J : Job) (b : Buffer rec) (long : recor
       let K : Job = trialJob t in
       let made : After = after done (over (unwiredRecord K) rec) [] [] in
       let a : Bool = arrayFits (t .rows) (t .columns) in
-      let b : Bool = capsAdmitted (t .O) (t .D) (t .E) in
+      let d : Bool = capsAdmitted (t .O) (t .D) (t .E) in
       let rest : List Test = test (seedFits (t .seed)) 12 ∷ test (percentsFit (t .chosen) (t .missing) (t .closed)) 13 ∷ [] in
-      let ts : List Test = test a 2 ∷ test b 3 ∷ rest in
+      let ts : List Test = test a 2 ∷ test d 3 ∷ rest in
       subst (Leaves S (trial t) rec J) (sym (asked-holds rec [] made (leb recordSize (length rec)) 1 ts (le-leb recordSize (length rec) long)))
       (asked-either rec [] made (Leaves S (trial t) rec J) notOne ts tt (refused-leaves S (trial t) rec J [])
       (λ h.
       accepts K refl refl
-      (anew rec b long K (trial-proper t (and-left a (b && allHold rest) h) (admitted-fit (t .O) (t .D) (t .E) (and-left b (allHold rest) (and-right a (b && allHold rest) h)))))))
+      (anew rec b long K
+      (trial-proper t (and-left a (d && allHold rest) h)
+      (admitted-fit (t .O) (t .D) (t .E) (and-left d (allHold rest) (and-right a (d && allHold rest) h)))))))
 
 -- ---- the others, on a legal record
 

@@ -18,6 +18,7 @@ use Rattle.model.specs.Loads.{departures}
 use Rattle.model.specs.Near.{size}
 use Rattle.model.specs.Record.{recordSize, jobOf, kinds, forthPart, backPart, Legal}
 use Rattle.model.specs.Sheet.{sheetCell, legPlane, sheetLoad, everywhere, sheetJob, loadWithin, isInward, noneInward, leadsIn, marksWithin, marksOf, isMarked, sheetFits}
+use Rattle.model.proofs.Own.{tile-range}
 use Rattle.channel.specs.Map.{rowOf, columnOf}
 use Rattle.channel.specs.Map.Darts.{cell-row, cell-column}
 use Rattle.sheets.specs.Bytes.{LoadByte, load-byte}
@@ -253,8 +254,7 @@ open-read J sheet r c l p₁ q₁ k₁ p₂ q₂ k₂ p₃ q₃ k₃ p₄ q₄ k
 tile-most : (rec : List ℕ) → Legal rec → jobOf rec .O ≡ 2 → (r c : ℕ) → tileD (jobOf rec) r c ≤ 4
 tile-most rec g two r c =
     let J : Job = jobOf rec in
-    let t = and-left (inRange (J .O) (2 * J .O) (J .D)) (inRange 0 16 (J .E)) (and-right (inRange 1 8 (J .O)) (inRange (J .O) (2 * J .O) (J .D) && inRange 0 16 (J .E)) (g .values .caps)) in
-    omega (arith, leb→le (J .D) (2 * J .O) (and-right (leb (J .O) (J .D)) (leb (J .D) (2 * J .O)) t), two)
+    omega (arith, tile-range J (record { job = g .values .caps; tiles = g .values .added }) r c .1, two)
 
 pub ready-of : (rec sheet : List ℕ) → Legal rec → T (sheetJob (jobOf rec)) → T (sheetFits (jobOf rec) sheet) → Ready (jobOf rec) sheet
 ready-of rec sheet g t u =

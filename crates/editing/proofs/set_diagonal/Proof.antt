@@ -1,13 +1,7 @@
 -- `set_diagonal` meets its contract: the wires are followed in a copy, which is legal, of the same job and with the same loads. Assumes nothing.
 use mathlib.Core.Path.{_∙_}
-use Prim.Native.Nat.{ℕ}
-use denote.Ref.{now}
 use borrow.Author.Needs.{needs}
-use Rattle.model.specs.Job.{Job, withOwnD}
-use Rattle.model.specs.Links.{Step}
-use Rattle.model.specs.Record.{recordOf, over}
-use Rattle.model.specs.Left.{centreLeft}
-use Rattle.editing.specs.Copied.{copied-same, copied-legal, as-copied}
+use Rattle.editing.specs.Copied.{copied-same, copied-legal, own-copied}
 use Rattle.editing.proofs.set_diagonal.Statement.{statement}
 use Rattle.editing.proofs.set_diagonal.Tie as tie
 
@@ -42,8 +36,7 @@ returns c =
     let s = c6 .before .before .before .before in
     let a = s .args in
     c .before .before .diagonal-keeping .ensures
-    ∙ as-copied (s .pre .0) (c6 .copy .ensures)
-    (λ (J : Job) (f : Step → ℕ). over (recordOf (withOwnD J (a .row) (a .column) (a .own)) (centreLeft J f (a .row) (a .column))) (now (a .rec)))
+    ∙ own-copied (s .pre .0) (c6 .copy .ensures) (a .row) (a .column) (a .own)
 
 pub set-diagonal-spec : {M : Type 1} → statement M
 set-diagonal-spec =

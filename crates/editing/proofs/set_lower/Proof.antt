@@ -1,13 +1,7 @@
 -- `set_lower` meets its contract: the wires are followed in a copy, which is legal, of the same job and with the same loads. Assumes nothing.
 use mathlib.Core.Path.{_∙_}
-use Prim.Native.Nat.{ℕ}
-use denote.Ref.{now}
 use borrow.Author.Needs.{needs}
-use Rattle.model.specs.Job.{Job, withExtra}
-use Rattle.model.specs.Links.{Step}
-use Rattle.model.specs.Record.{recordOf, over}
-use Rattle.model.specs.Left.{extraLeft}
-use Rattle.editing.specs.Copied.{copied-same, copied-legal, as-copied}
+use Rattle.editing.specs.Copied.{copied-same, copied-legal, lower-copied}
 use Rattle.editing.proofs.set_lower.Statement.{statement}
 use Rattle.editing.proofs.set_lower.Tie as tie
 
@@ -40,8 +34,7 @@ returns c =
     let s = c6 .before .before .before .before in
     let a = s .args in
     c .before .before .extra-keeping .ensures
-    ∙ as-copied (s .pre .0) (c6 .copy .ensures)
-    (λ (J : Job) (f : Step → ℕ). over (recordOf (withExtra J (a .e)) (extraLeft J f)) (now (a .rec)))
+    ∙ lower-copied (s .pre .0) (c6 .copy .ensures) (a .e)
 
 pub set-lower-spec : {M : Type 1} → statement M
 set-lower-spec =

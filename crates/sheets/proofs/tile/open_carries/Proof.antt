@@ -109,7 +109,7 @@ add-result c =
     let s = c .before .before .before .before .before .before .before .before .before .before .before .before .before .before .before .before .before in
     let a = s .args in
     let J = jobOf (a .rec .now) in
-    omega (arith, c .centre-most .ensures, cell-limit J (a .r) (a .c) (omega (arith, s .pre .0 .3)), few-pass J (a .sheet .now) (s .pre .1) (a .r) (a .c))
+    omega (arith, c .centre-most .ensures .0, cell-limit J (a .r) (a .c) (omega (arith, s .pre .0 .3)), few-pass J (a .sheet .now) (s .pre .1) (a .r) (a .c))
 
 returns : tie.Need-returns
 returns c =
@@ -120,7 +120,7 @@ returns c =
     (c .before .before .before .before .before .before .before .before .before .before .before .byte3 .ensures .0) (c .before .before .before .before .before .before .before .before .before .before .byte4 .ensures .0) (c .before .before .before .before .before .before .before .before .before .by-out2 .ensures .0)
     (c .before .before .before .before .before .before .before .before .byte5 .ensures .0) (c .before .before .before .before .before .before .before .byte6 .ensures .0) (c .before .before .before .before .before .before .by-in .ensures .0)
     (c .before .before .before .before .before .byte7 .ensures .0) (c .before .before .before .before .byte8 .ensures .0) (c .before .before .before .by-in2 .ensures .0)
-    (c .before .before .entry .ensures .0) (c .before .wide .ensures .0) (c .centre-most .ensures)
+    (c .before .before .entry .ensures .0) (c .before .wide .ensures .0) (c .centre-most .ensures .0)
 
 pub open-carries-spec : {M : Type 1} → statement M
 open-carries-spec =
