@@ -1,5 +1,6 @@
 -- `new` meets its contract: refused by the first test that fails, else the record of the new job. Assumes nothing.
 use mathlib.Core.Path.{sym, _∙_}
+use native.Mathlib.Omega.{arith}
 use denote.Ref.{now}
 use borrow.Author.Needs.{needs}
 use borrow.Author.Tests.{not-false}
