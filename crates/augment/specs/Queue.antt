@@ -41,9 +41,9 @@ alike-room r a =
     }
 
 -- the search begins
-spread-start : {J : Job} {rec t q f w : List ℕ} {start : ℕ} → Room t q f w → Fresh J t start
-    → Spread J rec start t (set t start 1) (set q 0 start) f w 1
-spread-start {J} {rec} {t} {q} {start = start} r s =
+pub spread-start : {J : Job} {go : ℕ → Bool} {t q f w : List ℕ} {start : ℕ} → Room t q f w → Fresh J t start
+    → Spread J go start t (set t start 1) (set q 0 start) f w 1
+spread-start {J} {go} {t} {q} {start = start} r s =
     record {
       some = omega arith;
       first = at;
@@ -68,8 +68,8 @@ spread-start {J} {rec} {t} {q} {start = start} r s =
     head i l = let e : i ≡ 0 = omega arith in rw e at
 
 -- one more spot in the queue
-module _ {J : Job} {rec : List ℕ} {start : ℕ} {t₀ t q f w : List ℕ} {n : ℕ} (s : Spread J rec start t₀ t q f w n) (r : Room t q f w) (room : n < spots)
-    (h k v : ℕ) (early : h < n) (lk : k < 8) (lv : v < spots) (ev : v ≡ rev (8 * getD q h 0 + k) / 8) (may : T (moves J rec (8 * getD q h 0 + k)))
+module _ {J : Job} {go : ℕ → Bool} {start : ℕ} {t₀ t q f w : List ℕ} {n : ℕ} (s : Spread J go start t₀ t q f w n) (r : Room t q f w) (room : n < spots)
+    (h k v : ℕ) (early : h < n) (lk : k < 8) (lv : v < spots) (ev : v ≡ rev (8 * getD q h 0 + k) / 8) (may : T (go (8 * getD q h 0 + k)))
     (inside : T (outside J v) → ⊥) (unseen : getD t v 0 ≢ 1) where
   abbrev q' : List ℕ
   q' = set q n v
@@ -87,7 +87,7 @@ module _ {J : Job} {rec : List ℕ} {start : ℕ} {t₀ t q f w : List ℕ} {n :
   each : (P : ℕ → Type 0) → ((i : ℕ) → i < n → P (getD q i 0)) → P v → (i : ℕ) → i < n + 1 → P (getD q' i 0)
   each P p pv = below-more (λ i. P (getD q' i 0)) n (λ i l. rw (other i l) (p i l)) (rw at pv)
 
-  came-old : (i : ℕ) → i < n → Came J rec q f w i → Came J rec q' (set f n h) (set w n k) i
+  came-old : (i : ℕ) → i < n → Came go q f w i → Came go q' (set f n h) (set w n k) i
   came-old i l c =
       let ef : getD (set f n h) i 0 ≡ getD f i 0 = getD-set-other f n i h 0 (λ e. omega arith) in
       let ew : getD (set w n k) i 0 ≡ getD w i 0 = getD-set-other w n i k 0 (λ e. omega arith) in
@@ -99,7 +99,7 @@ module _ {J : Job} {rec : List ℕ} {start : ℕ} {t₀ t q f w : List ℕ} {n :
         leads = rw (ef, ew, eq, other i l) (c .leads);
       }
 
-  came-new : Came J rec q' (set f n h) (set w n k) n
+  came-new : Came go q' (set f n h) (set w n k) n
   came-new =
       let ef : getD (set f n h) n 0 ≡ h = getD-set-same f n h 0 (omega (arith, r .parents)) in
       let ew : getD (set w n k) n 0 ≡ k = getD-set-same w n k 0 (omega (arith, r .slots)) in
@@ -110,7 +110,7 @@ module _ {J : Job} {rec : List ℕ} {start : ℕ} {t₀ t q f w : List ℕ} {n :
         leads = rw (ef, ew, other h early, at) (sym ev);
       }
 
-  spread-more : Spread J rec start t₀ (set t v 1) q' (set f n h) (set w n k) (n + 1)
+  pub spread-more : Spread J go start t₀ (set t v 1) q' (set f n h) (set w n k) (n + 1)
   spread-more =
       record {
         some = omega arith;
@@ -131,8 +131,8 @@ module _ {J : Job} {rec : List ℕ} {start : ℕ} {t₀ t q f w : List ℕ} {n :
           (λ x lx m. rw (other i (omega arith), other x lx) (s .apart i x m lx))
           (λ m e. unseen (subst (λ (y : ℕ). getD t y 0 ≡ 1) (sym (other i m) ∙ e ∙ at) (s .hit i m)))
 
-      ways : (i : ℕ) → i < n + 1 → 0 < i → Came J rec q' (set f n h) (set w n k) i
-      ways = below-more (λ x. 0 < x → Came J rec q' (set f n h) (set w n k) x) n (λ x lx m. came-old x lx (s .came x m lx)) (λ m. came-new)
+      ways : (i : ℕ) → i < n + 1 → 0 < i → Came go q' (set f n h) (set w n k) i
+      ways = below-more (λ x. 0 < x → Came go q' (set f n h) (set w n k) x) n (λ x lx m. came-old x lx (s .came x m lx)) (λ m. came-new)
 
       older : (x : ℕ) → (getD t₀ x 0 ≡ 1) ⊎ ((i : ℕ) × (i < n) × (getD q i 0 ≡ x)) → (getD t₀ x 0 ≡ 1) ⊎ ((i : ℕ) × (i < n + 1) × (getD q' i 0 ≡ x))
       older x (inl e) = inl e

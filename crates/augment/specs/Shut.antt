@@ -43,7 +43,7 @@ start-unwired J rec u h =
 
 -- ---- no way out
 
-module _ {J : Job} {rec : List ℕ} {start : ℕ} {t₀ t q f w : List ℕ} {n : ℕ} (s : Spread J rec start t₀ t q f w n) where
+module _ {J : Job} {go : ℕ → Bool} {start : ℕ} {t₀ t q f w : List ℕ} {n : ℕ} (s : Spread J go start t₀ t q f w n) where
   grown : (x : ℕ) → T (marked t₀ x) → T (marked t x)
   grown x m = is-marked t x (marked-spot t₀ x m) (s .kept x (marked-byte t₀ x m))
 
@@ -54,34 +54,6 @@ module _ {J : Job} {rec : List ℕ} {start : ℕ} {t₀ t q f w : List ℕ} {n :
   -- a marked spot was marked before, or is in the queue
   since : (x : ℕ) → T (marked t x) → T (marked t₀ x) ⊎ ((i : ℕ) × (i < n) × (getD q i 0 ≡ x))
   since x m = ⊎-elim (λ e. inl (is-marked t₀ x (marked-spot t x m) e)) (λ r. inr r) (s .owed x (marked-byte t x m))
-
-  dead-more : Dead J rec t₀ → Done J rec t q n → Dead J rec t
-  dead-more D done = record { closed = closing; none = λ u l m o. ⊎-elim (λ h. D .none u l h o) (λ (i, li, e). s .inside i li (rw e o)) (since u m) }
-    where
-      closing : (d : ℕ) → d < darts → T (marked t (d / 8)) → T (moves J rec d) → T (marked t (rev d / 8))
-      closing d l m may = ⊎-elim
-          (λ h. grown (rev d / 8) (D .closed d l h may))
-          (λ (i, li, e).
-          let ed : 8 * getD q i 0 + d % 8 ≡ d = omega arith in
-          let hit : T (moves J rec (8 * getD q i 0 + d % 8)) → getD t (rev (8 * getD q i 0 + d % 8) / 8) 0 ≡ 1 = done i li (d % 8) (omega arith) in
-          is-marked t (rev d / 8) (head-spot d l) (rw ed at hit may))
-          (since (d / 8) m)
-
-  -- every spot in the queue is reached from the start
-  queue-reached : start < spots → Unwired J rec start → (m i : ℕ) → i < m → i < n → Reached J rec (getD q i 0)
-  queue-reached ls u zero i l li = absurd (omega arith)
-  queue-reached ls u (suc m) i l li = ⊎-elim
-      (λ e. subst (λ (x : ℕ). Reached J rec x) (sym (s .first) ∙ ap (λ (x : ℕ). getD q x 0) (sym e)) (from ls u))
-      (λ p. let c = s .came i p li in
-      onto (queue-reached ls u m (getD f i 0) (omega (arith, c .falls)) (omega (arith, c .falls)))
-      (slot-dart _ _ (s .spot (getD f i 0) (omega (arith, c .falls))) (c .slot)) (omega (arith, c .slot)) (c .may) (c .leads))
-      (eq-zero-or-pos i)
-
-  reached-more : start < spots → Unwired J rec start → AllReached J rec t₀ → AllReached J rec t
-  reached-more ls u r x m =
-      ⊎-elim (λ h. r x h) (λ (i, li, e). subst (λ (y : ℕ). Reached J rec y) e (queue-reached ls u n i li li)) (since x m)
-
-  -- ---- a way out
 
   -- when the marks are taken back, the marked spots are those that were marked before
   module _ {t′ : List ℕ} (U : Unmarked q n t t′) where
@@ -96,6 +68,35 @@ module _ {J : Job} {rec : List ℕ} {start : ℕ} {t₀ t q f w : List ℕ} {n :
         let e = marked-byte t₀ x m in
         let new : (i : ℕ) → i < n → getD q i 0 ≢ x = λ i l p. s .fresh i l (ap (λ (y : ℕ). getD t₀ y 0) p ∙ e) in
         is-marked t′ x (marked-spot t₀ x m) (U .same x new ∙ s .same x new ∙ e)
+
+module _ {J : Job} {rec : List ℕ} {start : ℕ} {t₀ t q f w : List ℕ} {n : ℕ} (s : Spread J (moves J rec) start t₀ t q f w n) where
+  dead-more : Dead J rec t₀ → Done J rec t q n → Dead J rec t
+  dead-more D done = record { closed = closing; none = λ u l m o. ⊎-elim (λ h. D .none u l h o) (λ (i, li, e). s .inside i li (rw e o)) (since s u m) }
+    where
+      closing : (d : ℕ) → d < darts → T (marked t (d / 8)) → T (moves J rec d) → T (marked t (rev d / 8))
+      closing d l m may = ⊎-elim
+          (λ h. grown s (rev d / 8) (D .closed d l h may))
+          (λ (i, li, e).
+          let ed : 8 * getD q i 0 + d % 8 ≡ d = omega arith in
+          let hit : T (moves J rec (8 * getD q i 0 + d % 8)) → getD t (rev (8 * getD q i 0 + d % 8) / 8) 0 ≡ 1 = done i li (d % 8) (omega arith) in
+          is-marked t (rev d / 8) (head-spot d l) (rw ed at hit may))
+          (since s (d / 8) m)
+
+  -- every spot in the queue is reached from the start
+  queue-reached : start < spots → Unwired J rec start → (m i : ℕ) → i < m → i < n → Reached J rec (getD q i 0)
+  queue-reached ls u zero i l li = absurd (omega arith)
+  queue-reached ls u (suc m) i l li = ⊎-elim
+      (λ e. subst (λ (x : ℕ). Reached J rec x) (sym (s .first) ∙ ap (λ (x : ℕ). getD q x 0) (sym e)) (from ls u))
+      (λ p. let c = s .came i p li in
+      onto (queue-reached ls u m (getD f i 0) (omega (arith, c .falls)) (omega (arith, c .falls)))
+      (slot-dart _ _ (s .spot (getD f i 0) (omega (arith, c .falls))) (c .slot)) (omega (arith, c .slot)) (c .may) (c .leads))
+      (eq-zero-or-pos i)
+
+  reached-more : start < spots → Unwired J rec start → AllReached J rec t₀ → AllReached J rec t
+  reached-more ls u r x m =
+      ⊎-elim (λ h. r x h) (λ (i, li, e). subst (λ (y : ℕ). Reached J rec y) e (queue-reached ls u n i li li)) (since s x m)
+
+-- ---- a way out
 
 module _ {J : Job} {rec : List ℕ} {start : ℕ} {t₀ t q f w : List ℕ} {j k n : ℕ} (F : Found J rec start t₀ t q f w j k n) {rec′ t′ : List ℕ}
     (L : LaidTo q f w j k 0 rec rec′) (U : Unmarked q n t t′) (H : Held J rec) (D : Dead J rec t₀) (ls : start < spots) (u : Unwired J rec start) where
@@ -133,7 +134,7 @@ module _ {J : Job} {rec : List ℕ} {start : ℕ} {t₀ t q f w : List ℕ} {j k
 pub pin-passed : {J : Job} {rec t : List ℕ} {u : ℕ} → Dead J rec t → (Unwired J rec u → T (marked t u)) → Tested J rec t u rec t false
 pin-passed D h = shut refl (record { dead = D; grown = λ x m. m; shut = λ x e. rw e h; reached = λ r. r })
 
-pub pin-shut : {J : Job} {rec : List ℕ} {u : ℕ} {t₀ t q f w : List ℕ} {n : ℕ} → Spread J rec u t₀ t q f w n → Done J rec t q n → Dead J rec t₀ → u < spots
+pub pin-shut : {J : Job} {rec : List ℕ} {u : ℕ} {t₀ t q f w : List ℕ} {n : ℕ} → Spread J (moves J rec) u t₀ t q f w n → Done J rec t q n → Dead J rec t₀ → u < spots
     → Unwired J rec u → Tested J rec t₀ u rec t false
 pin-shut s done D l h =
     shut refl (record { dead = dead-more s D done; grown = grown s; shut = λ x e i. rw e (start-marked s); reached = reached-more s l h })
@@ -160,8 +161,8 @@ module _ {J : Job} {rec : List ℕ} {start : ℕ} {t₀ t q f w : List ℕ} {y :
       by : Searched J rec start t₀ t q f w (Out j k n) → Found J rec start t₀ t q f w j k n
       by (out F) = F
 
-  pub was-closed : {n : ℕ} → y ≡ Closed n → Spread J rec start t₀ t q f w n × Done J rec t q n
+  pub was-closed : {n : ℕ} → y ≡ Closed n → Spread J (moves J rec) start t₀ t q f w n × Done J rec t q n
   was-closed {n} e = by (subst (λ (x : Way). Searched J rec start t₀ t q f w x) e r)
     where
-      by : Searched J rec start t₀ t q f w (Closed n) → Spread J rec start t₀ t q f w n × Done J rec t q n
+      by : Searched J rec start t₀ t q f w (Closed n) → Spread J (moves J rec) start t₀ t q f w n × Done J rec t q n
       by (closed s l d) = (s, d)

@@ -44,7 +44,7 @@ pub record Grown (J : Job) (rec : List ℕ) (u k h : ℕ) (t q f w : List ℕ) (
   pub marks : (x : ℕ) → getD t x 0 ≡ 1 → getD t' x 0 ≡ 1
   pub early : (b : ℕ) → h < b → ((i : ℕ) → 0 < i → i < n → getD f i 0 < b) → (i : ℕ) → 0 < i → i < n' → getD f' i 0 < b
   pub done : (j : ℕ) → j < k → T (moves J rec (8 * u + j)) → getD t' (rev (8 * u + j) / 8) 0 ≡ 1
-  pub spread : (start : ℕ) (t₀ : List ℕ) → getD q h 0 ≡ u → Spread J rec start t₀ t q f w n → Spread J rec start t₀ t' q' f' w' n'
+  pub spread : (start : ℕ) (t₀ : List ℕ) → getD q h 0 ≡ u → Spread J (moves J rec) start t₀ t q f w n → Spread J (moves J rec) start t₀ t' q' f' w' n'
 
 -- the slots of u were tried, up to one that leads outside if there is one
 pub data Expanded (J : Job) (rec : List ℕ) (u h : ℕ) (t q f w : List ℕ) (n : ℕ) (t' q' f' w' : List ℕ) : Step → Type 0 where
@@ -61,7 +61,7 @@ pub record Front (J : Job) (rec : List ℕ) (start : ℕ) (t₀ t q f w : List �
   pub room : Room t q f w
   pub count : n + unmarked t ≤ spots
   pub le : h ≤ n
-  pub spread : Spread J rec start t₀ t q f w n
+  pub spread : Spread J (moves J rec) start t₀ t q f w n
   pub early : (i : ℕ) → 0 < i → i < n → getD f i 0 < h
   pub done : Done J rec t q h
 
@@ -71,7 +71,7 @@ leaves J rec u k = moves J rec (8 * u + k) && outside J (rev (8 * u + k) / 8)
 
 -- slot k of the j-th spot leads outside
 pub record Found (J : Job) (rec : List ℕ) (start : ℕ) (t₀ t q f w : List ℕ) (j k n : ℕ) : Type 0 where
-  pub spread : Spread J rec start t₀ t q f w n
+  pub spread : Spread J (moves J rec) start t₀ t q f w n
   pub within : n ≤ spots
   pub place : j < n
   pub slot : k < 8
@@ -81,7 +81,7 @@ pub record Found (J : Job) (rec : List ℕ) (start : ℕ) (t₀ t q f w : List �
 -- a way out, by slot k of the j-th spot; or none
 pub data Searched (J : Job) (rec : List ℕ) (start : ℕ) (t₀ t q f w : List ℕ) : Way → Type 0 where
   out : {j k n : ℕ} → Found J rec start t₀ t q f w j k n → Searched J rec start t₀ t q f w (Out j k n)
-  closed : {n : ℕ} → Spread J rec start t₀ t q f w n → n ≤ spots → Done J rec t q n → Searched J rec start t₀ t q f w (Closed n)
+  closed : {n : ℕ} → Spread J (moves J rec) start t₀ t q f w n → n ≤ spots → Done J rec t q n → Searched J rec start t₀ t q f w (Closed n)
 
 -- where a search may begin
 pub record Fresh (J : Job) (t : List ℕ) (start : ℕ) : Type 0 where

@@ -10,7 +10,7 @@ use lib.ListN.{length, getD, set, length-set}
 use lib.Seq.{getD-set-same, getD-set-other, set-getD}
 use Rattle.sums.specs.Tests.{below-or}
 use Rattle.model.specs.Job.{Job}
-use Rattle.channel.specs.Map.{spots, outside}
+use Rattle.channel.specs.Map.{spots, outside, moves}
 use Rattle.augment.specs.Marks.{same-or, after}
 use Rattle.augment.specs.Spread.{Came, Spread}
 use Rattle.augment.specs.Steps.{Front}
@@ -58,7 +58,7 @@ turn-reads {h} {i} {x} a lh li (stays n m e) =
     rw e (getD-set-other (set a h (getD a i 0)) i x (getD a h 0) 0 m ∙ getD-set-other a h x (getD a i 0) 0 n)
 
 module _ {J : Job} {rec : List ℕ} {start : ℕ} {t₀ t q f w : List ℕ} {h n : ℕ} (F : Front J rec start t₀ t q f w h n) (i : ℕ) (lo : h ≤ i) (hi : i < n) where
-  abbrev s : Spread J rec start t₀ t q f w n
+  abbrev s : Spread J (moves J rec) start t₀ t q f w n
   s = F .spread
 
   abbrev q' : List ℕ
@@ -92,7 +92,7 @@ module _ {J : Job} {rec : List ℕ} {start : ℕ} {t₀ t q f w : List ℕ} {h n
   falls (back a b) p l = omega arith
   falls (stays a b e) p l = omega arith
 
-  came : (x y : ℕ) → Turn h i x y → 0 < x → x < n → Came J rec q' (swapped f h i) (swapped w h i) x
+  came : (x y : ℕ) → Turn h i x y → 0 < x → x < n → Came (moves J rec) q' (swapped f h i) (swapped w h i) x
   came x y r l m =
       let c = s .came y (positive r (omega (arith, F .early x l m)) l) (within r m) in
       let p = F .early y (positive r (omega (arith, F .early x l m)) l) (within r m) in
@@ -112,7 +112,7 @@ module _ {J : Job} {rec : List ℕ} {start : ℕ} {t₀ t q f w : List ℕ} {h n
   distinct : (x y : ℕ) → x < n → y < n → x ≢ y → getD q x 0 ≢ getD q y 0
   distinct x y l m d e = ⊎-elim (λ a. s .apart x y a m e) (λ a. s .apart y x (omega arith) l (sym e)) (below-or x y)
 
-  spread-turned : Spread J rec start t₀ t q' (swapped f h i) (swapped w h i) n
+  spread-turned : Spread J (moves J rec) start t₀ t q' (swapped f h i) (swapped w h i) n
   spread-turned =
       record {
         some = s .some;

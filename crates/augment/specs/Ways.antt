@@ -1,6 +1,7 @@
--- The way that a search found, from its last dart back to its start: its darts are a path of moves from the start to the outside, and laying them one by
+-- The way that a search found, from its last dart back to its start: its darts are a path from the start to the outside, and laying them one by
 -- one from the last to the first starts one wire more. Assumes nothing.
 use mathlib.Core.Path.{_≡_, refl, sym, ap, subst, _∙_}
+use mathlib.Core.Bool.{Bool}
 use mathlib.Core.List.{List, [], _∷_, reverse, reverse-cons, List·Memᴰ, List·Memᴰ·head, List·Memᴰ·tail}
 use Prim.Native.Nat.{ℕ, _+_, _*_, _/_, _≤_, _<_}
 use native.Mathlib.Omega.{arith}
@@ -10,7 +11,7 @@ use Rattle.sums.specs.Counting.{when, total}
 use Rattle.sums.specs.Totals.{total-append}
 use Rattle.flow.specs.Network.{times, times-none, Path, here}
 use Rattle.model.specs.Job.{Job}
-use Rattle.channel.specs.Map.{spots, rev, moves, laid}
+use Rattle.channel.specs.Map.{spots, rev, laid}
 use Rattle.channel.specs.Map.Numbers.{slot-dart}
 use Rattle.channel.specs.Map.Network.{net, path-along}
 use Rattle.augment.specs.Laid.{laidAll, laid-last}
@@ -40,15 +41,15 @@ pub record LaidTo (q f w : List ℕ) (j k i : ℕ) (rec rec′ : List ℕ) : Typ
 
 -- ---- the way is a path
 
-module _ {J : Job} {rec : List ℕ} {start : ℕ} {t₀ t q f w : List ℕ} {n : ℕ} (s : Spread J rec start t₀ t q f w n) (j k : ℕ) (lj : j < n) (lk : k < 8)
-    (may : T (moves J rec (8 * getD q j 0 + k))) where
+module _ {J : Job} {go : ℕ → Bool} {start : ℕ} {t₀ t q f w : List ℕ} {n : ℕ} (s : Spread J go start t₀ t q f w n) (j k : ℕ) (lj : j < n) (lk : k < 8)
+    (may : T (go (8 * getD q j 0 + k))) where
   abbrev end : ℕ
   end = rev (8 * getD q j 0 + k) / 8
 
   -- a path from the i-th spot, each dart of which starts at a spot that is no earlier
   record Part (i : ℕ) (ds : List ℕ) : Type 0 where
     le : i ≤ j
-    path : Path (net J) (λ d. T (moves J rec d)) ds (getD q i 0) end
+    path : Path (net J) (λ d. T (go d)) ds (getD q i 0) end
     later : (d : ℕ) → List·Memᴰ d ds → (p : ℕ) × (i ≤ p) × (p ≤ j) × (d / 8 ≡ getD q p 0)
 
   slot-tail : (u m : ℕ) → m < 8 → (8 * u + m) / 8 ≡ u
@@ -75,7 +76,7 @@ module _ {J : Job} {rec : List ℕ} {start : ℕ} {t₀ t q f w : List ℕ} {n :
         path = path-along J (slot-dart (getD q (getD f i 0) 0) (getD w i 0) (s .spot (getD f i 0) lp) (c .slot)) tail (c .may)
             (times-none ds (dartTo q f w i) (λ m. let (p, a, b, e) = h .later (dartTo q f w i) m in
             s .apart (getD f i 0) p (omega (arith, c .falls)) (omega arith) (sym tail ∙ e)))
-            (subst (λ (x : ℕ). Path (net J) (λ d. T (moves J rec d)) ds x end) (sym (c .leads)) (h .path));
+            (subst (λ (x : ℕ). Path (net J) (λ d. T (go d)) ds x end) (sym (c .leads)) (h .path));
         later = later (c .falls) tail (h .le) (h .later);
       }
     where
@@ -85,9 +86,9 @@ module _ {J : Job} {rec : List ℕ} {start : ℕ} {t₀ t q f w : List ℕ} {n :
       later lf tail le h d (List·Memᴰ·head e) = (getD f i 0, omega arith, omega arith, rw e tail)
       later lf tail le h d (List·Memᴰ·tail m) = let (p, a, b, e) = h d m in (p, omega arith, b, e)
 
-  -- The darts of the whole way are a path of moves from the start.
-  pub way-path : {ds : List ℕ} → Walked q f w j k 0 ds → Path (net J) (λ d. T (moves J rec d)) ds start end
-  way-path {ds} r = subst (λ (x : ℕ). Path (net J) (λ d. T (moves J rec d)) ds x end) (s .first) (part r .path)
+  -- The darts of the whole way are a path of such darts from the start.
+  pub way-path : {ds : List ℕ} → Walked q f w j k 0 ds → Path (net J) (λ d. T (go d)) ds start end
+  way-path {ds} r = subst (λ (x : ℕ). Path (net J) (λ d. T (go d)) ds x end) (s .first) (part r .path)
 
   pub way-linked : {rec′ : List ℕ} → 32768 ≤ length rec′ → spots ≤ length q → spots ≤ length f → spots ≤ length w → n ≤ spots → Linked rec′ q f w j k
   way-linked o lq lf lw ln =
