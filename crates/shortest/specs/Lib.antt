@@ -9,3 +9,5 @@ pub mod Ceiling
 -- First prices.
 pub mod Rings
 pub mod FirstPrices
+-- The search that raises prices as it goes.
+pub mod Grow

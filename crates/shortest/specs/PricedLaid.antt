@@ -13,14 +13,15 @@ use Rattle.price.specs.Priced.{Priced}
 use Rattle.price.specs.Tight.{tight-push}
 use Rattle.price.specs.Less.{less-priced}
 use Rattle.model.specs.Job.{Job}
-use Rattle.channel.specs.Map.{outside, view, starts}
+use Rattle.model.specs.Loads.{Feasible}
+use Rattle.model.specs.Record.{load}
+use Rattle.channel.specs.Map.{spots, darts, outside, view, starts}
 use Rattle.channel.specs.Map.Network.{net, net-dart, node-spot}
 use Rattle.channel.specs.Map.Network.Flows.{feasible-flow}
 use Rattle.channel.specs.Map.Network.Least.{view-least}
 use Rattle.augment.specs.Laid.{laidAll}
 use Rattle.augment.specs.OneMore.{OneMore, path-flow, path-agrees, lays-one}
 use Rattle.augment.specs.Pins.{Held}
-use Rattle.search.specs.Loose.{Loosened}
 
 module _ {J : Job} {rec : List ℕ} (H : Held J rec) {len π : ℕ → ℕ} (P : Priced (net J) len (view rec) π) where
   module _ {u v : ℕ} {ds : List ℕ} (h : Unstarted (net J) (starts J rec) u) (p : Path (net J) (Tight (net J) len (view rec) π) ds u v) (o : T (outside J v))
@@ -47,7 +48,8 @@ module _ {J : Job} {rec : List ℕ} (H : Held J rec) {len π : ℕ → ℕ} (P :
         (tight-push ds P (path-once p) (λ d. path-dart p))
 
   -- Prices are kept where loads are taken out and no start is.
-  pub priced-loosened : {rec′ : List ℕ} → Loosened J rec rec′ → Priced (net J) len (view rec′) π
-  priced-loosened {rec′} L =
-      less-priced (feasible-flow J (H .fits) rec′ (L .feasible) .load) (feasible-flow J (H .fits) rec (H .feasible) .load)
-      (λ x k. L .begun x (node-spot J k)) (λ d k. L .less d (net-dart J k)) P
+  pub priced-less : (rec′ : List ℕ) → Feasible J (load rec′) → ((x : ℕ) → x < spots → starts J rec′ x ≡ starts J rec x)
+      → ((d : ℕ) → d < darts → view rec′ d ≤ view rec d) → Priced (net J) len (view rec′) π
+  priced-less rec′ feasible begun less =
+      less-priced (feasible-flow J (H .fits) rec′ feasible .load) (feasible-flow J (H .fits) rec (H .feasible) .load) (λ x k. begun x (node-spot J k))
+      (λ d k. less d (net-dart J k)) P
