@@ -11,3 +11,4 @@ pub mod Rings
 pub mod FirstPrices
 -- The search that raises prices as it goes.
 pub mod Grow
+pub mod Slacks
