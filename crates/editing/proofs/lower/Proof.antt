@@ -35,9 +35,9 @@ same-length-3 c = search needs
 
 returns-3 : tie.Need-returns-3
 returns-3 c =
-    let c5 = c .before .before .before .before .before in
-    let a = c5 .before .before .before .before .before .args in
-    extra-anew (now (a .rec)) (a .e) _ (c5 .before .before .extra .ensures .0) (c5 .before .if1 .left) _ (c5 .if2 .left) (c .before .before .set-lower .ensures)
+    let c4 = c .before .before .before .before in
+    let a = c4 .before .before .before .before .before .args in
+    extra-anew (now (a .rec)) (a .e) _ (c4 .before .before .extra .ensures .0) (c4 .before .if1 .left) _ (c4 .if2 .left) (c .before .before .set-lower .ensures)
 
 pub lower-spec : {M : Type 1} → statement M
 lower-spec = tie.close (tie.spec extra-requires same-length returns same-length-2 returns-2 set-lower-requires same-length-3 returns-3)
