@@ -87,7 +87,7 @@ class Binding(unittest.TestCase):
 
     def test_own_diagonals_are_those_of_the_text(self):
         named = 0
-        for seed in range(60):
+        for seed in range(120):
             job = random_job(seed)
             lines = re.findall(r'^\(d (\d+) (\d+) (\d+)\)$', job.write_text().decode(), re.MULTILINE)
             self.assertEqual([(str(r), str(c), str(own)) for (r, c), own in job.own_diagonals().items()], lines)
@@ -106,7 +106,7 @@ class Binding(unittest.TestCase):
 
     def test_another_d_takes_out_the_wires_through_the_centre_alone(self):
         taken = kept = 0
-        for seed in range(80):
+        for seed in range(240):
             job = random_job(seed)
             job.route()
             before = job.wires()
