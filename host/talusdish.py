@@ -15,7 +15,7 @@ from typing import NamedTuple
 
 ROOT = Path(__file__).resolve().parent.parent
 RECORD, SCRATCH = 32768, 65536                                      # bytes of a record and of a near side, bytes of scratch
-TEXT, LISTING = 640280, 1 << 20                                     # an output that every text fits, and one to begin a listing with
+TEXT, LISTING = 640320, 1 << 20                                     # an output that every text fits, and one to begin a listing with
 IDLE, CHOSEN, MISSING = 0, 1, 2
 ADDED, ALL_WIRED, SHORT = 0, 1, 2
 SIDES = 'nesw'                                                      # by their codes, which is the order of a text too

@@ -90,7 +90,7 @@ uint64_t talusdish_part(const uint8_t *record, uint64_t record_len, uint64_t row
 uint64_t talusdish_read_text(uint8_t *record, uint64_t record_len, const uint8_t *text, uint64_t text_len);
 
 /* The text of the job, wires left out. 1; 7 for output shorter than the text. The value is the text's length. The longest
- * text has 98,259 bytes (40 by 40, every pin missing, every tile closed, wires laid on every side); that 576,240 are always enough is proved. */
+ * text has 117,252 bytes (40 by 40, every pin missing, every tile closed with a D of its own, wires laid on every side); that 640,320 are always enough is proved. */
 uint64_t talusdish_write_text(const uint8_t *record, uint64_t record_len, uint8_t *output, uint64_t output_len);
 
 /* The listing of the wires that the record holds, as the program escape prints wires, whether all are wired or not; beyond document 01. 1; 7 for output

@@ -6,16 +6,17 @@ use mathlib.Core.List.{List, [], _∷_, _++_}
 use mathlib.Core.Option.{some}
 use Prim.Native.Nat.{ℕ, _+_, _-_, _*_, _/_, _%_, _≤_, _<_}
 use native.Mathlib.Omega.{arith}
-use lib.Dec.{T, eqb, leb, ltb, leb→le, eqb→eq, ltb→lt}
+use lib.Dec.{T, eqb, leb, ltb, leb→le, le→leb, eqb→eq, ltb→lt}
 use lib.ListN.{length, length-append}
 use borrow.Author.Tests.{eq-eqb}
-use Rattle.sums.specs.Counting.{when, only}
+use Rattle.sums.specs.Counting.{when, only, each}
 use Rattle.sums.specs.Tests.{Same, same, other, same?, and-left, and-right}
-use Rattle.model.specs.Job.{Job, inRange, arrayFits, capsAdmitted, Proper}
+use Rattle.model.specs.Job.{Job, withExtra, inRange, arrayFits, capsAdmitted, Side, ofNorth, ofWest, sideOf, laidOn, isTile, isChosen, isMissing, isClosed, Proper}
 use Rattle.model.specs.Text.{Group, chosenPins, missingPins, closedTiles, ownDs, laidSides, Line, arrayLine, groupLine, endLine, decimal, numbers, form, arrayWord, pinsWord}
 use Rattle.model.specs.Text.{capsWord, groupWord, endWord, tailOf, says, formOf, lineBytes, within, rank, keyOf, Reader, names, named, admit, Verdict, reads}
-use Rattle.model.specs.Text.{wrongAt, Reads, ended, line, wrong, Reading, textOf}
+use Rattle.model.specs.Text.{wrongAt, Reads, ended, line, wrong, Reading, writesSide, cells, valueAt, valueLine, groups, groupText, listed, textOf}
 use Rattle.model.proofs.RecordOf.{range-most}
+use Rattle.model.proofs.Admitted.{extra-proper}
 use Rattle.model.proofs.TextProper.{asked, by-word, names-says}
 use Rattle.model.proofs.TextNames.{due, rank-group, names-inside}
 use Rattle.model.proofs.RoundTrip.{round-trip}
@@ -202,5 +203,36 @@ reads-within (wrong f n) m = omega arith
 pub reading-within : (text : List ℕ) (v : Verdict) → Reading text v → Within text v 0 16007
 reading-within text v r = reads-within r (record { from = omega arith; turn = omega arith; size = λ k. absurd (omega arith) })
 
-pub text-short : (J : Job) → Proper J → length (textOf J) ≤ 640280
-text-short J p = reading-within (textOf J) (reads J) (round-trip .reads-written J p)
+-- behind the array line a text does not tell E
+laid-alike : (J : Job) (e : ℕ) (s : Side) → laidOn (withExtra J e) s ≡ laidOn J s
+laid-alike J e (ofNorth r c) = refl
+laid-alike J e (ofWest r c) = refl
+
+value-alike : (J : Job) (e : ℕ) (g : Group) (r c d : ℕ) → valueAt (withExtra J e) g r c d ≡ valueAt J g r c d
+unfolding isChosen isMissing isClosed
+value-alike J e chosenPins r c d = refl
+value-alike J e missingPins r c d = refl
+value-alike J e closedTiles r c d = refl
+value-alike J e ownDs r c d = refl
+value-alike J e laidSides r c d = ap (when (ltb d 4 && (isTile J r c && writesSide r c d))) (laid-alike J e (sideOf r c d))
+
+rest-alike : (J : Job) (e : ℕ) → listed (groupText (withExtra J e)) groups (lineBytes endLine) ≡ listed (groupText J) groups (lineBytes endLine)
+rest-alike J e =
+    λ i. listed (λ g. cells J (λ r c. each 4 (λ d. valueLine g r c d (value-alike J e g r c d i)))) groups (lineBytes endLine)
+
+-- the text of a job with any E, by that of the job with E = 0, which reads
+pub text-short : (J : Job) → Proper J → length (textOf J) ≤ 640320
+unfolding textOf
+text-short J p =
+    let K : Job = withExtra J 0 in
+    let q : Proper K = extra-proper J 0 p (le→leb 0 (J .E) (omega arith)) in
+    let a : List ℕ = lineBytes (arrayLine (J .rows) (J .columns) (J .O) (J .D) (J .E)) in
+    let b : List ℕ = lineBytes (arrayLine (J .rows) (J .columns) (J .O) (J .D) 0) in
+    omega (
+      arith,
+      reading-within (textOf K) (reads K) (round-trip .reads-written K q (omega arith)),
+      length-append a (listed (groupText J) groups (lineBytes endLine)),
+      length-append b (listed (groupText K) groups (lineBytes endLine)),
+      ap length (rest-alike J 0),
+      line-short (arrayLine (J .rows) (J .columns) (J .O) (J .D) (J .E)),
+    )

@@ -10,7 +10,7 @@ extra-requires c κs = search needs
 
 word-of-requires : tie.Need-word-of-requires
 word-of-requires c κs =
-    let a = c .before .before .before .args in
+    let a = c .before .before .before .before .before .args in
     did-small (extra (a .e)) _ _ (c .before .before .extra .ensures)
 
 same-length : tie.Need-same-length
