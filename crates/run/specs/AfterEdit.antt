@@ -5,22 +5,22 @@ use mathlib.Core.Logic.{_≢_}
 use mathlib.Core.Bool.{Bool, true, false, not, _&&_}
 use mathlib.Core.List.{List, [], _∷_}
 use mathlib.Core.Option.{some}
-use Prim.Native.Nat.{ℕ, _-_, _≤_}
+use Prim.Native.Nat.{ℕ, _-_, _*_, _≤_}
 use borrow.Author.Tests.{ne-eqb}
 use lib.Dec.{T, eqb, leb}
 use Rattle.sums.specs.Tests.{and-both, and-right}
-use Rattle.model.specs.Job.{Job, Side, isPin, isTile, marked, closed, sideOf, laidOn, laidBy}
-use Rattle.model.specs.Links.{pinAt, Step}
+use Rattle.model.specs.Job.{Job, Side, inRange, isPin, isTile, marked, closed, sideOf, laidOn, laidBy, tileD, diagonalBy}
+use Rattle.model.specs.Links.{centre, at, pinAt, Step}
 use Rattle.model.specs.Record.{jobOf, load, Legal, recordOf, over}
 use Rattle.model.specs.Wires.{Hop, hopAt, isWired}
-use Rattle.model.specs.Left.{avoids, tilePlaces, linkOf, markLeft, closeLeft, laidLeft}
-use Rattle.model.specs.Calls.{mark, close, lay, done, After, after, Test, test, asked, edited, wiredIn, wiresIn, Did}
+use Rattle.model.specs.Left.{avoids, tilePlaces, linkOf, markLeft, closeLeft, laidLeft, centreLeft}
+use Rattle.model.specs.Calls.{mark, close, lay, diagonal, done, After, after, Test, test, asked, edited, wiredIn, wiresIn, Did}
 use Rattle.model.proofs.Asked.{allHold, hold-both, asked-all}
 use Rattle.wire.specs.Filled.{OnWire}
 use Rattle.wire.specs.Counts.{on}
 use Rattle.keep.specs.Edited.{idle-stays, idle-keeps, open-stays, open-keeps}
 use Rattle.keep.specs.Laid.{laidStays, laid-goes, laid-just, laid-lanes, lower-stays, lower-keeps}
-use Rattle.run.specs.OthersStay.{OthersStay, mark-stays, close-stays, lay-stays, mark-loads, close-loads, lay-loads, stays-as-many}
+use Rattle.run.specs.OthersStay.{OthersStay, mark-stays, close-stays, lay-stays, diagonal-stays, mark-loads, close-loads, lay-loads, stays-as-many}
 
 is-true : (b : Bool) → T b → b ≡ true
 is-true true t = refl
@@ -126,3 +126,15 @@ module _ (rec : List ℕ) (g : Legal rec) (a : After) where
       laid-load ∙ (λ i e. lower-keeps J f (g .sound) s n l e i),
       stays-as-many rec (a .rec) (laidBy J s n) stays lay-others (lower-stays J f (g .sound) s n l),
     )
+
+  module _ (r c d : ℕ) (did : Did (diagonal r c d) rec a) (t : T (isTile J r c)) (u : T (inRange (J .O) (2 * J .O) d)) (n : tileD J r c ≢ d) where
+    pub diagonal-done : a ≡ after done (over (recordOf (diagonalBy (jobOf rec) r c d) (centreLeft (jobOf rec) (load rec) r c)) rec) [] []
+    diagonal-done =
+        changed (test (isTile J r c) 4 ∷ test (inRange (J .O) (2 * J .O) d) 3 ∷ []) (tileD J r c) d (diagonalBy J r c d) (centreLeft J f r c)
+        (hold-both (isTile J r c) (inRange (J .O) (2 * J .O) d) t u) n (did .legal g)
+
+    -- K7: "A changed value takes out the wires through that tile's centre."
+    pub diagonal-others : OthersStay rec (a .rec) (diagonalBy J r c d) (avoids J f (at centre r c ∷ []))
+    diagonal-others =
+        subst (λ (x : List ℕ). OthersStay rec x (diagonalBy J r c d) (avoids J f (at centre r c ∷ []))) (ap (λ (y : After). y .rec) (sym diagonal-done))
+        (diagonal-stays rec g r c d t u)
