@@ -140,6 +140,6 @@ pub fn full(tally: &mut Tally, kept: &mut Kept) {
     let a = edit_full(tally, kept, &mut wide, 1, 240);
     let mut short = trial_job(40, 40, 3, 5, 2, 1, percents(30, 5, 5));
     let b = edit_full(tally, kept, &mut short, a, 240);
-    let mut holed = trial_job(40, 40, 1, 1, 4, 1, percents(20, 75, 0));
+    let mut holed = trial_job(40, 40, 2, 4, 4, 1, percents(20, 75, 0));
     edit_full(tally, kept, &mut holed, b, 480);
 }
