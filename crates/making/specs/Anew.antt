@@ -53,7 +53,6 @@ array-bytes rows columns t = (
   omega (arith, range-most 2 40 columns (and-right (inRange 2 40 rows) (inRange 2 40 columns) t)),
 )
 
-
 -- ---- Read text
 
 pub read-brief : (text rec : List ℕ) → length rec < recordSize → ReadIn text rec (after (refused 1) rec [] [])
