@@ -63,7 +63,7 @@ class Binding(unittest.TestCase):
 
     def test_a_lower_e_takes_out_the_wires_that_pass_a_missing_ball(self):
         found = 0
-        for seed in range(80):
+        for seed in range(200):
             job = random_job(seed)
             job.route()
             before = job.wires()
