@@ -12,3 +12,5 @@ pub mod FirstPrices
 -- The search that raises prices as it goes.
 pub mod Grow
 pub mod Slacks
+-- What the code of the least wiring keeps and leaves.
+pub mod Wiring
