@@ -4,7 +4,7 @@ import unittest
 
 from layout import hops
 from support import random_job
-from talusdish import ADDED, CHOSEN, MISSING, SIDES, Job, Out, To
+from talusdish import ADDED, CHOSEN, IDLE, MISSING, SIDES, Job, Out, To
 
 
 def side_of(row, column, letter):
@@ -70,15 +70,36 @@ class Edits(unittest.TestCase):
                 self.route(job)
                 before = job.wires()
                 takes = random_edit(job, draw)
-                after = job.wires()
-                kept = {pin: parts for pin, parts in before.items() if not takes(pin, hops(pin, parts))}
-                self.assertEqual({pin: places(parts) for pin, parts in after.items()}, {pin: places(parts) for pin, parts in kept.items()}, seed)
-                lanes = [(old.lane, new.lane) for pin in kept for old, new in zip(kept[pin], after[pin])]
-                self.assertTrue(all(new <= old for old, new in lanes), seed)
-                stayed, went, shrunk = stayed + len(kept), went + len(before) - len(kept), shrunk + sum(new < old for old, new in lanes)
+                kept, fewer = self.kept(before, job.wires(), takes, seed)
+                stayed, went, shrunk = stayed + kept, went + len(before) - kept, shrunk + fewer
         self.assertGreater(stayed, 20000)
         self.assertGreater(went, 500)
         self.assertGreater(shrunk, 100)
+
+    def test_the_wires_past_an_edited_missing_ball_go(self):
+        """Where a side takes one wire many pass missing balls; half of the edits are of a ball that some pass."""
+        stayed = went = 0
+        for seed in range(1, 31):
+            job, draw = Job(), random.Random(seed)
+            job.trial(14, 14, 1, *draw.choice(((1, 1), (2, 2))), seed, 30, 60, 0)
+            for _ in range(8):
+                self.route(job)
+                before = job.wires()
+                passed = [v[:2] for pin, parts in before.items() for _, v, _ in hops(pin, parts) if v[2] == 'r']
+                row, column = draw.choice(draw.choice((passed, job.pins(MISSING))) or job.pins(MISSING))
+                job.mark(row, column, draw.choice((IDLE, CHOSEN)))
+                kept, _ = self.kept(before, job.wires(), at_pin(row, column), seed)
+                stayed, went = stayed + kept, went + len(before) - kept
+        self.assertGreater(stayed, 10000)
+        self.assertGreater(went, 100)
+
+    def kept(self, before, after, takes, seed):
+        """Holds the wires after an edit to those before it; gives how many stay, and of how many parts the lane is lower."""
+        kept = {pin: parts for pin, parts in before.items() if not takes(pin, hops(pin, parts))}
+        self.assertEqual({pin: places(parts) for pin, parts in after.items()}, {pin: places(parts) for pin, parts in kept.items()}, seed)
+        lanes = [(old.lane, new.lane) for pin in kept for old, new in zip(kept[pin], after[pin])]
+        self.assertTrue(all(new <= old for old, new in lanes), seed)
+        return len(kept), sum(new < old for old, new in lanes)
 
     def route(self, job):
         """Steps to the end, in as many additions as are lacking."""
