@@ -29,6 +29,20 @@ def places_of(parts):
     return [part._replace(lane=0) for part in parts]
 
 
+def missing_passed(wires):
+    """The missing pins that wires pass, each as often as it is passed."""
+    return [part[:2] for parts in wires.values() for part in parts if isinstance(part, To) and part.place == 'r']
+
+
+def refusal(call):
+    """The code and the value of a refused call."""
+    try:
+        call()
+    except Refused as refused:
+        return refused.code, refused.value
+    return None
+
+
 class Binding(unittest.TestCase):
     def test_functions_and_types_are_the_headers(self):
         self.assertEqual(header_signatures(), talusdish.SIGNATURES)
@@ -75,6 +89,27 @@ class Binding(unittest.TestCase):
                 self.assertEqual({pin: places_of(parts) for pin, parts in job.wires().items()}, others)
                 found += len(before) > len(others) > 0
         self.assertGreater(found, 3)
+
+    def test_a_record_with_e_above_d_is_kept(self):
+        """As New, Read text and trial gave it before such an E was refused: edited, stepped, listed and written, and its E may be lowered to another above D."""
+        crowded = 0
+        for seed in range(1, 31):
+            job = Job()
+            job.trial(12, 12, 1, 1, 1, seed, 40, 40, 5)
+            job._record[4] = 5
+            job.mark(*job.pins(IDLE)[0], MISSING)
+            job.close(*job.tiles(True)[0], 1)
+            job.route()
+            wires = job.wires()
+            self.assertEqual(over_limits(job, wires), [])
+            passed = missing_passed(wires)
+            crowded += max(map(passed.count, passed), default=0) > job.d
+            self.assertTrue(job.write_text().startswith(b'(array (pins 12 12) (caps 1 1 5))\n'))
+            self.assertEqual(refusal(lambda: Job.of_text(job.write_text())), (6, 0))
+            self.assertEqual((refusal(lambda: job.extra(6)), job.e), ((3, 0), 5))
+            job.extra(2)
+            self.assertEqual((job.e, missing_passed(job.wires())), (2, []))
+        self.assertGreater(crowded, 5)
 
     def test_laid_sides_are_those_of_the_text(self):
         named = 0
