@@ -4,7 +4,7 @@ from typing import NamedTuple
 
 from talusdish import SIDES
 
-RANGES = {'rows': (2, 40), 'columns': (2, 40), 'O': (1, 8), 'E': (0, 16)}
+RANGES = {'rows': (2, 40), 'columns': (2, 40), 'O': (1, 8)}
 GROUPS = ('chosen', 'missing', 'closed', 'd', 'laid')               # in the order of a text
 FORMS = {'array': '(array (pins ROWS COLUMNS) (caps O D E))', 'end': '(end)', **{word: f'({word} ROW COLUMN)' for word in GROUPS},
          'd': '(d ROW COLUMN VALUE)', 'laid': '(laid ROW COLUMN SIDE COUNT)'}
@@ -72,7 +72,7 @@ def array_reason(line):
     if wrong:
         return wrong
     (at_rows, rows), (at_columns, columns), (at_o, o), (at_d, d), (at_e, e) = fields(line, 'array')
-    for column, number, what in ((at_rows, rows, 'rows'), (at_columns, columns, 'columns'), (at_o, o, 'O'), (at_e, e, 'E')):
+    for column, number, what in ((at_rows, rows, 'rows'), (at_columns, columns, 'columns'), (at_o, o, 'O')):
         low, high = RANGES[what]
         if not low <= number <= high:
             return column, f'{what} may be {low} to {high}, not {number}'

@@ -272,7 +272,7 @@ class Job:
         call('talusdish_diagonal', self._record, row, column, d)
 
     def extra(self, e):
-        """Lowers E: every wire that passes a missing pin is taken out."""
+        """Lowers E, which takes out the wires that pass a missing pin, and no others; the same E changes nothing, and the library refuses a greater one."""
         call('talusdish_extra', self._record, e)
 
     def sheet(self, sheet):

@@ -15,7 +15,7 @@ WRONG = [                                                           # text, line
     (b'(array (pins 4 41) (caps 2 3 0))\n', 1, 15, 'columns may be 2 to 40, not 41'),
     (b'(array (pins 4 5) (caps 9 9 0))\n', 1, 24, 'O may be 1 to 8'),
     (b'(array (pins 4 5) (caps 2 5 0))\n', 1, 26, 'D may be O to 2\u00d7O, here 2 to 4, not 5'),
-    (b'(array (pins 4 5) (caps 2 3 17))\n', 1, 28, 'E may be 0 to 16'),
+    (b'(array (pins 4 5) (caps 2 3 17))\n', 1, 28, 'E may be 0 to D, here 0 to 3, not 17'),
     (b'(array (pins 4 5) (caps 2 3 4))\n', 1, 28, 'E may be 0 to D, here 0 to 3, not 4'),
     (b'(array (pins 04 5) (caps 2 3 0))\n', 1, 13, 'leading zeros'),
     (b'(array  (pins 4 5) (caps 2 3 0))\n', 1, 7, 'one space between parts'),
