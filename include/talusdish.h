@@ -64,7 +64,7 @@ uint64_t talusdish_close(uint8_t *record, uint64_t record_len, uint64_t row, uin
 uint64_t talusdish_lay(uint8_t *record, uint64_t record_len, uint64_t row, uint64_t column, uint64_t side, uint64_t count);
 
 /* The D of a tile, O to 2×O; the job's D means that the tile has none of its own. 1; 4 no such tile; 3. The D in force changes nothing; another, lower or higher,
- * takes out the wires through the tile's centre and no others, and every other wire keeps its places. */
+ * takes out the wires through the tile's centre and no others. Every other wire keeps its places; its lane numbers may shrink. */
 uint64_t talusdish_diagonal(uint8_t *record, uint64_t record_len, uint64_t row, uint64_t column, uint64_t d);
 
 /* A lower E, the extra of a missing pin. 1; 3 a greater E. The same E changes nothing, a lower one takes out every wire that passes a missing pin; all others keep
