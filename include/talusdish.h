@@ -67,8 +67,9 @@ uint64_t talusdish_lay(uint8_t *record, uint64_t record_len, uint64_t row, uint6
  * takes out the wires through the tile's centre and no others. Every other wire keeps its places; its lane numbers may shrink. */
 uint64_t talusdish_diagonal(uint8_t *record, uint64_t record_len, uint64_t row, uint64_t column, uint64_t d);
 
-/* A lower E, the extra of a missing pin. 1; 3 a greater E. The same E changes nothing, a lower one takes out every wire that passes a missing pin; all others keep
- * their places. An E above D, of a record that was made before such an E was refused, may be lowered to any other, also above D. */
+/* A lower E, the extra of a missing pin. 1; 3 a greater E. The same E changes nothing, a lower one takes out every wire that passes a missing pin and no
+ * others. Every other wire keeps its places; its lane numbers may shrink. An E above D, of a record that was made before such an E was refused, may be lowered
+ * to any smaller one, also above D. */
 uint64_t talusdish_extra(uint8_t *record, uint64_t record_len, uint64_t e);
 
 /* One wire more. 1; 8. Value 0 added: one more chosen pin is wired and those wired stay wired; 1 all wired; 2 short: no more wires fit.
