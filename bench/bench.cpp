@@ -169,8 +169,8 @@ struct Cell {
     uint64_t row = 0, column = 0;
 };
 
-// The columns of the table of operations: a record that is kept, the text of its job, a chosen pin, an idle pin and an open tile, each the nearest to the
-// middle where there is one, and the side of a tile that has the most wires.
+// The columns of the table of operations: a record that is kept, the text of its job, a chosen pin with a wire and an idle pin, each the nearest
+// to the middle where there is one, the open tile whose places have the most wires between them, and the side of a tile that has the most wires.
 struct Column {
     Host host;
     Bytes kept;
@@ -184,15 +184,27 @@ struct Column {
         kept = host.record;
         baseline::Job read;
         baseline::read(text, read);
-        chosen = middle([&](int i) { return read.mark[i] == 1; });
+        chosen = middle([&](int i) { return read.mark[i] == 1 && inside(i, 12, 17) > 0; });
         idle = middle([&](int i) { return read.mark[i] == 0; });
-        tile = middle([&](int i) { return i / 40 < 39 && i % 40 < 39 && kept[2368 + i] == 0; });
+        int most = -1;
+        for (int i = 0; i < 1600; i++)
+            if (i / 40 < 39 && i % 40 < 39 && kept[2368 + i] == 0 && inside(i, 4, 12) > most) {
+                most = inside(i, 4, 12);
+                tile = cell(i);
+            }
         for (int i = 0; i < 3200; i++)
             if (i % 1600 / 40 < 39 && i % 40 < 39 && kept[3968 + i] % 32 > wires) {
                 wires = kept[3968 + i] % 32;
                 code = i < 1600 ? 0 : 3;
                 side = cell(i % 1600);
             }
+    }
+
+    // The wires on the cell's links of the planes from `first` on, below `end`.
+    int inside(int i, int first, int end) const {
+        int wires = 0;
+        for (int p = first; p < end; p++) wires += kept[768 + 1600 * p + i] % 32;
+        return wires;
     }
 
     static Cell cell(int i) { return {static_cast<uint64_t>(i / 40), static_cast<uint64_t>(i % 40)}; }
@@ -235,7 +247,7 @@ void table(std::vector<Column> &columns) {
     line("Mark, another, of an idle pin", [&](Column &c, Host &h) { return mark(h, c.idle, 1); });
     line("Mark, another, of a pin with a wire", [&](Column &c, Host &h) { return mark(h, c.chosen, 2); });
     line("Close, the state already there (the audit)", [&](Column &, Host &h) { return close(h, Cell(), h.record[2368]); });
-    line("Close, a tile in the middle", [&](Column &c, Host &h) { return close(h, c.tile, 1); });
+    line("Close, the tile with the most wires", [&](Column &c, Host &h) { return close(h, c.tile, 1); });
     line("Close, a tile at the corner", [&](Column &, Host &h) { return close(h, Cell(), 1 - h.record[2368]); });
     line("`lay`, one wire of the fullest side goes", [](Column &c, Host &h) { return c.lay(h); });
     line("Part at 0", [](Column &c, Host &h) { return talusdish_part(h.record.data(), h.record.size(), c.chosen.row, c.chosen.column, 0); });
