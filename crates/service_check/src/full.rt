@@ -1,4 +1,4 @@
-// Edits on records that are full of wires: random jobs and large jobs of load trials are read, all wires laid at once, and the jobs edited under them. After
+// Edits on records that are full of wires: random jobs, narrow ones and large jobs of load trials are read, all wires laid at once, and the jobs edited under them. After
 // sixteen edits all wires that fit are laid again.
 use crate::edits::call_close;
 use crate::edits::call_diagonal;
@@ -110,26 +110,33 @@ fn edit_full(tally: &mut Tally, kept: &mut Kept, job: &mut Job, seed: u32, n: us
     draw_all(tally, kept, &mut rec, job, seed, n)
 }
 
-// Edits of a random job of at most 14 rows and columns, on some of whose sides wires are already laid.
+fn percents(chosen: usize, missing: usize, closed: usize) -> Percents {
+    Percents {
+        chosen,
+        missing,
+        closed,
+    }
+}
+
+// Edits of a job whose sides take one wire each, so that many wires pass missing pins.
+fn edit_narrow(tally: &mut Tally, kept: &mut Kept, seed: u32) -> u32 {
+    let mut job = trial_job(14, 14, 1, 2, 2, seed, percents(30, 60, 0));
+    edit_full(tally, kept, &mut job, seed, 8)
+}
+
+// Edits of a random job of at most 14 rows and columns, on some of whose sides wires are already laid, and of a narrow one.
 fn edit_random(tally: &mut Tally, kept: &mut Kept, seed: u32) -> u32 {
     let mut job = blank();
     let x = random_job(seed, 14, &mut job);
     let y = random_laid(x, 100, &mut job);
-    edit_full(tally, kept, &mut job, y, 48)
+    let z = edit_full(tally, kept, &mut job, y, 48);
+    edit_narrow(tally, kept, z)
 }
 
 fn random_jobs(tally: &mut Tally, kept: &mut Kept) {
     let mut seed = 521288629;
     for k in 0..60usize {
         seed = edit_random(tally, kept, seed);
-    }
-}
-
-fn percents(chosen: usize, missing: usize, closed: usize) -> Percents {
-    Percents {
-        chosen,
-        missing,
-        closed,
     }
 }
 

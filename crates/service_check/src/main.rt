@@ -2,7 +2,7 @@
 // large records that are full of wires. It writes what came out wrong, how many checks of each part are right and wrong, and how many wires edits leave and take out.
 mod calls; // random lists of calls
 mod draws; // random arguments
-mod edited; // the examples of K5
+mod edited; // the examples of K5 and K7
 mod edits; // the calls that make or edit a job
 mod examples; // the examples of document 01
 mod expect; // what a call has to answer
