@@ -1,13 +1,12 @@
 -- The slots of a spot that are still to be tried, as the bits of a number: the moves that lead to spots with no mark as the spot is taken up. Assumes
 -- nothing.
-use mathlib.Core.Path.{_≡_, refl, sym, ap, ap₂, _∙_}
+use mathlib.Core.Path.{_≡_, refl, sym, ap, _∙_}
 use mathlib.Core.Bool.{Bool, true, false}
 use mathlib.Core.List.{List}
-use Prim.Native.Nat.{ℕ, zero, suc, min, _+_, _-_, _*_, _/_, _%_, _^_, _≤_, _<_}
-use native.Mathlib.Nat.{mul-comm, pow-suc, pow-le-pow-right, div-eq-of-lt, zero-div, div-div-eq-div-mul, div-le-self}
+use Prim.Native.Nat.{ℕ, min, _+_, _-_, _*_, _/_, _%_, _^_, _≤_, _<_}
+use native.Mathlib.Nat.{pow-le-pow-right, div-eq-of-lt, zero-div, div-div-eq-div-mul, div-le-self}
 use native.Mathlib.Omega.{arith}
 use borrow.Author.Tests.{ltb-true, ltb-false}
-use lib.Bits.{bitAnd, and-step, and-le-l}
 use lib.Dec.{T, ltb}
 use lib.ListN.{getD}
 use lib.Pow.{pow-add}
@@ -18,25 +17,16 @@ use Rattle.channel.specs.Map.{rev, moves}
 use Rattle.slots.specs.Ahead.{Bits, unset, marked}
 use Rattle.augment.specs.Steps.{Grown}
 
--- ---- the bits of two numbers
-
-and-bit : (k a b : ℕ) → bitAnd a b / 2 ^ k % 2 ≡ min (a / 2 ^ k % 2) (b / 2 ^ k % 2)
-and-bit zero a b = omega (arith, and-step a b)
-and-bit (suc k) a b =
-    let half : (x : ℕ) → x / 2 ^ suc k ≡ x / 2 / 2 ^ k = λ x. ap (λ (y : ℕ). x / y) (pow-suc 2 k ∙ mul-comm (2 ^ k) 2) ∙ sym (div-div-eq-div-mul x 2 (2 ^ k)) in
-    let next : bitAnd a b / 2 ≡ bitAnd (a / 2) (b / 2) = omega (arith, and-step a b) in
-    rw (half (bitAnd a b), half a, half b, next) (and-bit k (a / 2) (b / 2))
-
-pub bits-both : {n : ℕ} {f g : ℕ → ℕ} {a b : ℕ} → Bits n f a → Bits n g b → Bits n (λ k. min (f k) (g k)) (bitAnd a b)
-bits-both {n} {f} {g} {a} {b} p q =
-    record {
-      small = omega (arith, and-le-l a b, p .small);
-      each = λ k l. and-bit k a b ∙ ap₂ min (p .each k l) (q .each k l);
-    }
-
 -- 1 where slot k of u is a move to a spot with no mark
 unfoldable pub goesOn : Job → List ℕ → List ℕ → ℕ → ℕ → ℕ
 goesOn J rec t u k = min (unset t (rev (8 * u + k) / 8)) (when (moves J rec (8 * u + k)) 1)
+
+module _ (J : Job) (rec t : List ℕ) (u : ℕ) where
+  -- the moves among the slots that lead to spots with no mark
+  pub bits-onward : {w r : ℕ} → Bits 8 (λ k. unset t (rev (8 * u + k) / 8)) w → Bits 8 (λ k. min (w / 2 ^ k % 2) (when (moves J rec (8 * u + k)) 1)) r
+      → Bits 8 (goesOn J rec t u) r
+  unfolding goesOn
+  bits-onward p q = record { small = q .small; each = λ k l. q .each k l ∙ ap (λ (x : ℕ). min x (when (moves J rec (8 * u + k)) 1)) (p .each k l) }
 
 module _ (J : Job) (rec t : List ℕ) (u k : ℕ) where
   -- no such slot: its move leads to a marked spot

@@ -66,11 +66,11 @@ fn attempt(
 }
 
 // The slots of u by which the search goes on: moves to spots with no mark.
-fn onward(job: &[u8], loads: &[u8], marks: &[u8], u: usize) -> usize
+pub fn onward(job: &[u8], loads: &[u8], marks: &[u8], u: usize) -> usize
     requires { ⌜ Whole (now job) (now loads) × (spots ≤ length (now marks)) × (u < spots) ⌝ }
     ensures { λ r. ⌜ Bits 8 (goesOn (jobOf (now (job .entry))) (now (loads .entry)) (now (marks .entry)) u) r ⌝ }
 {
-    unmarked(marks, u) & move_slots(job, loads, u)
+    move_slots(job, loads, u, unmarked(marks, u))
 }
 
 // All slots of the spot u, which is the h-th in the queue of n, up to one that leads outside: the moves to spots with no mark as it begins.

@@ -1,13 +1,16 @@
--- The slots of a spot that lead to spots with no mark, as the bits of a number. In a cell that has all its neighbours the marks are read from 336 spots
--- before on, as far ahead as the row says. Assumes nothing.
-use mathlib.Core.Path.{_≡_, refl, ap, _∙_}
+-- Numbers by their bits, and the slots of a spot that lead to spots with no mark, as the bits of a number. In a cell that has all its neighbours the marks
+-- are read from 336 spots before on, as far ahead as the row says. Assumes nothing.
+use mathlib.Core.Path.{_≡_, refl, sym, ap, _∙_}
 use mathlib.Core.Logic.{_≢_}
 use mathlib.Core.Bool.{Bool, true, false, not}
 use mathlib.Core.List.{List}
-use Prim.Native.Nat.{ℕ, zero, suc, _+_, _-_, _*_, _/_, _%_, _^_, _≤_, _<_}
+use Prim.Native.Nat.{ℕ, zero, suc, min, _+_, _-_, _*_, _/_, _%_, _^_, _≤_, _<_}
+use native.Mathlib.Nat.{mul-comm, pow-suc, div-div-eq-div-mul}
 use native.Mathlib.Omega.{arith}
+use lib.Bits.{bitAnd, and-step, and-le-r}
 use lib.Dec.{eqb}
 use lib.ListN.{length, getD, take, drop, length-drop}
+use lib.Pow.{pow-add}
 use lib.Seq.{getD-drop, take-all}
 use Rattle.sums.specs.Counting.{when}
 use Rattle.sums.specs.Tests.{Same, same, other, same?}
@@ -27,6 +30,17 @@ by-four P a b c d (suc zero) l = b
 by-four P a b c d (suc (suc zero)) l = c
 by-four P a b c d (suc (suc (suc zero))) l = d
 by-four P a b c d (suc (suc (suc (suc j)))) l = absurd (omega arith)
+
+pub by-eight : (P : ℕ → Type 0) → P 0 → P 1 → P 2 → P 3 → P 4 → P 5 → P 6 → P 7 → (j : ℕ) → j < 8 → P j
+by-eight P a b c d e f g h zero l = a
+by-eight P a b c d e f g h (suc zero) l = b
+by-eight P a b c d e f g h (suc (suc zero)) l = c
+by-eight P a b c d e f g h (suc (suc (suc zero))) l = d
+by-eight P a b c d e f g h (suc (suc (suc (suc zero)))) l = e
+by-eight P a b c d e f g h (suc (suc (suc (suc (suc zero))))) l = f
+by-eight P a b c d e f g h (suc (suc (suc (suc (suc (suc zero)))))) l = g
+by-eight P a b c d e f g h (suc (suc (suc (suc (suc (suc (suc zero))))))) l = h
+by-eight P a b c d e f g h (suc (suc (suc (suc (suc (suc (suc (suc j)))))))) l = absurd (omega arith)
 
 module _ {f : ℕ → ℕ} where
   pub four-bits : {a b c d : ℕ} → a ≡ f 0 → b ≡ f 1 → c ≡ f 2 → d ≡ f 3 → a < 2 → b < 2 → c < 2 → d < 2 → Bits 4 f (a + 2 * b + 4 * c + 8 * d)
@@ -54,15 +68,34 @@ module _ {f : ℕ → ℕ} where
       last j l = high j l ∙ q .each j l ∙ eh j l
 
       each : (k : ℕ) → k < 8 → (a + 16 * b) / 2 ^ k % 2 ≡ f k
-      each zero l = first 0 (omega arith)
-      each (suc zero) l = first 1 (omega arith)
-      each (suc (suc zero)) l = first 2 (omega arith)
-      each (suc (suc (suc zero))) l = first 3 (omega arith)
-      each (suc (suc (suc (suc zero)))) l = last 0 (omega arith)
-      each (suc (suc (suc (suc (suc zero))))) l = last 1 (omega arith)
-      each (suc (suc (suc (suc (suc (suc zero)))))) l = last 2 (omega arith)
-      each (suc (suc (suc (suc (suc (suc (suc zero))))))) l = last 3 (omega arith)
-      each (suc (suc (suc (suc (suc (suc (suc (suc k)))))))) l = absurd (omega arith)
+      each = by-eight (λ k. (a + 16 * b) / 2 ^ k % 2 ≡ f k) (first 0 (omega arith)) (first 1 (omega arith)) (first 2 (omega arith)) (first 3 (omega arith))
+          (last 0 (omega arith)) (last 1 (omega arith)) (last 2 (omega arith)) (last 3 (omega arith))
+
+-- the upper bits of a number are the bits of its upper half
+pub high-bits : (w j : ℕ) → w / 16 / 2 ^ j ≡ w / 2 ^ (4 + j)
+high-bits w j = div-div-eq-div-mul w 16 (2 ^ j) ∙ ap (λ (x : ℕ). w / x) (sym (pow-add 2 4 j))
+
+-- ---- bits among those of another number
+
+and-bit : (k a b : ℕ) → bitAnd a b / 2 ^ k % 2 ≡ min (a / 2 ^ k % 2) (b / 2 ^ k % 2)
+and-bit zero a b = omega (arith, and-step a b)
+and-bit (suc k) a b =
+    let half : (x : ℕ) → x / 2 ^ suc k ≡ x / 2 / 2 ^ k = λ x. ap (λ (y : ℕ). x / y) (pow-suc 2 k ∙ mul-comm (2 ^ k) 2) ∙ sym (div-div-eq-div-mul x 2 (2 ^ k)) in
+    let next : bitAnd a b / 2 ≡ bitAnd (a / 2) (b / 2) = omega (arith, and-step a b) in
+    rw (half (bitAnd a b), half a, half b, next) (and-bit k (a / 2) (b / 2))
+
+among : (w : ℕ) {a b : ℕ} → w < 2 → (w ≡ 1 → a ≡ b) → min w a ≡ min w b
+among zero l e = omega arith
+among (suc zero) l e = ap (min 1) (e refl)
+among (suc (suc w)) l e = absurd (omega arith)
+
+-- the bits of r that w has too: f says what they are there
+pub bits-among : {f : ℕ → ℕ} (w : ℕ) {r : ℕ} → r < 256 → ((k : ℕ) → k < 8 → w / 2 ^ k % 2 ≡ 1 → r / 2 ^ k % 2 ≡ f k) → Bits 8 (λ k. min (w / 2 ^ k % 2) (f k)) (bitAnd w r)
+bits-among {f} w {r} s e =
+    record {
+      small = omega (arith, and-le-r w r);
+      each = λ k l. and-bit k w r ∙ among (w / 2 ^ k % 2) (omega arith) (e k l);
+    }
 
 -- ---- marks
 

@@ -1,11 +1,13 @@
--- The slots of a spot along which the search may move, as the bits of a number: by the spot's kind, what each slot comes to. Assumes nothing.
+-- Of the slots of a spot that are wanted, those along which the search may move, as the bits of a number: by the spot's kind, what each slot comes to.
+-- Assumes nothing.
 use mathlib.Core.Path.{_≡_, refl, sym, ap, ap₂, subst, _∙_}
 use mathlib.Core.Logic.{_≢_, inl, inr}
 use mathlib.Core.Bool.{Bool, true, false, _&&_, _||_}
 use mathlib.Core.List.{List}
-use Prim.Native.Nat.{ℕ, _+_, _*_, _/_, _%_, _^_, _≤_, _<_}
+use Prim.Native.Nat.{ℕ, min, _+_, _*_, _/_, _%_, _^_, _≤_, _<_}
 use native.Mathlib.Omega.{arith}
 use borrow.Author.Tests.{ltb-false}
+use lib.Bits.{bitAnd}
 use lib.Dec.{T, eqb, leb, ltb}
 use Rattle.sums.specs.Counting.{when}
 use Rattle.model.specs.Job.{Job, isOpen}
@@ -18,7 +20,7 @@ use Rattle.channel.specs.Map.Laden.{place-bound}
 use Rattle.channel.specs.Map.Moving.{plain-moves, spoke-moves, into-moves, link-back-moves, centre-back-moves, none-moves, throughCentre}
 use Rattle.channel.specs.Map.Numbers.{is-dart}
 use Rattle.channel.specs.Map.Packed.{SlotWords, not-least}
-use Rattle.slots.specs.Ahead.{Bits, four-bits, eight-bits}
+use Rattle.slots.specs.Ahead.{Bits, by-eight, bits-among}
 
 -- ---- tests as bits
 
@@ -26,26 +28,36 @@ use Rattle.slots.specs.Ahead.{Bits, four-bits, eight-bits}
 abbrev pub Bit : Bool → ℕ → Type 0
 Bit b r = (r ≡ when b 1) × (r < 2)
 
--- a test that is known by another, or known to fail
-pub by-test : {a b : Bool} {r : ℕ} → a ≡ b → Bit a r → Bit b r
-by-test e (f, l) = (f ∙ ap (λ (b : Bool). when b 1) e, l)
+-- where o is 1, r is the test b as a bit
+abbrev Asked : ℕ → Bool → ℕ → Type 0
+Asked o b r = (o ≡ 1 → r ≡ when b 1) × (r < 2)
 
-no-test : {b : Bool} → false ≡ b → Bit b 0
-no-test e = (ap (λ (b : Bool). when b 1) e, omega arith)
+-- a test that is known by another where it is asked for, or everywhere, or known to fail
+asked-test : {o : ℕ} {a b : Bool} {r : ℕ} → (o ≡ 1 → a ≡ b) → Bit a r → Asked o b r
+asked-test e (f, l) = (λ z. f ∙ ap (λ (b : Bool). when b 1) (e z), l)
 
-pub four-tests : (f : ℕ → Bool) {a b c d : ℕ} → Bit (f 0) a → Bit (f 1) b → Bit (f 2) c → Bit (f 3) d
-    → Bits 4 (λ k. when (f k) 1) (a + 2 * b + 4 * c + 8 * d)
-four-tests f (ea, la) (eb, lb) (ec, lc) (ed, ld) = four-bits {f = λ k. when (f k) 1} ea eb ec ed la lb lc ld
+by-test : {o : ℕ} {a b : Bool} {r : ℕ} → a ≡ b → Bit a r → Asked o b r
+by-test e = asked-test (λ _. e)
 
-eight-tests : (f : ℕ → Bool) {a b c d e g h i : ℕ} → Bit (f 0) a → Bit (f 1) b → Bit (f 2) c → Bit (f 3) d → Bit (f 4) e → Bit (f 5) g → Bit (f 6) h
-    → Bit (f 7) i
-    → {r : ℕ} → r ≡ a + 2 * b + 4 * c + 8 * d + 16 * (e + 2 * g + 4 * h + 8 * i) → Bits 8 (λ k. when (f k) 1) r
-eight-tests f a b c d e g h i q =
-    subst (Bits 8 (λ k. when (f k) 1)) (sym q) (eight-bits (four-tests f a b c d) (four-tests (λ j. f (4 + j)) e g h i) (λ j l. refl) (λ j l. refl))
+no-test : {o : ℕ} {b : Bool} → false ≡ b → Asked o b 0
+no-test e = (λ _. ap (λ (b : Bool). when b 1) e, omega arith)
+
+-- of eight tests those that w asks for
+eight-tests : (f : ℕ → Bool) (w : ℕ) {a b c d e g h i : ℕ} → Asked (w / 2 ^ 0 % 2) (f 0) a → Asked (w / 2 ^ 1 % 2) (f 1) b → Asked (w / 2 ^ 2 % 2) (f 2) c
+    → Asked (w / 2 ^ 3 % 2) (f 3) d
+    → Asked (w / 2 ^ 4 % 2) (f 4) e
+    → Asked (w / 2 ^ 5 % 2) (f 5) g
+    → Asked (w / 2 ^ 6 % 2) (f 6) h
+    → Asked (w / 2 ^ 7 % 2) (f 7) i
+    → {r : ℕ} → r ≡ a + 2 * b + 4 * c + 8 * d + 16 * e + 32 * g + 64 * h + 128 * i → Bits 8 (λ k. min (w / 2 ^ k % 2) (when (f k) 1)) (bitAnd w r)
+eight-tests f w (ea, la) (eb, lb) (ec, lc) (ed, ld) (ee, le) (eg, lg) (eh, lh) (ei, li) {r} q =
+    bits-among w (omega arith)
+    (by-eight (λ k. w / 2 ^ k % 2 ≡ 1 → r / 2 ^ k % 2 ≡ when (f k) 1) (λ o. omega arith ∙ ea o) (λ o. omega arith ∙ eb o) (λ o. omega arith ∙ ec o)
+    (λ o. omega arith ∙ ed o) (λ o. omega arith ∙ ee o) (λ o. omega arith ∙ eg o) (λ o. omega arith ∙ eh o) (λ o. omega arith ∙ ei o))
 
 -- the same darts, from another number that is the first
-pub bits-from : (g : ℕ → ℕ) {a b r : ℕ} → a ≡ b → Bits 8 (λ k. g (a + k)) r → Bits 8 (λ k. g (b + k)) r
-bits-from g {a} {b} {r} e t = subst (λ (x : ℕ). Bits 8 (λ k. g (x + k)) r) e t
+pub bits-from : (g : ℕ → ℕ → ℕ) {a b r : ℕ} → a ≡ b → Bits 8 (λ k. g k (a + k)) r → Bits 8 (λ k. g k (b + k)) r
+bits-from g {a} {b} {r} e t = subst (λ (x : ℕ). Bits 8 (λ k. g k (x + k)) r) e t
 
 -- a spot that is no pin, in a cell that has all its neighbours
 pub inner : (x k : ℕ) → ((ltb x 41 || leb 1600 x) || ltb k 2) ≡ false → (41 ≤ x) × (x < 1600) × (2 ≤ k)
@@ -67,7 +79,7 @@ module _ (J : Job) (rec : List ℕ) (d : ℕ) where
 pub spoke-code : {n : ℕ} → n ≡ 4 → T (eqb n 3 || eqb n 4)
 spoke-code e = subst (λ (n : ℕ). T (eqb n 3 || eqb n 4)) (sym e) tt
 
-module _ (J : Job) (rec : List ℕ) (d : ℕ) (l : d + 7 < 105024) where
+module _ (J : Job) (rec : List ℕ) (w d : ℕ) (l : d + 7 < 105024) where
   pub entry-bits : d % 64 ≡ 48 → {a b c e p m n r s : ℕ} {t : Bool} → m ≡ opposed rec d → n ≡ opposed rec (d + 1) → r ≡ opposed rec (d + 2)
       → s ≡ opposed rec (d + 3)
       → t ≡ moves J rec (d + 4)
@@ -76,11 +88,11 @@ module _ (J : Job) (rec : List ℕ) (d : ℕ) (l : d + 7 < 105024) where
       → Bit (ltb 0 r) c
       → Bit (ltb 0 s) e
       → Bit t p
-      → Bits 8 (λ k. when (moves J rec (d + k)) 1) (a + 2 * b + 4 * c + 8 * e + 16 * p)
-  entry-bits z f g h i q u v w x y =
-      eight-tests (λ k. moves J rec (d + k)) (by-test (link-slot J rec d 9 (omega arith) (centre-code d 0 (omega arith) (omega arith)) (omega arith) (omega arith) (omega arith) (omega arith) f ∙ ap (moves J rec) (omega arith)) u)
+      → Bits 8 (λ k. min (w / 2 ^ k % 2) (when (moves J rec (d + k)) 1)) (bitAnd w (a + 2 * b + 4 * c + 8 * e + 16 * p))
+  entry-bits z f g h i q u v s x y =
+      eight-tests (λ k. moves J rec (d + k)) w (by-test (link-slot J rec d 9 (omega arith) (centre-code d 0 (omega arith) (omega arith)) (omega arith) (omega arith) (omega arith) (omega arith) f ∙ ap (moves J rec) (omega arith)) u)
       (by-test (link-slot J rec (d + 1) 9 (omega arith) (centre-code (d + 1) 1 (omega arith) (omega arith)) (omega arith) (omega arith) (omega arith) (omega arith) g) v)
-      (by-test (link-slot J rec (d + 2) 9 (omega arith) (centre-code (d + 2) 2 (omega arith) (omega arith)) (omega arith) (omega arith) (omega arith) (omega arith) h) w)
+      (by-test (link-slot J rec (d + 2) 9 (omega arith) (centre-code (d + 2) 2 (omega arith) (omega arith)) (omega arith) (omega arith) (omega arith) (omega arith) h) s)
       (by-test (link-slot J rec (d + 3) 9 (omega arith) (centre-code (d + 3) 3 (omega arith) (omega arith)) (omega arith) (omega arith) (omega arith) (omega arith) i) x)
       (by-test q y) (no-test (none-moves J rec (d + 5) (is-dart (omega arith)) (centre-code (d + 5) 5 (omega arith) (omega arith))))
       (no-test (none-moves J rec (d + 6) (is-dart (omega arith)) (centre-code (d + 6) 6 (omega arith) (omega arith))))
@@ -94,9 +106,9 @@ module _ (J : Job) (rec : List ℕ) (d : ℕ) (l : d + 7 < 105024) where
       → Bit r c
       → Bit s e
       → Bit t p
-      → Bits 8 (λ k. when (moves J rec (d + k)) 1) (a + 2 * b + 4 * c + 8 * e + 32 * p)
-  exit-bits z {t = t} f g h i q u v w x y =
-      eight-tests (λ k. moves J rec (d + k)) (by-test (f ∙ ap (moves J rec) (omega arith)) u) (by-test g v) (by-test h w) (by-test i x)
+      → Bits 8 (λ k. min (w / 2 ^ k % 2) (when (moves J rec (d + k)) 1)) (bitAnd w (a + 2 * b + 4 * c + 8 * e + 32 * p))
+  exit-bits z {t = t} f g h i q u v s x y =
+      eight-tests (λ k. moves J rec (d + k)) w (by-test (f ∙ ap (moves J rec) (omega arith)) u) (by-test g v) (by-test h s) (by-test i x)
       (no-test (none-moves J rec (d + 4) (is-dart (omega arith)) (centre-code (d + 4) 12 (omega arith) (omega arith))))
       (by-test (centre-back-moves J rec (d + 5) (is-dart (omega arith)) (centre-code (d + 5) 13 (omega arith) (omega arith)) t q) y)
       (no-test (none-moves J rec (d + 6) (is-dart (omega arith)) (centre-code (d + 6) 14 (omega arith) (omega arith))))
@@ -107,6 +119,12 @@ module _ (J : Job) (rec : List ℕ) (d : ℕ) (l : d + 7 < 105024) where
 -- fewer wires than most go along the dart's link its way, or some the other way
 abbrev pub hasRoom : List ℕ → ℕ → ℕ → Bool
 hasRoom rec d most = ltb (when (inGrid (ownerCell d)) (load rec (stepOf d))) most || ltb 0 (opposed rec d)
+
+-- of the slots of u that are wanted r has the moves: across is known where slot 0 is wanted, and pin where slot 4 is
+abbrev pub PlaceSlots : List ℕ → ℕ → ℕ → ℕ → Bool → Bool → ℕ → Type 0
+PlaceSlots rec u across half centre pin r =
+    (J : Job) (wanted : ℕ) → (wanted % 2 ≡ 1 → across ≡ cap J (8 * u)) → half ≡ cap J (8 * u + 1) → centre ≡ free J (8 * u + 2)
+    → (wanted / 16 % 2 ≡ 1 → pin ≡ free J (8 * u + 4)) → Bits 8 (λ k. min (wanted / 2 ^ k % 2) (when (moves J rec (8 * u + k)) 1)) (bitAnd wanted r)
 
 -- the last kind is the one that is none of the others
 pub from-five : (k : ℕ) → 2 ≤ k → k < 6 → ((Unit {0} × (k ≢ 2)) × (k ≢ 3)) × (k ≢ 4) → k ≡ 5
@@ -130,7 +148,7 @@ module _ (u : ℕ) (m : 2 ≤ u % 8) (n : u % 8 < 6) where
     pub last-row : placeOf ((8 * u + 4) % 64) ≡ q % 65536
     last-row = ap placeOf (omega arith) ∙ sym (w .fifth)
 
-  module _ (J : Job) (rec : List ℕ) (l : u < 13128) where
+  module _ (J : Job) (rec : List ℕ) (w : ℕ) (l : u < 13128) where
     dart : (j : ℕ) → j < 8 → 8 * u + j < darts
     dart j h = is-dart (omega arith)
 
@@ -141,8 +159,8 @@ module _ (u : ℕ) (m : 2 ≤ u % 8) (n : u % 8 < 6) where
         ∙ ap (λ (x : ℕ). when (inGrid x && isOpen J (rowOf x) (columnOf x)) (J .O / 2)) e
         ∙ sym (cap-corner J (8 * u + 3) (slot-code u m n (8 * u + 3) 3 (omega arith) refl))
 
-    pub side-bits : {across half spoke leg : ℕ} {free₀ free₁ : Bool} → across ≡ cap J (8 * u) → half ≡ cap J (8 * u + 1) → free₀ ≡ free J (8 * u + 2)
-        → free₁ ≡ free J (8 * u + 4)
+    pub side-bits : {across half spoke leg : ℕ} {free₀ free₁ : Bool} → (w % 2 ≡ 1 → across ≡ cap J (8 * u)) → half ≡ cap J (8 * u + 1) → free₀ ≡ free J (8 * u + 2)
+        → (w / 16 % 2 ≡ 1 → free₁ ≡ free J (8 * u + 4))
         → spoke ≡ opposed rec (8 * u + 2)
         → leg ≡ opposed rec (8 * u + 4)
         → {a b c d e g h : ℕ}
@@ -153,14 +171,15 @@ module _ (u : ℕ) (m : 2 ≤ u % 8) (n : u % 8 < 6) where
         → Bit (free₁ && eqb leg 0) e
         → Bit (ltb 0 spoke) g
         → Bit (ltb 0 leg) h
-        → Bits 8 (λ k. when (moves J rec (8 * u + k)) 1) (a + 2 * b + 4 * c + 8 * d + 16 * e + 32 * g + 128 * h)
+        → Bits 8 (λ k. min (w / 2 ^ k % 2) (when (moves J rec (8 * u + k)) 1)) (bitAnd w (a + 2 * b + 4 * c + 8 * d + 16 * e + 32 * g + 128 * h))
     side-bits ea eh f₀ f₁ es el a b c d e g h =
-        eight-tests (λ k. moves J rec (8 * u + k))
-        (by-test (ap (hasRoom rec (8 * u)) ea ∙ sym (plain-moves J rec (8 * u) (is-dart (omega arith)) (inl (slot-code u m n (8 * u) 0 (omega arith) (omega arith)))) ∙ ap (moves J rec) (omega arith)) a)
+        let z : 8 * u ≡ 8 * u + 0 = omega arith in
+        eight-tests (λ k. moves J rec (8 * u + k)) w
+        (asked-test (λ o. ap (hasRoom rec (8 * u)) (ea (omega arith)) ∙ sym (plain-moves J rec (8 * u) (is-dart (omega arith)) (inl (slot-code u m n (8 * u) 0 (omega arith) (omega arith)))) ∙ ap (moves J rec) z) a)
         (by-test (ap (hasRoom rec (8 * u + 1)) eh ∙ sym (plain-moves J rec (8 * u + 1) (dart 1 (omega arith)) (inr (inl (slot-code u m n (8 * u + 1) 1 (omega arith) refl))))) b)
         (by-test (ap₂ (λ (t : Bool) (n : ℕ). t && eqb n 0) f₀ es ∙ sym (spoke-moves J rec (8 * u + 2) (dart 2 (omega arith)) (inl (slot-code u m n (8 * u + 2) 2 (omega arith) refl)))) c)
         (by-test (ap (hasRoom rec (8 * u + 3)) (eh ∙ corner-cap) ∙ sym (plain-moves J rec (8 * u + 3) (dart 3 (omega arith)) (inr (inl (slot-code u m n (8 * u + 3) 3 (omega arith) refl))))) d)
-        (by-test (ap₂ (λ (t : Bool) (n : ℕ). t && eqb n 0) f₁ el ∙ sym (into-moves J rec (8 * u + 4) (dart 4 (omega arith)) (slot-code u m n (8 * u + 4) 4 (omega arith) refl))) e)
+        (asked-test (λ o. ap₂ (λ (t : Bool) (n : ℕ). t && eqb n 0) (f₁ (omega arith)) el ∙ sym (into-moves J rec (8 * u + 4) (dart 4 (omega arith)) (slot-code u m n (8 * u + 4) 4 (omega arith) refl))) e)
         (by-test (link-slot J rec (8 * u + 5) 10 (omega arith) (slot-code u m n (8 * u + 5) 5 (omega arith) refl) (omega arith) (omega arith) (omega arith) (omega arith) (es ∙ back-load u m n rec 2 (omega arith) tt)) g)
         (no-test (none-moves J rec (8 * u + 6) (dart 6 (omega arith)) (slot-code u m n (8 * u + 6) 6 (omega arith) refl)))
         (by-test (link-slot J rec (8 * u + 7) 13 (omega arith) (slot-code u m n (8 * u + 7) 7 (omega arith) refl) (omega arith) (omega arith) (omega arith) (omega arith) (el ∙ back-load u m n rec 4 (omega arith) tt)) h)

@@ -1,14 +1,16 @@
-// The slots of a spot along which the search may move, as the bits of a number. In a cell that has all its neighbours they are read by the spot's kind.
+// Of the slots of a spot that are wanted, those along which the search may move, as the bits of a number. In a cell that has all its neighbours they are read
+// by the spot's kind.
 ghost use mathlib.Core.Path.{_≡_};
-ghost use Prim.Native.Nat.{ℕ, _+_, _*_, _/_, _%_, _≤_, _<_};
+ghost use mathlib.Core.Bool.{_||_};
+ghost use Prim.Native.Nat.{ℕ, min, _+_, _*_, _/_, _%_, _^_, _≤_, _<_};
+ghost use lib.Dec.{T, eqb};
 ghost use lib.ListN.{length};
 ghost use Rattle.sums.specs.Counting.{when};
-ghost use Rattle.model.specs.Job.{Job};
 ghost use Rattle.model.specs.Record.{load, jobOf};
-ghost use Rattle.channel.specs.Map.{inGrid, ownerCell, stepOf, cap, free, opposed, moves, placeOf};
+ghost use Rattle.channel.specs.Map.{inGrid, codeOf, ownerCell, stepOf, cap, free, opposed, moves, placeOf};
 ghost use Rattle.channel.specs.Map.Packed.{SlotWords};
 ghost use Rattle.slots.specs.Ahead.{Bits};
-ghost use Rattle.slots.specs.Slots.{hasRoom};
+ghost use Rattle.slots.specs.Slots.{hasRoom, PlaceSlots};
 use channel::can_move;
 use channel::header::wide;
 use channel::limits::centre_free;
@@ -23,24 +25,27 @@ use channel::moves::centre_move;
 use channel::moves::spoke_move;
 use channel::table::PLACES;
 
-// Four darts from d on.
-fn four_moves(job: &[u8], loads: &[u8], d: usize) -> usize
-    requires { ⌜ (32768 ≤ length (now job)) × (32768 ≤ length (now loads)) × (d + 3 < 105024) ⌝ }
-    ensures { λ r. ⌜ Bits 4 (λ j. when (moves (jobOf (now (job .entry))) (now (loads .entry)) (d + j)) 1) r ⌝ }
+// 1 where the search may move along d and the lowest bit of wanted is set.
+fn wanted_move(job: &[u8], loads: &[u8], d: usize, wanted: usize) -> usize
+    requires { ⌜ (32768 ≤ length (now job)) × (32768 ≤ length (now loads)) × (d < 105024) ⌝ }
+    ensures { λ r. ⌜ (r ≡ min (wanted % 2) (when (moves (jobOf (now (job .entry))) (now (loads .entry)) d) 1)) × (r < 2) ⌝ }
 {
-    let a = bit(can_move(job, loads, d));
-    let b = bit(can_move(job, loads, d + 1));
-    let c = bit(can_move(job, loads, d + 2));
-    let e = bit(can_move(job, loads, d + 3));
-    a + 2 * b + 4 * c + 8 * e
+    if wanted % 2 == 0 {
+        return 0;
+    }
+    bit(can_move(job, loads, d))
 }
 
-// The slots of any spot.
-fn from_any(job: &[u8], loads: &[u8], u: usize) -> usize
-    requires { ⌜ (32768 ≤ length (now job)) × (32768 ≤ length (now loads)) × (u < 13128) ⌝ }
-    ensures { λ r. ⌜ Bits 8 (λ k. when (moves (jobOf (now (job .entry))) (now (loads .entry)) (8 * u + k)) 1) r ⌝ }
+// Four darts from d on.
+fn four_moves(job: &[u8], loads: &[u8], d: usize, wanted: usize) -> usize
+    requires { ⌜ (32768 ≤ length (now job)) × (32768 ≤ length (now loads)) × (d + 3 < 105024) ⌝ }
+    ensures { λ r. ⌜ Bits 4 (λ j. min (wanted / 2 ^ j % 2) (when (moves (jobOf (now (job .entry))) (now (loads .entry)) (d + j)) 1)) r ⌝ }
 {
-    four_moves(job, loads, 8 * u) + 16 * four_moves(job, loads, 8 * u + 4)
+    let a = wanted_move(job, loads, d, wanted);
+    let b = wanted_move(job, loads, d + 1, wanted / 2);
+    let c = wanted_move(job, loads, d + 2, wanted / 4);
+    let e = wanted_move(job, loads, d + 3, wanted / 8);
+    a + 2 * b + 4 * c + 8 * e
 }
 
 // How many wires go along a dart's link its way, by the word of the dart's row, where the dart's cell x has all its neighbours: the link is on the grid.
@@ -68,6 +73,7 @@ fn room(loads: &[u8], w: usize, x: usize, most: usize) -> usize
 }
 
 // The slots of n, e, s or w by the place words of its rows: p for slots 0 to 3 and q for slot 4. Slots 5 and 7 lead back along the links of slots 2 and 4.
+// Slot 0 stands on across and slot 4 on pin, and no other slot does.
 fn by_words(
     loads: &[u8],
     u: usize,
@@ -79,8 +85,7 @@ fn by_words(
     pin: bool,
 ) -> usize
     requires { ⌜ (32768 ≤ length (now loads)) × (41 ≤ u / 8) × (u / 8 < 1600) × (2 ≤ u % 8) × (u % 8 < 6) × SlotWords (u % 8) p q ⌝ }
-    ensures { λ r. ⌜ ((J : Job) → across ≡ cap J (8 * u) → half ≡ cap J (8 * u + 1) → centre ≡ free J (8 * u + 2) → pin ≡ free J (8 * u + 4)
-        → Bits 8 (λ k. when (moves J (now (loads .entry)) (8 * u + k)) 1) r) ⌝ }
+    ensures { λ r. ⌜ PlaceSlots (now (loads .entry)) u across half centre pin r ⌝ }
 {
     let x = u / 8;
     let side = room(loads, p % 65536, x, across);
@@ -93,15 +98,11 @@ fn by_words(
     side + 2 * right + 4 * into + 8 * left + 16 * to + 32 * bit(0 < spoke) + 128 * bit(0 < leg)
 }
 
-// The slots of n, e, s or w.
-fn from_place(job: &[u8], loads: &[u8], u: usize) -> usize
-    requires { ⌜ (32768 ≤ length (now job)) × (32768 ≤ length (now loads)) × (41 ≤ u / 8) × (u / 8 < 1600) × (2 ≤ u % 8) × (u % 8 < 6) ⌝ }
-    ensures { λ r. ⌜ Bits 8 (λ k. when (moves (jobOf (now (job .entry))) (now (loads .entry)) (8 * u + k)) 1) r ⌝ }
+// The slots by the kind of the spot: the words are constants.
+fn by_kind(loads: &[u8], u: usize, across: usize, half: usize, centre: bool, pin: bool) -> usize
+    requires { ⌜ (32768 ≤ length (now loads)) × (41 ≤ u / 8) × (u / 8 < 1600) × (2 ≤ u % 8) × (u % 8 < 6) ⌝ }
+    ensures { λ r. ⌜ PlaceSlots (now (loads .entry)) u across half centre pin r ⌝ }
 {
-    let across = side_limit(job, 8 * u);
-    let half = corner_limit(job, 8 * u + 1);
-    let centre = centre_free(job, 8 * u + 2);
-    let pin = pin_free(job, 8 * u + 4);
     match u % 8 {
         2 => by_words(loads, u, PLACES[4], PLACES[5], across, half, centre, pin),
         3 => by_words(loads, u, PLACES[6], PLACES[7], across, half, centre, pin),
@@ -110,10 +111,44 @@ fn from_place(job: &[u8], loads: &[u8], u: usize) -> usize
     }
 }
 
+// The limit of a side's dart where the lowest bit of wanted is set.
+fn wanted_limit(job: &[u8], d: usize, wanted: usize) -> usize
+    requires { ⌜ (32768 ≤ length (now job)) × (d < 105024) × (codeOf (d % 64) ≡ 1) ⌝ }
+    ensures { λ r. ⌜ (wanted % 2 ≡ 1 → r ≡ cap (jobOf (now (job .entry))) d) ⌝ }
+{
+    if wanted % 2 == 0 {
+        return 0;
+    }
+    side_limit(job, d)
+}
+
+// Whether a dart to a pin may be used, where that bit is set.
+fn wanted_free(job: &[u8], d: usize, wanted: usize) -> bool
+    requires { ⌜ (32768 ≤ length (now job)) × (d < 105024) × T (eqb (codeOf (d % 64)) 6 || eqb (codeOf (d % 64)) 7) ⌝ }
+    ensures { λ b. ⌜ (wanted % 2 ≡ 1 → b ≡ free (jobOf (now (job .entry))) d) ⌝ }
+{
+    if wanted % 2 == 0 {
+        return false;
+    }
+    pin_free(job, d)
+}
+
+// The slots of n, e, s or w.
+fn from_place(job: &[u8], loads: &[u8], u: usize, wanted: usize) -> usize
+    requires { ⌜ (32768 ≤ length (now job)) × (32768 ≤ length (now loads)) × (41 ≤ u / 8) × (u / 8 < 1600) × (2 ≤ u % 8) × (u % 8 < 6) ⌝ }
+    ensures { λ r. ⌜ Bits 8 (λ k. min (wanted / 2 ^ k % 2) (when (moves (jobOf (now (job .entry))) (now (loads .entry)) (8 * u + k)) 1)) r ⌝ }
+{
+    let across = wanted_limit(job, 8 * u, wanted);
+    let pin = wanted_free(job, 8 * u + 4, wanted / 16);
+    let half = corner_limit(job, 8 * u + 1);
+    let centre = centre_free(job, 8 * u + 2);
+    wanted & by_kind(loads, u, across, half, centre, pin)
+}
+
 // The slots of the entry of a centre.
-fn from_entry(job: &[u8], loads: &[u8], x: usize) -> usize
+fn from_entry(job: &[u8], loads: &[u8], x: usize, wanted: usize) -> usize
     requires { ⌜ (32768 ≤ length (now job)) × (32768 ≤ length (now loads)) × (x < 1641) ⌝ }
-    ensures { λ r. ⌜ Bits 8 (λ k. when (moves (jobOf (now (job .entry))) (now (loads .entry)) (64 * x + 48 + k)) 1) r ⌝ }
+    ensures { λ r. ⌜ Bits 8 (λ k. min (wanted / 2 ^ k % 2) (when (moves (jobOf (now (job .entry))) (now (loads .entry)) (64 * x + 48 + k)) 1)) r ⌝ }
 {
     let d = 64 * x + 48;
     let n = bit(0 < load_against(loads, d));
@@ -121,13 +156,13 @@ fn from_entry(job: &[u8], loads: &[u8], x: usize) -> usize
     let s = bit(0 < load_against(loads, d + 2));
     let w = bit(0 < load_against(loads, d + 3));
     let pass = bit(centre_move(job, loads, d + 4));
-    n + 2 * e + 4 * s + 8 * w + 16 * pass
+    wanted & (n + 2 * e + 4 * s + 8 * w + 16 * pass)
 }
 
 // The slots of its exit.
-fn from_exit(job: &[u8], loads: &[u8], x: usize) -> usize
+fn from_exit(job: &[u8], loads: &[u8], x: usize, wanted: usize) -> usize
     requires { ⌜ (32768 ≤ length (now job)) × (32768 ≤ length (now loads)) × (x < 1641) ⌝ }
-    ensures { λ r. ⌜ Bits 8 (λ k. when (moves (jobOf (now (job .entry))) (now (loads .entry)) (64 * x + 56 + k)) 1) r ⌝ }
+    ensures { λ r. ⌜ Bits 8 (λ k. min (wanted / 2 ^ k % 2) (when (moves (jobOf (now (job .entry))) (now (loads .entry)) (64 * x + 56 + k)) 1)) r ⌝ }
 {
     let d = 64 * x + 56;
     let n = bit(spoke_move(job, loads, d));
@@ -135,24 +170,26 @@ fn from_exit(job: &[u8], loads: &[u8], x: usize) -> usize
     let s = bit(spoke_move(job, loads, d + 2));
     let w = bit(spoke_move(job, loads, d + 3));
     let pass = bit(centre_back(loads, d + 5));
-    n + 2 * e + 4 * s + 8 * w + 32 * pass
+    wanted & (n + 2 * e + 4 * s + 8 * w + 32 * pass)
 }
 
-// The slots of u along which the search may move.
-pub fn move_slots(job: &[u8], loads: &[u8], u: usize) -> usize
+// The slots of u among those wanted along which the search may move.
+pub fn move_slots(job: &[u8], loads: &[u8], u: usize, wanted: usize) -> usize
     requires { ⌜ (32768 ≤ length (now job)) × (32768 ≤ length (now loads)) × (u < 13128) ⌝ }
-    ensures { λ r. ⌜ Bits 8 (λ k. when (moves (jobOf (now (job .entry))) (now (loads .entry)) (8 * u + k)) 1) r ⌝ }
+    ensures { λ r. ⌜ Bits 8 (λ k. min (wanted / 2 ^ k % 2) (when (moves (jobOf (now (job .entry))) (now (loads .entry)) (8 * u + k)) 1)) r ⌝ }
 {
     let x = u / 8;
     let k = u % 8;
     if (x < 41) | (1600 <= x) | (k < 2) {
-        return from_any(job, loads, u);
+        let low = four_moves(job, loads, 8 * u, wanted);
+        let high = four_moves(job, loads, 8 * u + 4, wanted / 16);
+        return low + 16 * high;
     }
     if k < 6 {
-        return from_place(job, loads, u);
+        return from_place(job, loads, u, wanted);
     }
     if k == 6 {
-        return from_entry(job, loads, x);
+        return from_entry(job, loads, x, wanted);
     }
-    from_exit(job, loads, x)
+    from_exit(job, loads, x, wanted)
 }

@@ -1,7 +1,7 @@
--- `reach::onward` meets its contract: the bits that both numbers have. Assumes nothing.
+-- `reach::onward` meets its contract: the slots with no mark ahead are those that are wanted. Assumes nothing.
 use native.Mathlib.Omega.{arith}
 use Rattle.channel.specs.Map.Numbers.{spots-is}
-use Rattle.augment.specs.Slots.{goesOn, bits-both}
+use Rattle.augment.specs.Slots.{bits-onward}
 use Rattle.augment.proofs.reach.onward.Statement.{statement}
 use Rattle.augment.proofs.reach.onward.Tie as tie
 
@@ -16,8 +16,7 @@ move-slots-requires c κs =
     (p .0 .asked, p .0 .loads, omega (arith, spots-is, p .2))
 
 returns : tie.Need-returns
-unfolding goesOn
-returns c = bits-both (c .before .unmarked .ensures) (c .move-slots .ensures)
+returns c = bits-onward _ _ _ _ (c .before .unmarked .ensures) (c .move-slots .ensures)
 
 pub onward-spec : {M : Type 1} → statement M
 onward-spec = tie.close (tie.spec unmarked-requires move-slots-requires returns)

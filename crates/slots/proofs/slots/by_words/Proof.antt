@@ -92,7 +92,7 @@ add-result-6 : tie.Need-add-result-6
 add-result-6 c = search needs
 
 returns : tie.Need-returns
-returns c J ea eh ec ep =
+returns c J v ea eh ec ep =
     let c1 = c .before in
     let c2 = c1 .before in
     let c3 = c2 .before in
@@ -104,7 +104,7 @@ returns c J ea eh ec ep =
     let s = c8 .before .before in
     let (z, l, m, g, h, w) = s .pre in
     let u = s .args .u in
-    side-bits u g h J (now (s .args .loads)) (omega arith) ea eh ec ep
+    side-bits u g h J (now (s .args .loads)) v (omega arith) ea eh ec ep
     (c6 .against .ensures (8 * u + 2) (omega arith) (first-row u g h w (8 * u + 2) 2 (omega arith) refl))
     (c4 .against2 .ensures (8 * u + 4) (omega arith) (last-row u g h w))
     (c8 .room .ensures .0 (8 * u) (omega arith) (first-row u g h w (8 * u) 0 (omega arith) (omega arith) ∙ omega arith), c8 .room .ensures .1)

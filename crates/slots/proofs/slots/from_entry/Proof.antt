@@ -95,7 +95,7 @@ returns c =
     let c8 = c7 .before in
     let c9 = c8 .before in
     let s = c9 .before .before .before in
-    entry-bits (jobOf (now (s .args .job))) (now (s .args .loads)) (64 * s .args .x + 48) (omega arith) (omega arith) (c9 .load-against .ensures .0)
+    entry-bits (jobOf (now (s .args .job))) (now (s .args .loads)) (s .args .wanted) (64 * s .args .x + 48) (omega arith) (omega arith) (c9 .load-against .ensures .0)
     (c7 .load-against2 .ensures .0) (c5 .load-against3 .ensures .0) (c3 .load-against4 .ensures .0) (c1 .centre-move .ensures) (c8 .bit .ensures)
     (c6 .bit2 .ensures) (c4 .bit3 .ensures) (c2 .bit4 .ensures) (c .bit5 .ensures)
 

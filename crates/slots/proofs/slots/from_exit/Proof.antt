@@ -101,7 +101,7 @@ returns c =
     let c8 = c7 .before in
     let c9 = c8 .before in
     let s = c9 .before .before .before in
-    exit-bits (jobOf (now (s .args .job))) (now (s .args .loads)) (64 * s .args .x + 56) (omega arith) (omega arith) (c9 .spoke-move .ensures)
+    exit-bits (jobOf (now (s .args .job))) (now (s .args .loads)) (s .args .wanted) (64 * s .args .x + 56) (omega arith) (omega arith) (c9 .spoke-move .ensures)
     (c7 .spoke-move2 .ensures) (c5 .spoke-move3 .ensures) (c3 .spoke-move4 .ensures) (c1 .centre-back .ensures) (c8 .bit .ensures) (c6 .bit2 .ensures)
     (c4 .bit3 .ensures) (c2 .bit4 .ensures) (c .bit5 .ensures)
 
