@@ -9,18 +9,18 @@ use Prim.Native.Nat.{ℕ, _-_, _*_, _≤_}
 use borrow.Author.Tests.{ne-eqb}
 use lib.Dec.{T, eqb, leb}
 use Rattle.sums.specs.Tests.{and-both, and-right}
-use Rattle.model.specs.Job.{Job, Side, inRange, isPin, isTile, marked, closed, sideOf, laidOn, laidBy, tileD, diagonalBy}
+use Rattle.model.specs.Job.{Job, Side, inRange, isPin, isTile, marked, closed, sideOf, laidOn, laidBy, tileD, diagonalBy, withExtra}
 use Rattle.model.specs.Links.{centre, at, pinAt, Step}
 use Rattle.model.specs.Record.{jobOf, load, Legal, recordOf, over}
 use Rattle.model.specs.Wires.{Hop, hopAt, isWired}
-use Rattle.model.specs.Left.{avoids, tilePlaces, linkOf, markLeft, closeLeft, laidLeft, centreLeft}
-use Rattle.model.specs.Calls.{mark, close, lay, diagonal, done, After, after, Test, test, asked, edited, wiredIn, wiresIn, Did}
+use Rattle.model.specs.Left.{avoids, tilePlaces, linkOf, markLeft, closeLeft, laidLeft, centreLeft, missingPlaces, extraLeft}
+use Rattle.model.specs.Calls.{mark, close, lay, diagonal, extra, done, After, after, Test, test, asked, edited, wiredIn, wiresIn, Did}
 use Rattle.model.proofs.Asked.{allHold, hold-both, asked-all}
 use Rattle.wire.specs.Filled.{OnWire}
 use Rattle.wire.specs.Counts.{on}
 use Rattle.keep.specs.Edited.{idle-stays, idle-keeps, open-stays, open-keeps}
 use Rattle.keep.specs.Laid.{laidStays, laid-goes, laid-just, laid-lanes, lower-stays, lower-keeps}
-use Rattle.run.specs.OthersStay.{OthersStay, mark-stays, close-stays, lay-stays, diagonal-stays, mark-loads, close-loads, lay-loads, stays-as-many}
+use Rattle.run.specs.OthersStay.{OthersStay, mark-stays, close-stays, lay-stays, diagonal-stays, extra-stays, mark-loads, close-loads, lay-loads, stays-as-many}
 
 is-true : (b : Bool) → T b → b ≡ true
 is-true true t = refl
@@ -138,3 +138,13 @@ module _ (rec : List ℕ) (g : Legal rec) (a : After) where
     diagonal-others =
         subst (λ (x : List ℕ). OthersStay rec x (diagonalBy J r c d) (avoids J f (at centre r c ∷ []))) (ap (λ (y : After). y .rec) (sym diagonal-done))
         (diagonal-stays rec g r c d t u)
+
+  module _ (e : ℕ) (did : Did (extra e) rec a) (u : T (leb e (J .E))) (n : J .E ≢ e) where
+    pub extra-done : a ≡ after done (over (recordOf (withExtra (jobOf rec) e) (extraLeft (jobOf rec) (load rec))) rec) [] []
+    extra-done =
+        changed (test (leb e (J .E)) 3 ∷ []) (J .E) e (withExtra J e) (extraLeft J f) (and-both (leb e (J .E)) true u tt) n (did .legal g)
+
+    -- K9: "It takes out every wire that passes a missing pin."
+    pub extra-others : OthersStay rec (a .rec) (withExtra J e) (avoids J f (missingPlaces J))
+    extra-others =
+        subst (λ (x : List ℕ). OthersStay rec x (withExtra J e) (avoids J f (missingPlaces J))) (ap (λ (y : After). y .rec) (sym extra-done)) (extra-stays rec g e u)
