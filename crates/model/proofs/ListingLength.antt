@@ -1,4 +1,4 @@
--- Document 01, "The listing": no listing of wires has more than 1,254,600,029 bytes, for a number has at most twenty digits and a wire at most 11,201 parts.
+-- Document 01, "The listing": no listing of wires has more than 1,254,600,108 bytes, for a number has at most twenty digits and a wire at most 11,201 parts.
 -- Assumes nothing.
 use mathlib.Core.Bool.{Bool, true, false}
 use mathlib.Core.List.{List, [], _∷_, _++_}
@@ -10,7 +10,8 @@ use Rattle.sums.specs.Counting.{only, each}
 use Rattle.model.specs.Job.{Job}
 use Rattle.model.specs.Links.{PlaceKind, Step}
 use Rattle.model.specs.Wires.{Part, unwired, to, out, pastTheEnd, isWired, wireCount, partAt}
-use Rattle.model.specs.Listing.{digit, tens, decimal, spaced, close, line, pairLine, spread, row, column, wiresWord, wireWord, toWord, outWord, placeLane, partBytes, partsBytes, wireLine, cellWire, wiresListing}
+use Rattle.model.specs.Length.{heldLength}
+use Rattle.model.specs.Listing.{digit, tens, decimal, spaced, close, line, pairLine, spread, row, column, wiresWord, wireWord, toWord, outWord, placeLane, partBytes, partsBytes, wireLine, cellWire, wiresFrom, lengthWord, meanWord, lengthLine, meanLine, meanQuotient, meanRest, wiresListing}
 
 only-short : (b : Bool) (l : List ℕ) → length (only b l) ≤ length l
 only-short true l = omega arith
@@ -87,12 +88,16 @@ module _ (J : Job) (f : Step → ℕ) where
   wires-short p (suc n) =
       omega (arith, length-append (cellWire J f p) (spread (cellWire J f) (suc p) n), wire-short (row p) (column p), wires-short (suc p) n)
 
-  pub listing-short : length (wiresListing J f) ≤ 1254600029
+  pub listing-short : length (wiresListing J f) ≤ 1254600108
   unfolding wiresListing
   listing-short =
       omega (
         arith,
-        length-append (line wiresWord (wireCount J f)) (spread (cellWire J f) 0 1600),
+        length-append (line wiresWord (wireCount J f)) (wiresFrom J f 0 ++ (lengthLine J f ++ meanLine J f)),
+        length-append (wiresFrom J f 0) (lengthLine J f ++ meanLine J f),
+        length-append (lengthLine J f) (meanLine J f),
         line-short wiresWord (wireCount J f),
         wires-short 0 1600,
+        line-short lengthWord (heldLength J f),
+        pair-short meanWord (meanQuotient (heldLength J f) (wireCount J f)) (meanRest (heldLength J f) (wireCount J f)) close,
       )

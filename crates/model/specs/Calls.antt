@@ -15,6 +15,7 @@ use Rattle.model.specs.Near.{Smallest}
 use Rattle.model.specs.Record.{recordSize, scratchSize, jobOf, load, Legal, bytes, recordOf, unwiredRecord, over}
 use Rattle.model.specs.Wires.{Part, partAt, isWired, wireCount}
 use Rattle.model.specs.Left.{markLeft, closeLeft, laidLeft, centreLeft, extraLeft}
+use Rattle.model.specs.Length.{LeastLength, heldLength}
 use Rattle.model.specs.Text.{Verdict, reads, wrongAt, Reading, textOf}
 use Rattle.model.specs.Listing.{wiresListing}
 use Rattle.model.specs.Trial.{Trial, seedFits, percentsFit, trialJob}
@@ -202,11 +203,22 @@ pub record OneMore (rec rec′ : List ℕ) : Type 0 where
   pub number : wiresIn rec′ ≡ suc (wiresIn rec)
   pub others : (r c : ℕ) → (T (eqb r row && eqb c column) → ⊥) → wiredIn rec′ r c ≡ wiredIn rec r c
 
+-- K8: "When stepping says all wired, the total length is exactly the least over all families of routes .. an "all wired" that finds a greater length may move
+-- wires of other pins; no pin loses its wire, and a repeated "all wired" moves nothing": where the length is the least already no byte changes. Which wiring
+-- of the least length is reached is free.
+pub record Shortened (rec rec′ : List ℕ) : Type 0 where
+  pub legal : Legal rec′
+  pub job : jobOf rec′ ≡ jobOf rec
+  pub rest : (new : List ℕ) × (length new ≡ recordSize) × (rec′ ≡ over new rec)
+  pub wired : (r c : ℕ) → wiredIn rec′ r c ≡ wiredIn rec r c
+  pub least : LeastLength (jobOf rec) (heldLength (jobOf rec) (load rec′))
+  pub still : LeastLength (jobOf rec) (heldLength (jobOf rec) (load rec)) → rec′ ≡ rec
+
 -- "Stepping says added while more wires fit": "all wired" only where every chosen pin is, "short" only where the wires are the greatest number and that is
--- less; "the last two change no record byte".
+-- less; "short" changes no record byte, and "all wired" none but to shorten the wires.
 pub data Stepped (rec : List ℕ) : Answer → List ℕ → Type 0 where
   adds : {rec′ : List ℕ} → OneMore rec rec′ → Stepped rec added rec′
-  stays : {rec′ : List ℕ} → wiresIn rec ≡ chosenCount (jobOf rec) → rec′ ≡ rec → Stepped rec allWired rec′
+  stays : {rec′ : List ℕ} → wiresIn rec ≡ chosenCount (jobOf rec) → Shortened rec rec′ → Stepped rec allWired rec′
   lacking : {rec′ : List ℕ} → Greatest (jobOf rec) (wiresIn rec) → wiresIn rec < chosenCount (jobOf rec) → rec′ ≡ rec → Stepped rec short rec′
 
 -- "one byte (1 near, 0 not) per pin, place, entry and exit in the published order, the rest of the output zero"

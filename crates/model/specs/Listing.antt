@@ -1,12 +1,13 @@
--- Document 01, "The listing": the bytes that list the wires that loads hold. The line of a wire has the `to` and the `out` that Part gives, index by index.
--- f gives each step how many wires go along its link that way. Assumes nothing.
+-- Document 01, "The listing": the bytes that list the wires that loads hold. The line of a wire has the `to` and the `out` that Part gives, index by index; behind
+-- the wires stand their total length and its mean (document 02, K8). f gives each step how many wires go along its link that way. Assumes nothing.
 use mathlib.Core.List.{List, [], _∷_, _++_}
 use Prim.Native.Nat.{ℕ, zero, suc, _+_, _-_, _^_, _/_, _%_}
-use lib.Dec.{leb}
-use Rattle.sums.specs.Counting.{only, each}
+use lib.Dec.{leb, ltb}
+use Rattle.sums.specs.Counting.{when, only, each}
 use Rattle.model.specs.Job.{Job}
 use Rattle.model.specs.Links.{north, east, south, west, PlaceKind, pin, missing, centre, outside, nowhere, side, Step}
 use Rattle.model.specs.Wires.{Part, unwired, to, out, pastTheEnd, isWired, wireCount, partAt}
+use Rattle.model.specs.Length.{heldLength}
 
 -- ---- numbers
 
@@ -70,6 +71,14 @@ toWord = 32 ∷ 40 ∷ 116 ∷ 111 ∷ []
 abbrev pub outWord : List ℕ
 outWord = 32 ∷ 40 ∷ 111 ∷ 117 ∷ 116 ∷ 32 ∷ []
 
+-- (length
+abbrev pub lengthWord : List ℕ
+lengthWord = 40 ∷ 108 ∷ 101 ∷ 110 ∷ 103 ∷ 116 ∷ 104 ∷ []
+
+-- (mean
+abbrev pub meanWord : List ℕ
+meanWord = 40 ∷ 109 ∷ 101 ∷ 97 ∷ 110 ∷ []
+
 -- ---- parts
 
 -- n, e, s, w, c, "a missing pin is place r", and a pin that is left directly is p; no wire is listed at the others
@@ -94,6 +103,15 @@ partBytes (to r c k i) = pairLine toWord r c (32 ∷ []) ++ placeLane k i
 partBytes (out k i) = outWord ++ placeLane k i
 partBytes pastTheEnd = []
 
+-- ---- the mean
+
+-- of the total n over w wires
+abbrev pub meanQuotient : ℕ → ℕ → ℕ
+meanQuotient n w = when (ltb 0 w) (n / w)
+
+abbrev pub meanRest : ℕ → ℕ → ℕ
+meanRest n w = when (ltb 0 w) (n % w)
+
 -- ---- the wires
 
 module _ (J : Job) (f : Step → ℕ) where
@@ -117,6 +135,14 @@ module _ (J : Job) (f : Step → ℕ) where
   abbrev pub wiresFrom : ℕ → List ℕ
   wiresFrom p = spread cellWire p (1600 - p)
 
+  -- K8: "After the wires two lines follow: the total, .."
+  abbrev pub lengthLine : List ℕ
+  lengthLine = line lengthWord (heldLength J f)
+
+  -- ".. and the mean per wire as quotient and remainder, 0 and 0 without wires."
+  abbrev pub meanLine : List ℕ
+  meanLine = pairLine meanWord (meanQuotient (heldLength J f) (wireCount J f)) (meanRest (heldLength J f) (wireCount J f)) close
+
   -- the listing of the wires that the loads hold
   unfoldable pub wiresListing : List ℕ
-  wiresListing = wiresLine ++ wiresFrom 0
+  wiresListing = wiresLine ++ (wiresFrom 0 ++ (lengthLine ++ meanLine))

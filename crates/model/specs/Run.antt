@@ -9,6 +9,7 @@ use lib.Dec.{T}
 use lib.ListN.{length, getD}
 use Rattle.model.specs.Job.{Job, fresh, marked, closed, sideOf, laidBy, diagonalBy, isChosen, Proper, withExtra}
 use Rattle.model.specs.Route.{Route, Together, Family, Greatest, chosenCount}
+use Rattle.model.specs.Length.{routesLength, LeastLength}
 use Rattle.model.specs.Near.{Smallest}
 use Rattle.model.specs.Record.{recordSize, scratchSize, jobOf, load, unwiredRecord, over}
 use Rattle.model.specs.Wires.{partAt, Holds}
@@ -124,6 +125,8 @@ module _ (S : Service) where
     pub number : length routes ≡ g
     pub all : (w ≡ allWired) ↔ ((rs : List (Route J)) × Family J rs)
     pub family : w ≡ allWired → Family J routes
+    -- K8: "the total length is exactly the least over all families of routes"
+    pub length : w ≡ allWired → LeastLength J (routesLength J routes)
     pub otherwise : (w ≡ allWired) ⊎ ((w ≡ short) × (g < chosenCount J))
 
   -- ---- demand 3
