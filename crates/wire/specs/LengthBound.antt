@@ -36,7 +36,7 @@ no-missing d t = omega (arith, eqb→eq (5 + compassCode d) 1 t)
 module _ (J : Job) where
   -- ---- the sides that are crossed
 
-  pair : ℕ → ℕ → List Link
+  unfoldable pub pair : ℕ → ℕ → List Link
   pair r c = link northSide r c ∷ link westSide r c ∷ []
 
   in-sides : (k : LinkKind) (r c : ℕ) → r < J .rows → c < J .columns → T (isSide (link k r c)) → T (isLink J (link k r c)) → List·Memᴰ (link k r c) (sides J)
@@ -159,7 +159,7 @@ module _ (J : Job) where
         missed-add (λ x. visits J x (p .steps)) (λ x. total rs (λ p. visits J x (p .steps))),
       )
 
-  sides-total : (f : Link → ℕ) → total (sides J) f ≡ sum (J .rows) (λ r. sum (J .columns) (λ c. total (pair r c) (λ l. when (isLink J l) (f l))))
+  pub sides-total : (f : Link → ℕ) → total (sides J) f ≡ sum (J .rows) (λ r. sum (J .columns) (λ c. total (pair r c) (λ l. when (isLink J l) (f l))))
   unfolding sides pair
   sides-total f = simp (total-each, total-those)
 

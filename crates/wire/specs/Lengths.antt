@@ -39,7 +39,7 @@ entry-end (x ∷ l) (suc k) e = omega (arith, entry-end l k e)
 
 -- ---- the places of a job
 
-sum-most : (n b : ℕ) (g : ℕ → ℕ) → ((i : ℕ) → g i ≤ b) → sum n g ≤ n * b
+pub sum-most : (n b : ℕ) (g : ℕ → ℕ) → ((i : ℕ) → g i ≤ b) → sum n g ≤ n * b
 unfolding sum
 sum-most zero b g h = omega arith
 sum-most (suc n) b g h = rw suc-mul (omega (arith, sum-most n b g h, h n))

@@ -24,6 +24,9 @@ pub mod WireLength
 -- The wires of all pins.
 pub mod Bundle
 pub mod Held
+-- Their length, off the bytes.
+pub mod LoadBytes
+pub mod Total
 -- Families of routes, and wires that are one.
 pub mod Families
 -- What holds of the wires of every legal record.

@@ -19,6 +19,7 @@ use channel::places::wires_out;
 use pairing::partner;
 
 pub mod lanes; // how many wires come and leave by the slots of an exit
+pub mod length; // how long all wires are together
 
 // The next hop of a wire.
 pub enum Hop {
