@@ -14,7 +14,7 @@ use Rattle.model.specs.Job.{Job, inRange, arrayFits, isPin, isChosen}
 use Rattle.model.specs.Links.{pin, at}
 use Rattle.model.specs.Near.{exit}
 use Rattle.model.proofs.RecordOf.{range-most}
-use Rattle.channel.specs.Map.{spots}
+use Rattle.channel.specs.Map.{spots, want}
 use Rattle.channel.specs.Map.Starts.{wanted-pin}
 use Rattle.augment.specs.OneMore.{OneMore}
 use Rattle.augment.specs.Marks.{marked}
@@ -42,25 +42,31 @@ passed-then p q f =
 last-or : (i m : ℕ) → i < m + 1 → (i ≡ m) ⊎ (i < m)
 last-or i m l = eq-or-lt-of-le (omega arith)
 
+-- of the first pins of a line the last, or one before it
+pub line-last : {l : Line} {m u x : ℕ} → OnLine l (m + 1) x → u ≡ spotOn l (inward m (l .pins)) → OnLine l m x ⊎ (x ≡ u)
+line-last {l} {m} w q =
+    ⊎-elim
+    (λ i. inr (w .spot ∙ ap (λ (c : ℕ). spotOn l (inward c (l .pins))) i ∙ sym q))
+    (λ h. inl (record { turn = w .turn; early = h; spot = w .spot }))
+    (last-or (w .turn) m (w .early))
+
+-- of the rows among the first lines the last line, or one before it
+pub rows-last : {J : Job} {l : Line} {a m x : ℕ} → Nth J m l → InRows J a (m + 1) x → InRows J a m x ⊎ OnLine l (l .pins) x
+rows-last {m = m} {x = x} n w =
+    ⊎-elim
+    (λ i. inr (subst (λ (y : Line). OnLine y (y .pins) x) (sym (n .even (w .turn) (sym i))) (w .there)))
+    (λ h. inl (record { turn = w .turn; late = w .late; early = h; there = w .there }))
+    (last-or (2 * w .turn) m (w .early))
+
 -- one pin more of a line
 pub passed-line : {J : Job} {rec t t₁ t₂ : List ℕ} {l : Line} {m u : ℕ} → Passed J (OnLine l m) rec t t₁ → u ≡ spotOn l (inward m (l .pins))
     → Passed J (λ x. x ≡ u) rec t₁ t₂ → Passed J (OnLine l (m + 1)) rec t t₂
-passed-line {l = l} {m = m} p q s =
-    passed-then p s
-    (λ x w. ⊎-elim
-    (λ i. inr (w .spot ∙ ap (λ (c : ℕ). spotOn l (inward c (l .pins))) i ∙ sym q))
-    (λ h. inl (record { turn = w .turn; early = h; spot = w .spot }))
-    (last-or (w .turn) m (w .early)))
+passed-line p q s = passed-then p s (λ x w. line-last w q)
 
 -- one line more
 pub passed-lines : {J : Job} {rec t t₁ t₂ : List ℕ} {l : Line} {a m : ℕ} → Passed J (InRows J a m) rec t t₁ → Nth J m l
     → Passed J (OnLine l (l .pins)) rec t₁ t₂ → Passed J (InRows J a (m + 1)) rec t t₂
-passed-lines {l = l} {m = m} p n s =
-    passed-then p s
-    (λ x w. ⊎-elim
-    (λ i. inr (subst (λ (y : Line). OnLine y (y .pins) x) (sym (n .even (w .turn) (sym i))) (w .there)))
-    (λ h. inl (record { turn = w .turn; late = w .late; early = h; there = w .there }))
-    (last-or (2 * w .turn) m (w .early)))
+passed-lines p n s = passed-then p s (λ x w. rows-last n w)
 
 -- ---- the order of rows and columns
 
@@ -106,6 +112,16 @@ chosen-within J r c t =
     let p = and-left (isPin J r c) (eqb (J .mark r c) 1) t in
     (ltb→lt r (J .rows) (and-left (ltb r (J .rows)) (ltb c (J .columns)) p), ltb→lt c (J .columns) (and-right (ltb r (J .rows)) (ltb c (J .columns)) p))
 
+-- where a wire is wanted a pin of some row stands
+pub wanted-in-rows : (J : Job) (u : ℕ) → 0 < want J u → InRows J 0 (2 * J .rows) u
+wanted-in-rows J u h =
+    let (r, c, t, e) = wanted-pin J u h in
+    let (a, b) = chosen-within J r c t in
+    let (i, li, ei) = inward-all (J .rows) r a in
+    let (j, lj, ej) = inward-all (J .columns) c b in
+    let q : u ≡ exit (at pin (inward i (J .rows)) (inward j (J .columns))) = rw (ei, ej) e in
+    record { turn = i; late = omega arith; early = omega arith; there = record { turn = j; early = lj; spot = q ∙ spot-level (row J i) _ refl } }
+
 -- every row, those before a line last
 pub passed-all : {J : Job} {rec t t₁ t′ : List ℕ} {a : ℕ} → Passed J (InRows J a (2 * J .rows)) rec t t₁ → Passed J (InRows J 0 a) rec t₁ t′ → Passed J AnySpot rec t t′
 passed-all {J} {rec} {t} {t′ = t′} {a = a} q s = record { dead = p .dead; grown = p .grown; shut = λ u l h. everywhere u h; reached = p .reached }
@@ -118,13 +134,7 @@ passed-all {J} {rec} {t} {t′ = t′} {a = a} q s = record { dead = p .dead; gr
         (below-or (2 * w .turn) a))
 
     everywhere : (u : ℕ) → Unwired J rec u → T (marked t′ u)
-    everywhere u h =
-        let (r, c, t, e) = wanted-pin J u (omega arith) in
-        let (a, b) = chosen-within J r c t in
-        let (i, li, ei) = inward-all (J .rows) r a in
-        let (j, lj, ej) = inward-all (J .columns) c b in
-        let q : u ≡ exit (at pin (inward i (J .rows)) (inward j (J .columns))) = rw (ei, ej) e in
-        p .shut u (record { turn = i; late = omega arith; early = omega arith; there = record { turn = j; early = lj; spot = q ∙ spot-level (row J i) _ refl } }) h
+    everywhere u h = p .shut u (wanted-in-rows J u (omega arith)) h
 
 -- ---- what a caller reads off the answers
 

@@ -36,7 +36,7 @@ pub struct Line {
 }
 
 // The i-th of n in the order first, last, second, last but one, and so on.
-fn inwards(i: usize, n: usize) -> usize
+pub fn inwards(i: usize, n: usize) -> usize
     requires { ⌜ i < n ⌝ }
     ensures { λ x. ⌜ (x ≡ inward i n) × (x < n) ⌝ }
 {
@@ -44,7 +44,7 @@ fn inwards(i: usize, n: usize) -> usize
 }
 
 // The i-th line: the rows in that order, and after each the column that has the same turn, or no pins where there is none.
-fn nth_line(job: &[u8], i: usize) -> Line
+pub fn nth_line(job: &[u8], i: usize) -> Line
     requires { ⌜ (32768 ≤ length (now job)) × T (arrayFits (jobOf (now job) .rows) (jobOf (now job) .columns)) × (i < 2 * jobOf (now job) .rows) ⌝ }
     ensures { λ l. ⌜ Nth (jobOf (now (job .entry))) i l ⌝ }
 {
@@ -73,7 +73,7 @@ fn nth_line(job: &[u8], i: usize) -> Line
 }
 
 // The spot of the pin at x of a line.
-fn spot_on(l: Line, x: usize) -> usize
+pub fn spot_on(l: Line, x: usize) -> usize
     requires { ⌜ (l .number < 40) × (x < 40) ⌝ }
     ensures { λ u. ⌜ (u ≡ spotOn l x) × (u < 13128) ⌝ }
 {

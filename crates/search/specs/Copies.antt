@@ -1,6 +1,6 @@
 -- Loads worked out on a copy of a record, sound and with all other bytes as they were, make a legal record of the same job where they are copied back.
 -- Assumes nothing.
-use mathlib.Core.Path.{_≡_, sym, ap, subst, _∙_}
+use mathlib.Core.Path.{_≡_, refl, sym, ap, subst, _∙_}
 use mathlib.Core.Logic.{_≢_}
 use mathlib.Core.Bool.{not}
 use mathlib.Core.List.{List}
@@ -46,7 +46,7 @@ module _ (rec : List ℕ) (legal : Legal rec) where
     pub new-length : length new ≡ recordSize
     new-length = kept .size ∙ front-length rec (legal .long)
 
-    new-job : jobOf new ≡ jobOf rec
+    pub new-job : jobOf new ≡ jobOf rec
     new-job = kept .job ∙ front-job rec (legal .long)
 
     pub put-job : jobOf (over new rec) ≡ jobOf rec
@@ -61,10 +61,9 @@ module _ (rec : List ℕ) (legal : Legal rec) where
     pub put-wires : wiresIn (over new rec) ≡ wireCount (jobOf rec) (load new)
     put-wires = λ i. wireCount (put-job i) (put-load i)
 
-    pub put-legal : BytesFit new → Sound (jobOf rec) (load new) → Legal (over new rec)
-    put-legal bytes sound =
-        legal-over new (drop (length new) rec) new-length
-        (record {
+    pub new-legal : BytesFit new → Sound (jobOf rec) (load new) → Legal new
+    new-legal bytes sound =
+        record {
           long = omega (arith, new-length);
           values = record {
             array = to (λ K. T (arrayFits (K .rows) (K .columns))) (legal .values .array);
@@ -80,7 +79,16 @@ module _ (rec : List ℕ) (legal : Legal rec) where
             marks = to (λ K. (r c : ℕ) → T (not (isPin K r c)) → K .mark r c ≡ 0) (legal .unused .marks);
             states = to (λ K. (r c : ℕ) → T (not (isTile K r c)) → K .state r c ≡ 0) (legal .unused .states);
           };
-        })
+        }
       where
         to : (P : Job → Type 0) → P (jobOf rec) → P (jobOf new)
         to P p = subst P (sym new-job) p
+
+    pub put-legal : BytesFit new → Sound (jobOf rec) (load new) → Legal (over new rec)
+    put-legal bytes sound = legal-over new (drop (length new) rec) new-length (new-legal bytes sound)
+
+  -- The first bytes are themselves a legal record.
+  pub front-legal : Legal (front rec)
+  front-legal =
+      new-legal (front rec) (record { size = refl; job = refl; front = λ i l. refl; rest = λ i l. refl }) (front-held .bytes)
+      (subst (λ (f : Step → ℕ). Sound (jobOf rec) f) (sym (front-load rec (legal .long))) (legal .sound))

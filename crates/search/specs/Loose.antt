@@ -1,10 +1,11 @@
 -- What taking loops out keeps and answers. Assumes nothing.
 use mathlib.Core.Path.{_≡_}
-use mathlib.Core.List.{List}
+use mathlib.Core.List.{List, _∷_}
 use Prim.Native.Nat.{ℕ, _+_, _*_, _≤_, _<_}
 use lib.ListN.{length, getD}
 use Rattle.model.specs.Job.{Job}
-use Rattle.model.specs.Loads.{Feasible, Sound}
+use Rattle.model.specs.Links.{Place, Step}
+use Rattle.model.specs.Loads.{Feasible, Trail, Sound}
 use Rattle.model.specs.Record.{load}
 use Rattle.channel.specs.Map.{spots, darts, view, starts}
 use Rattle.augment.specs.Laid.{BytesFit, SameButLoads}
@@ -33,7 +34,14 @@ pub record Tangled (old rec fin st sl : List ℕ) : Type 0 where
   pub job : Job
   pub held : Held job rec
 
--- for every job of which the loads are feasible they still are, with the same starts; and if the old ones are sound for it, so are these
+-- for every job of which the loads are feasible they still are, with the same starts; and if no loop of theirs
+-- is one of the old loads, none stands
 pub record Freed (old rec rec′ : List ℕ) : Type 0 where
   pub loose : (J : Job) → Held J rec → Loosened J rec rec′
-  pub sound : (J : Job) → Held J rec → Sound J (load old) → Sound J (load rec′)
+  pub sound : (J : Job) → Held J rec
+      → ((x : Place) (s : Step) (ss : List Step) → Trail J (load rec′) x (s ∷ ss) x → Trail J (load old) x (s ∷ ss) x → ⊥) → Sound J (load rec′)
+
+-- for every job of which the loads are feasible they still are, with the same starts, and no loop stands
+pub record Unlooped (rec rec′ : List ℕ) : Type 0 where
+  pub loose : (J : Job) → Held J rec → Loosened J rec rec′
+  pub sound : (J : Job) → Held J rec → Sound J (load rec′)

@@ -9,19 +9,23 @@ use Rattle.sums.specs.Sums.{sum-cong}
 use Rattle.flow.specs.Network.{Path}
 use Rattle.flow.specs.Cancel.{Loaded}
 use Rattle.model.specs.Job.{Job}
+use Rattle.model.specs.Loads.{Sound}
 use Rattle.model.specs.Record.{load}
 use Rattle.model.specs.Wires.{wireCount}
 use Rattle.channel.specs.Map.{spots, rev, view, starts, laid}
 use Rattle.channel.specs.Map.Network.{net}
 use Rattle.channel.specs.Map.Network.Flows.{starts-count}
+use Rattle.channel.specs.Map.Network.Loops.{loaded-may}
 use Rattle.channel.specs.Map.Fresh.{fresh-loops}
+use Rattle.outward.specs.Outward.{Parts, Outward}
+use Rattle.outward.specs.Outward.Falling.{outward-loops}
 use Rattle.augment.specs.Laid.{laidAll, laid-last}
 use Rattle.search.specs.Unlooped.{Lighter, takes-out}
 use Rattle.audit.specs.Loops.{ringDarts, Closed, Settled}
 use Rattle.audit.specs.Loops.Answers.{Answer, free, ring}
 use Rattle.audit.specs.Loops.Dfs.{Dfs}
 use Rattle.augment.specs.Pins.{Held}
-use Rattle.search.specs.Loose.{Loosened, Freed}
+use Rattle.search.specs.Loose.{Loosened, Freed, Unlooped}
 use Rattle.audit.specs.declared.loops.Found.{Found}
 use Rattle.audit.specs.declared.loops.Found.the-variants.{Free, Ring}
 
@@ -116,10 +120,22 @@ pub settled-freed : {old rec rec′ fin : List ℕ} → ((J : Job) → Held J re
 settled-freed {old} {rec} {rec′} {fin} L F =
     record {
       loose = L;
-      sound = λ J H S.
+      sound = λ J H none.
           let f = L J H .feasible in
-          record { feasible = f; loops = fresh-loops J (H .fits) old rec′ f (λ u. getD fin u 0) (F .falls) (F .fresh) (λ x s ss t. S .loops x s ss) };
+          record { feasible = f; loops = fresh-loops J (H .fits) old rec′ f (λ u. getD fin u 0) (F .falls) (F .fresh) none };
     }
+
+-- beside old loads that are sound, and beside loads that lead outward
+module _ {old rec rec′ : List ℕ} (F : Freed old rec rec′) where
+  pub freed-sound : {J : Job} → Held J rec → Sound J (load old) → Sound J (load rec′)
+  freed-sound {J} H S = F .sound J H (λ x s ss t. S .loops x s ss)
+
+  pub freed-outward : (P : Parts) → Outward P old → Unlooped rec rec′
+  freed-outward P o =
+      record {
+        loose = F .loose;
+        sound = λ J H. F .sound J H (outward-loops P J old o (load rec′) (loaded-may J (H .fits) rec′ (F .loose J H .feasible)));
+      }
 
 -- ---- what a caller reads off the finder's answer
 

@@ -14,8 +14,7 @@ use Rattle.sums.specs.Sums.{when-none, when-so, when-implies, sum-cong, sum-le,
 use Rattle.model.specs.Job.{Job, isChosen}
 use Rattle.model.specs.Links.{pin, at}
 use Rattle.model.specs.Route.{chosenCount, Greatest}
-use Rattle.model.specs.Near.{Smallest}
-use Rattle.model.specs.Loads.{departures}
+use Rattle.model.specs.Loads.{departures, Sound}
 use Rattle.model.specs.Record.{recordSize, jobOf, load, Legal, bytes, over}
 use Rattle.model.specs.Wires.{isWired, wireCount}
 use Rattle.model.specs.Calls.{wiredIn, wiresIn, nearBytes, Shown, none-short, side}
@@ -26,12 +25,12 @@ use Rattle.channel.specs.Map.Network.Flows.{pin-starts, starts-wanted, starts-c
 use Rattle.channel.specs.Copies.{front, over-whole, front-whole, front-length, front-load}
 use Rattle.augment.specs.Marks.{marked, is-marked}
 use Rattle.augment.specs.Pins.{Held}
-use Rattle.search.specs.Loose.{Loosened, Freed}
+use Rattle.search.specs.Loose.{Loosened, Unlooped}
 use Rattle.search.specs.Rings.{loose-held, loose-wires}
 use Rattle.search.specs.Fill.{More, Filled, unwiredCount}
 use Rattle.search.specs.Filling.{saturated-smallest, saturated-greatest}
 use Rattle.search.specs.Copies.{front-held, new-length, put-job, put-wired, put-wires, put-legal}
-use Rattle.search.specs.Outcome.{RoutedAll}
+use Rattle.search.specs.Outcome.{FilledCopy, RoutedAll}
 
 -- ---- the bytes of a near side
 
@@ -63,7 +62,7 @@ module _ (J : Job) (rec : List ℕ) (u : ℕ) where
   pub lacks-one : T (isStart J u) → starts J rec u ≡ 0 → 1 ≡ want J u - starts J rec u
   lacks-one t e = omega (arith, want-start J u, when-so (isStart J u) 1 t)
 
-wires-few : {J : Job} {rec : List ℕ} → Held J rec → wireCount J (load rec) ≤ chosenCount J
+pub wires-few : {J : Job} {rec : List ℕ} → Held J rec → wireCount J (load rec) ≤ chosenCount J
 wires-few {J} {rec} H =
     omega (
       arith,
@@ -136,61 +135,60 @@ copied-front {rec} legal old l q = q ∙ over-whole (front rec) old (front-lengt
 pub copy-held : {rec loads : List ℕ} → Legal rec → loads ≡ front rec → Held (jobOf rec) loads
 copy-held {rec} legal q = subst (λ (x : List ℕ). Held (jobOf rec) x) (sym q) (front-held rec legal)
 
-module _ {rec : List ℕ} (legal : Legal rec) {loads loads′ loads″ t : List ℕ} (q : loads ≡ front rec)
-    (F : Filled (jobOf rec) loads loads′ t) (U : Freed rec loads′ loads″) {k : ℕ} (n : k ≡ unwiredCount (jobOf rec) loads″) {rec′ : List ℕ}
-    (back : rec′ ≡ over (front loads″) rec) where
+-- the copy is filled, and what is left unwired is counted
+module _ (rec : List ℕ) {loads loads′ t : List ℕ} (q : loads ≡ front rec) (F : Filled (jobOf rec) loads loads′ t) {k : ℕ}
+    (n : k ≡ unwiredCount (jobOf rec) loads′) where
   abbrev J : Job
   J = jobOf rec
 
-  L : Loosened J loads′ loads″
-  L = U .loose J (F .more .held)
+  lacking : k ≡ chosenCount J - wireCount J (load loads′)
+  lacking = n ∙ unwired-count (F .more .held)
 
-  M : More J (front rec) loads″
-  M = more-loose (subst (λ (x : List ℕ). More J x loads′) q (F .more)) L
+  copy-filled : {near near′ : List ℕ} → Shown J (wireCount J (load loads′)) near near′ → FilledCopy rec loads′ near near′ k
+  copy-filled s = record { marks = t; filled = subst (λ (x : List ℕ). Filled J x loads′ t) q F; lacks = lacking; shown = s }
 
-  same-wires : wireCount J (load loads″) ≡ wireCount J (load loads′)
-  same-wires = loose-wires (F .more .held) L
+  pub copy-whole : {near : List ℕ} → k ≡ 0 → FilledCopy rec loads′ near near 0
+  copy-whole {near} e =
+      subst (λ (m : ℕ). FilledCopy rec loads′ near near m) e (copy-filled (none-short (omega (arith, lacking, wires-few (F .more .held))) refl))
 
-  put : rec′ ≡ over loads″ rec
-  put = back ∙ ap (λ (x : List ℕ). over x rec) (front-whole loads″ (new-length rec legal loads″ (M .kept)))
+  pub copy-short : {near near′ : List ℕ} → k ≢ 0 → near′ ≡ over (nearBytes (marked t)) near → FilledCopy rec loads′ near near′ k
+  copy-short e s = copy-filled (side (omega (arith, lacking)) (marked t) (saturated-smallest (F .more .held) (F .full)) s)
 
-  wires : wiresIn rec′ ≡ wireCount J (load loads″)
-  wires = ap wiresIn put ∙ put-wires rec legal loads″ (M .kept)
+-- as many wires, which keep the record's and have no loop, are copied back
+module _ {rec : List ℕ} (legal : Legal rec) {loads near near′ : List ℕ} {k : ℕ} (C : FilledCopy rec loads near near′ k) where
+  abbrev K : Job
+  K = jobOf rec
 
-  greatest : Greatest J (wiresIn rec′)
-  greatest =
-      let (rs, holds, together) = sound-holds J (load loads″) (U .sound J (F .more .held) (legal .sound)) in
-      subst (λ (g : ℕ). Greatest J g) (sym (wires ∙ same-wires)) (saturated-greatest (F .more .held) (F .full) rs together (holds .number ∙ same-wires))
+  module _ {loads′ rec′ : List ℕ} (M : More K (front rec) loads′) (S : Sound K (load loads′))
+      (same : wireCount K (load loads′) ≡ wireCount K (load loads)) (back : rec′ ≡ over (front loads′) rec) where
+    put : rec′ ≡ over loads′ rec
+    put = back ∙ ap (λ (x : List ℕ). over x rec) (front-whole loads′ (new-length rec legal loads′ (M .kept)))
 
-  smallest : Smallest J (marked t) (wiresIn rec′)
-  smallest = subst (λ (g : ℕ). Smallest J (marked t) g) (sym (wires ∙ same-wires)) (saturated-smallest (F .more .held) (F .full))
+    wires : wireCount K (load loads) ≡ wiresIn rec′
+    wires = sym (ap wiresIn put ∙ put-wires rec legal loads′ (M .kept) ∙ same)
 
-  lacking : k ≡ chosenCount J - wiresIn rec′
-  lacking = n ∙ unwired-count (M .held) ∙ ap (λ (g : ℕ). chosenCount J - g) (sym wires)
+    greatest : Greatest K (wireCount K (load loads))
+    greatest =
+        let (rs, holds, together) = sound-holds K (load loads′) S in
+        saturated-greatest (C .filled .more .held) (C .filled .full) rs together (holds .number ∙ same)
 
-  few : wiresIn rec′ ≤ chosenCount J
-  few = omega (arith, wires-few (M .held), wires)
+    pub routed-as : RoutedAll rec rec′ near near′ k
+    routed-as =
+        record {
+          legal = subst Legal (sym put) (put-legal rec legal loads′ (M .kept) (M .held .bytes) S);
+          job = ap jobOf put ∙ put-job rec legal loads′ (M .kept);
+          rest = (loads′, new-length rec legal loads′ (M .kept), put);
+          kept = λ r c w.
+              subst T (sym (ap (λ (x : List ℕ). wiredIn x r c) put ∙ put-wired rec legal loads′ (M .kept) r c))
+              (more-wired (front-held rec legal) M r c (subst (λ f. T (isWired K f r c)) (sym (front-load rec (legal .long))) w));
+          greatest = subst (Greatest K) wires greatest;
+          lacks = C .lacks ∙ ap (λ (g : ℕ). chosenCount K - g) wires;
+          shown = subst (λ (g : ℕ). Shown K g near near′) wires (C .shown);
+        }
 
-  routed : {near near′ : List ℕ} → Shown J (wiresIn rec′) near near′ → RoutedAll rec rec′ near near′ k
-  routed s =
-      record {
-        legal = subst Legal (sym put) (put-legal rec legal loads″ (M .kept) (M .held .bytes) (U .sound J (F .more .held) (legal .sound)));
-        job = ap jobOf put ∙ put-job rec legal loads″ (M .kept);
-        rest = (loads″, new-length rec legal loads″ (M .kept), put);
-        kept = λ r c w.
-            subst T (sym (ap (λ (x : List ℕ). wiredIn x r c) put ∙ put-wired rec legal loads″ (M .kept) r c))
-            (more-wired (front-held rec legal) M r c (subst (λ f. T (isWired J f r c)) (sym (front-load rec (legal .long))) w));
-        greatest = greatest;
-        lacks = lacking;
-        shown = s;
-      }
-
-  pub routed-whole : {near : List ℕ} → k ≡ 0 → RoutedAll rec rec′ near near 0
-  routed-whole {near} e = subst (λ (m : ℕ). RoutedAll rec rec′ near near m) e (routed (none-short (omega (arith, lacking, few)) refl))
-
-  pub routed-short : {near near′ : List ℕ} → k ≢ 0 → near′ ≡ over (nearBytes (marked t)) near → RoutedAll rec rec′ near near′ k
-  routed-short e s = routed (side (omega (arith, lacking)) (marked t) smallest s)
-
--- the copy, copied back
-pub routed-back : {rec rec′ rec″ near near′ : List ℕ} {k : ℕ} → rec″ ≡ rec′ → RoutedAll rec rec′ near near′ k → RoutedAll rec rec″ near near′ k
-routed-back {rec} {near = near} {near′ = near′} {k = k} e R = subst (λ (x : List ℕ). RoutedAll rec x near near′ k) (sym e) R
+  -- the filled wires themselves, without their loops
+  pub routed-unlooped : {loads′ rec′ : List ℕ} → Unlooped loads loads′ → rec′ ≡ over (front loads′) rec → RoutedAll rec rec′ near near′ k
+  routed-unlooped U back =
+      let H = C .filled .more .held in
+      let L = U .loose K H in
+      routed-as (more-loose (C .filled .more) L) (U .sound K H) (loose-wires H L) back

@@ -10,6 +10,7 @@ use Rattle.augment.specs.OneMore.{OneMore}
 use Rattle.augment.specs.Pins.{Held, Unwired, AnySpot, Answered}
 use Rattle.augment.specs.Passing.{was-laid, was-nothing}
 use Rattle.search.specs.Loose.{Freed}
+use Rattle.search.specs.Rings.{freed-sound}
 use Rattle.search.specs.Fill.{Cleared, Saturated}
 use Rattle.search.specs.Filling.{cleared-none, held-more}
 use Rattle.search.specs.Copies.{front-held, new-length}
@@ -47,4 +48,4 @@ module _ {rec : List ℕ} (legal : Legal rec) {loads : List ℕ} (q : loads ≡ 
         let i : front loads″ ≡ loads″ = front-whole loads″ (new-length rec legal loads″ (N .kept)) in
         more
         (subst (λ (z : List ℕ). calls.OneMore rec z) (sym (back ∙ ap (λ (z : List ℕ). over z rec) i))
-        (wire-added rec legal loads″ u l (subst (λ (z : List ℕ). Unwired (jobOf rec) z u) copied h) N (F .sound (jobOf rec) H (legal .sound))))
+        (wire-added rec legal loads″ u l (subst (λ (z : List ℕ). Unwired (jobOf rec) z u) copied h) N (freed-sound F H (legal .sound))))

@@ -5,5 +5,4 @@ pub mod step; // one wire more in a record
 pub mod route; // all wires, and what is lacking
 
 pub use route::lacking;
-pub use route::route_all;
 pub use route::shortfall;

@@ -1,7 +1,7 @@
-// All wires that fit, and what the rest lacks: the record is filled, and the smallest near side is shown where some chosen pin stays unwired.
+// All wires that fit, and what the rest lacks: a copy of the record is filled, and the smallest near side is shown where some chosen pin stays unwired.
 ghost use mathlib.Core.Path.{_≡_};
 ghost use Prim.Native.Nat.{_-_, _≤_, _<_};
-ghost use lib.ListN.{length, take};
+ghost use lib.ListN.{length};
 ghost use Rattle.sums.specs.Counting.{when};
 ghost use Rattle.model.specs.Record.{recordSize, jobOf, Legal, over};
 ghost use Rattle.model.specs.Route.{chosenCount};
@@ -10,9 +10,9 @@ ghost use Rattle.channel.specs.Map.{spots, want, starts};
 ghost use Rattle.augment.specs.Marks.{marked};
 ghost use Rattle.augment.specs.Steps.{Whole};
 ghost use Rattle.search.specs.Fill.{unwiredCount};
-ghost use Rattle.search.specs.Outcome.{RoutedAll, Lacks};
+ghost use Rattle.search.specs.Outcome.{FilledCopy, Lacks};
 use crate::fill::fill;
-use crate::untangle::untangle;
+use crate::untangle::unloop;
 use channel::copy::copy;
 use channel::is_start;
 use channel::wire_starts;
@@ -75,10 +75,10 @@ fn show(marks: &[u8], near: &mut [u8])
     }
 }
 
-// All wires that fit, in a copy of the record; how many chosen pins stay unwired, and the near side if any does.
-fn fill_copy(rec: &[u8], loads: &mut [u8], near: &mut [u8]) -> usize
+// All wires that fit, in a copy of the record, in which loops may stand; how many chosen pins stay unwired, and the near side if any does.
+pub fn fill_copy(rec: &[u8], loads: &mut [u8], near: &mut [u8]) -> usize
     requires { ⌜ Legal (now rec) × (length (now loads) ≡ recordSize) × (recordSize ≤ length (now near)) ⌝ }
-    ensures { λ k. ⌜ RoutedAll (now (rec .entry)) (over (take recordSize (now (loads .exit))) (now (rec .entry))) (now (near .entry)) (now (near .exit)) k ⌝ }
+    ensures { λ k. ⌜ FilledCopy (now (rec .entry)) (now (loads .exit)) (now (near .entry)) (now (near .exit)) k ⌝ }
 {
     copy(rec, loads);
     let mut marks = [0u8; 13128];
@@ -95,7 +95,6 @@ fn fill_copy(rec: &[u8], loads: &mut [u8], near: &mut [u8]) -> usize
         &mut slot,
         &mut lists,
     );
-    untangle(rec, loads, &mut queue, &mut parent, &mut slot);
     let k = unwired(rec, loads);
     if k == 0 {
         return 0;
@@ -104,22 +103,13 @@ fn fill_copy(rec: &[u8], loads: &mut [u8], near: &mut [u8]) -> usize
     k
 }
 
-// All wires that fit, in the record.
-pub fn route_all(rec: &mut [u8], near: &mut [u8]) -> usize
-    requires { ⌜ Legal (now rec) × (recordSize ≤ length (now near)) ⌝ }
-    ensures { λ k. ⌜ RoutedAll (now (rec .entry)) (now (rec .exit)) (now (near .entry)) (now (near .exit)) k ⌝ }
-{
-    let mut loads = [0u8; 32768];
-    let k = fill_copy(rec, &mut loads, near);
-    copy(&loads, rec);
-    k
-}
-
-// The same, with the record left as it is.
+// How many chosen pins stay unwired when all wires that fit are laid, and the near side if any does. The record is left as it is.
 pub fn shortfall(rec: &[u8], near: &mut [u8]) -> usize
     requires { ⌜ Legal (now rec) × (recordSize ≤ length (now near)) ⌝ }
     ensures { λ k. ⌜ Lacks (now (rec .entry)) (now (near .entry)) (now (near .exit)) k ⌝ }
 {
     let mut loads = [0u8; 32768];
-    fill_copy(rec, &mut loads, near)
+    let k = fill_copy(rec, &mut loads, near);
+    unloop(&mut loads);
+    k
 }
