@@ -12,10 +12,10 @@ use Rattle.sums.specs.Tests.{so, so-not, and-left, and-right, and-both}
 use Rattle.price.specs.Moves.{Tight}
 use Rattle.price.specs.Priced.{Priced}
 use Rattle.model.specs.Job.{Job}
-use Rattle.channel.specs.Map.{darts, rev, moves, view, outside}
+use Rattle.channel.specs.Map.{spots, darts, rev, moves, view, outside}
 use Rattle.channel.specs.Map.Numbers.{slot-dart, head-spot}
 use Rattle.channel.specs.Map.Network.{net}
-use Rattle.augment.specs.Marks.{marked, is-marked, marked-byte}
+use Rattle.augment.specs.Marks.{marked, is-marked, marked-spot, marked-byte}
 use Rattle.augment.specs.Spread.{dartTo, Came, Spread}
 use Rattle.shortest.specs.MovesPriced.{Kept}
 use Rattle.shortest.specs.Slack.{Slack, taking, adding, raise, slack-inside, slack-tight, priced-kept, Leaves}
@@ -33,7 +33,7 @@ unfoldable pub tightMoves : Job → (len π : ℕ → ℕ) → List ℕ → ℕ 
 tightMoves J len π rec d = moves J rec d && eqb (slackOf len π rec d) 0
 
 module _ (rec : List ℕ) {len π : ℕ → ℕ} where
-  slack-exact : (d : ℕ) → Kept len π rec d → Slack len π rec d (slackOf len π rec d)
+  pub slack-exact : (d : ℕ) → Kept len π rec d → Slack len π rec d (slackOf len π rec d)
   slack-exact d K = by (ltb 0 (view rec (rev d))) refl
     where
       by : (b : Bool) → ltb 0 (view rec (rev d)) ≡ b
@@ -112,9 +112,9 @@ module _ (J : Job) (rec : List ℕ) {len π : ℕ → ℕ} (P : Priced (net J) l
     Looked least i = (k : ℕ) → k < 8 → T (moves J rec (8 * getD q i 0 + k))
         → (getD t (rev (8 * getD q i 0 + k) / 8) 0 ≡ 1) ⊎ (least ≤ slackOf len π rec (8 * getD q i 0 + k))
 
-    module _ (blank : (x : ℕ) → getD t₀ x 0 ≢ 1) {least : ℕ} (looked : (i : ℕ) → i < n → Looked least i) where
-      queued : (x : ℕ) → T (marked t x) → (i : ℕ) × (i < n) × (getD q i 0 ≡ x)
-      queued x m = ⊎-elim (λ e. absurd (blank x e)) (λ r. r) (s .owed x (marked-byte t x m))
+    module _ (blank : (x : ℕ) → x < spots → getD t₀ x 0 ≢ 1) {least : ℕ} (looked : (i : ℕ) → i < n → Looked least i) where
+      pub queued : (x : ℕ) → T (marked t x) → (i : ℕ) × (i < n) × (getD q i 0 ≡ x)
+      queued x m = ⊎-elim (λ e. absurd (blank x (marked-spot t x m) e)) (λ r. r) (s .owed x (marked-byte t x m))
 
       -- Once every spot in the queue is looked at, the moves out of them leave so much.
       pub looked-leaves : Leaves J rec len π (marked t) least

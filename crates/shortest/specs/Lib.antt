@@ -9,8 +9,17 @@ pub mod Ceiling
 -- First prices.
 pub mod Rings
 pub mod FirstPrices
+pub mod FirstRow
 -- The search that raises prices as it goes.
 pub mod Grow
 pub mod Slacks
 -- What the code of the least wiring keeps and leaves.
 pub mod Wiring
+pub mod Growing
+pub mod Growths
+pub mod Rounds
+pub mod Lines
+pub mod Emptied
+pub mod LeastWiring
+-- What the operations call.
+pub mod Shortening

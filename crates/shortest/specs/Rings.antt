@@ -20,7 +20,7 @@ pub least4 : ℕ → ℕ → ℕ → ℕ → ℕ
 least4 a b c d = min (min a b) (min c d)
 
 module _ (a b c d : ℕ) where
-  first-most : least4 a b c d ≤ a
+  pub first-most : least4 a b c d ≤ a
   unfolding least4
   first-most = omega arith
 
@@ -28,13 +28,18 @@ module _ (a b c d : ℕ) where
   unfolding least4
   second-most = omega arith
 
-  third-most : least4 a b c d ≤ c
+  pub third-most : least4 a b c d ≤ c
   unfolding least4
   third-most = omega arith
 
   fourth-most : least4 a b c d ≤ d
   unfolding least4
   fourth-most = omega arith
+
+  -- as a program reads it
+  pub least4-is : min (min a b) (min c d) ≡ least4 a b c d
+  unfolding least4
+  least4-is = refl
 
   all-most : (x k : ℕ) → x ≤ a + k → x ≤ b + k → x ≤ c + k → x ≤ d + k → x ≤ least4 a b c d + k
   unfolding least4

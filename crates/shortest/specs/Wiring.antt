@@ -19,6 +19,7 @@ use Rattle.augment.specs.Laid.{BytesFit, SameButLoads}
 use Rattle.augment.specs.OneMore.{OneMore}
 use Rattle.augment.specs.Pins.{Held}
 use Rattle.search.specs.Fill.{Cleared}
+use Rattle.search.specs.Outcome.{RoutedAll}
 
 -- the prices that a row of numbers holds
 abbrev pub priceAt : List ℕ → ℕ → ℕ
@@ -46,6 +47,13 @@ pub record Grew (J : Job) (rec prices : List ℕ) (u : ℕ) (rec′ prices′ ma
   pub cleared : Cleared marks′
   pub most : (m : ℕ) → AtMost prices m → AtMost prices′ (m + 1417824)
 
+-- The loads have prices, and a wire for every chosen pin of the record's job; only load bytes differ from the record's.
+pub record Complete (rec loads : List ℕ) : Type 0 where
+  pub prices : List ℕ
+  pub arranged : Arranged (jobOf rec) loads prices
+  pub all : wireCount (jobOf rec) (load loads) ≡ chosenCount (jobOf rec)
+  pub kept : SameButLoads (front rec) loads
+
 -- The loads are those of a wire for every chosen pin of the record's job, together of the least length; only load bytes differ from the record's.
 pub record Least (rec loads : List ℕ) : Type 0 where
   pub kept : SameButLoads (front rec) loads
@@ -53,3 +61,8 @@ pub record Least (rec loads : List ℕ) : Type 0 where
   pub sound : Sound (jobOf rec) (load loads)
   pub all : wireCount (jobOf rec) (load loads) ≡ chosenCount (jobOf rec)
   pub least : LeastLength (jobOf rec) (heldLength (jobOf rec) (load loads))
+
+-- every wire that fits is laid, and where that is one for each chosen pin they have the least length
+pub record RoutedLeast (rec rec′ near near′ : List ℕ) (k : ℕ) : Type 0 where
+  pub routed : RoutedAll rec rec′ near near′ k
+  pub least : k ≡ 0 → LeastLength (jobOf rec) (heldLength (jobOf rec) (load rec′))

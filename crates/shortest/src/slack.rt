@@ -31,6 +31,13 @@ fn back_length_of(i: usize) -> usize
     10 * bit(crosses(i)) + 14 * bit(i == 13)
 }
 
+// Whether a dart of that row counts, or its way back.
+fn counts(i: usize) -> bool
+    ensures { λ b. ⌜ b ≡ ((eqb i 16 || (eqb i 24 || (eqb i 32 || eqb i 40))) || (eqb i 4 || eqb i 13)) ⌝ }
+{
+    crosses(i) | ((i == 4) | (i == 13))
+}
+
 // A price as a number.
 fn wide(x: u32) -> usize
     ensures { λ r. ⌜ (r ≡ x) × (r < 4294967296) ⌝ }
@@ -39,7 +46,7 @@ fn wide(x: u32) -> usize
 }
 
 // b less a, or 0 where a is greater.
-fn beyond(a: usize, b: usize) -> usize
+pub fn beyond(a: usize, b: usize) -> usize
     ensures { λ r. ⌜ r ≡ b - a ⌝ }
 {
     if a < b {
@@ -48,7 +55,7 @@ fn beyond(a: usize, b: usize) -> usize
     0
 }
 
-// What the move along d leaves.
+// What the move along d leaves. Where neither way counts it does not matter whether a wire goes the other way.
 pub fn slack(loads: &[u8], prices: &[u32], d: usize) -> usize
     requires { ⌜ (32768 ≤ length (now loads)) × (13128 ≤ length (now prices)) × (d < 105024) ⌝ }
     ensures { λ r. ⌜ r ≡ slackOf dartLength (λ u. getD (now (prices .entry)) u 0) (now (loads .entry)) d ⌝ }
@@ -56,6 +63,9 @@ pub fn slack(loads: &[u8], prices: &[u32], d: usize) -> usize
     let e = reverse(d);
     let near = wide(prices[d / 8]);
     let far = wide(prices[e / 8]);
+    if !counts(d % 64) {
+        return beyond(near, far);
+    }
     if carried(loads, e) != 0 {
         return beyond(near + back_length_of(d % 64), far);
     }
