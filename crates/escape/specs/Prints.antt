@@ -9,17 +9,20 @@ use Rattle.model.specs.Job.{Job}
 use Rattle.model.specs.Route.{Greatest, chosenCount}
 use Rattle.model.specs.Record.{jobOf, load, Legal, over, unwiredRecord}
 use Rattle.model.specs.Text.{reads, wrongAt, Reading}
+use Rattle.model.specs.Length.{LeastLength, heldLength}
 use Rattle.model.specs.Listing.{wiresListing}
 use Rattle.model.specs.Calls.{wiresIn, Shown}
 use Rattle.model.proofs.Empty.{greatest-le-chosen}
 use Rattle.model.proofs.Over.{anew-job}
 use Rattle.model.proofs.TextProper.{reading-proper}
 use Rattle.search.specs.Outcome.{RoutedAll}
+use Rattle.shortest.specs.Wiring.{RoutedLeast}
 use Rattle.listing.specs.Near.{shortListing, refusedListing}
 
--- "steps to the end": the wires of a record in which all chosen pins are wired, or the near side and how many cannot be
+-- "steps to the end": the wires of a record in which all chosen pins are wired, with the least total length (K8), or the near side and how many cannot be
 pub data Lists (J : Job) (bytes : List ℕ) : Type 0 where
-  wires : (rec : List ℕ) → Legal rec → jobOf rec ≡ J → wiresIn rec ≡ chosenCount J → bytes ≡ wiresListing (jobOf rec) (load rec) → Lists J bytes
+  wires : (rec : List ℕ) → Legal rec → jobOf rec ≡ J → wiresIn rec ≡ chosenCount J → LeastLength J (heldLength J (load rec))
+      → bytes ≡ wiresListing (jobOf rec) (load rec) → Lists J bytes
   lacks : (g : ℕ) (near near′ : List ℕ) → Greatest J g → g < chosenCount J → Shown J g near near′ → bytes ≡ shortListing J near′ (chosenCount J - g)
       → Lists J bytes
 
@@ -27,10 +30,13 @@ pub data Prints (text bytes : List ℕ) : Type 0 where
   refused : (o : ℕ) → Reading text (wrongAt o) → bytes ≡ refusedListing o → Prints text bytes
   routed : (J : Job) → Reading text (reads J) → Lists J bytes → Prints text bytes
 
-module _ {rec rec′ near near′ : List ℕ} {k : ℕ} (R : RoutedAll rec rec′ near near′ k) where
+module _ {rec rec′ near near′ : List ℕ} {k : ℕ} (L : RoutedLeast rec rec′ near near′ k) where
+  abbrev R : RoutedAll rec rec′ near near′ k
+  R = L .routed
+
   pub lists-wires : k ≡ 0 → Lists (jobOf rec) (wiresListing (jobOf rec′) (load rec′))
   lists-wires z =
-      wires rec′ (R .legal) (R .job) (omega (arith, R .lacks, greatest-le-chosen (jobOf rec) (wiresIn rec′) (R .greatest))) refl
+      wires rec′ (R .legal) (R .job) (omega (arith, R .lacks, greatest-le-chosen (jobOf rec) (wiresIn rec′) (R .greatest))) (L .least z) refl
 
   pub lists-lacks : k ≢ 0 → Lists (jobOf rec) (shortListing (jobOf rec′) near′ k)
   lists-lacks n =

@@ -7,7 +7,7 @@ use pages::Shown;
 use pages::show_near;
 use pages::show_refused;
 use pages::show_wires;
-use search::route_all;
+use shortest::shorten::route_all;
 use text::Judged;
 use text::read_into;
 ghost use mathlib.Core.List.{List};
@@ -16,7 +16,7 @@ ghost use Rattle.model.specs.Record.{jobOf, Legal};
 ghost use Rattle.escape.specs.Handed.{Handed};
 ghost use Rattle.escape.specs.Prints.{Lists, Prints};
 
-// The wires of a job in which all are laid that fit, or the near side where some pin stays unwired.
+// The wires of a job in which all are laid, together of the least length, or the near side where some pin stays unwired.
 fn show_routed(rec: &mut [u8]) -> Shown
     requires { ⌜ Legal (now rec) ⌝ }
     ensures { λ r. ⌜ ((bytes : List ℕ) × Lists (jobOf (now (rec .entry))) bytes × Handed r bytes) ⌝ }

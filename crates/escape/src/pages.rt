@@ -6,6 +6,7 @@ use listing::first_wire;
 use listing::near_page;
 use listing::refused_page;
 use listing::short_page;
+use listing::totals_page;
 use listing::wires_page;
 ghost use Prim.Native.Nat.{_≤_};
 ghost use lib.ListN.{length, take};
@@ -31,7 +32,7 @@ fn print(page: &[u8], n: usize) -> Shown
     Shown::Stopped
 }
 
-// The wires of a record.
+// The wires of a record, their total length and its mean.
 pub fn show_wires(rec: &[u8]) -> Shown
     requires { ⌜ Legal (now rec) ⌝ }
     ensures { λ r. ⌜ Handed r (wiresListing (jobOf (now (rec .entry))) (load (now (rec .entry)))) ⌝ }
@@ -52,7 +53,11 @@ pub fn show_wires(rec: &[u8]) -> Shown
         n += m;
         at = next;
     }
-    Shown::All(n)
+    let last = totals_page(rec, &mut page);
+    let Shown::All(end) = print(&page, last) else {
+        return Shown::Stopped;
+    };
+    Shown::All(n + end)
 }
 
 // The near side of a job that lacks `short` wires.

@@ -12,5 +12,6 @@ pub mod Left
 pub mod Passed
 pub mod ShortPages
 pub mod Whole
--- The examples of document 01.
+-- The examples of document 01 and the four-pin listing of document 02.
 pub mod Example
+pub mod FourPins

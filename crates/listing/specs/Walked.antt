@@ -21,7 +21,7 @@ use Rattle.wire.specs.Threads.{Thread, hops, thread, thread-wire}
 use Rattle.wire.specs.Lengths.{places-few, goes-short}
 
 -- a list made entry by entry, with nothing from m on
-each-past : (g : ℕ → List ℕ) (m k : ℕ) → ((i : ℕ) → m ≤ i → g i ≡ []) → each (m + k) g ≡ each m g
+pub each-past : (g : ℕ → List ℕ) (m k : ℕ) → ((i : ℕ) → m ≤ i → g i ≡ []) → each (m + k) g ≡ each m g
 unfolding each
 each-past g m zero h = ap (λ (n : ℕ). each n g) (add-zero m)
 each-past g m (suc k) h =

@@ -2,6 +2,7 @@
 pub mod page; // bytes, words and numbers
 pub mod near; // the near side of a short job, and a refusal
 pub mod wires; // the wires of a legal record
+pub mod totals; // the total length and the mean, behind the wires
 pub mod whole; // the whole listing in one output
 
 pub use near::NearFilled;
@@ -9,6 +10,7 @@ pub use near::near_page;
 pub use near::refused_page;
 pub use near::short_page;
 pub use page::Page;
+pub use totals::totals_page;
 pub use whole::Listed;
 pub use whole::write;
 pub use wires::Cursor;

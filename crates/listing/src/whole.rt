@@ -1,6 +1,7 @@
 // The whole listing of the wires of a legal record, laid into one lent output page by page. Its length is counted first, so an output that is too short keeps
 // every byte. Callers have audited the record.
 use crate::page::Page;
+use crate::totals::totals_page;
 use crate::wires::count_page;
 use crate::wires::first_wire;
 use crate::wires::wires_page;
@@ -46,7 +47,7 @@ fn count_listing(rec: &[u8]) -> usize
         n += filled.length;
         at = next;
     }
-    n
+    n + totals_page(rec, &mut page)
 }
 
 // The listing, in an output that has room for it.
@@ -65,7 +66,8 @@ fn put_listing(rec: &[u8], out: &mut [u8]) -> usize
         n = copy_page(&page, filled.length, out, n);
         at = next;
     }
-    n
+    let last = totals_page(rec, &mut page);
+    copy_page(&page, last, out, n)
 }
 
 // The listing of the wires that the record holds, if the output has room for it.

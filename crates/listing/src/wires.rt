@@ -203,7 +203,7 @@ pub fn first_wire() -> Cursor
 }
 
 // How many wires the record has.
-fn count_wires(rec: &[u8]) -> usize
+pub fn count_wires(rec: &[u8]) -> usize
     requires { ⌜ Legal (now rec) ⌝ }
     ensures { λ n. ⌜ n ≡ wireCount (jobOf (now (rec .entry))) (load (now (rec .entry))) ⌝ }
 {

@@ -11,7 +11,7 @@ route-all-requires : tie.Need-route-all-requires
 route-all-requires c κs = search needs
 
 show-wires-requires : tie.Need-show-wires-requires
-show-wires-requires c κs = c .before .before .before .before .before .route-all .ensures .legal
+show-wires-requires c κs = c .before .before .before .before .before .route-all .ensures .routed .legal
 
 same-length : tie.Need-same-length
 same-length c = search needs

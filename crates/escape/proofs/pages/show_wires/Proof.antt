@@ -1,4 +1,5 @@
--- `show_wires` meets its contract. The loop's invariant: the bytes handed on and what is left at the cursor are as many as the listing has. Assumes nothing.
+-- `show_wires` meets its contract. The loop's invariant: the bytes handed on, what is left at the cursor and the last lines are as many as the listing has. Assumes
+-- nothing.
 use mathlib.Core.Path.{_≡_, sym, ap, _∙_}
 use mathlib.Core.List.{List}
 use Prim.Native.Nat.{ℕ, _+_}
@@ -13,14 +14,15 @@ use Rattle.model.proofs.ListingLength.{listing-short}
 use Rattle.listing.specs.Puts.{puts-length, parts-length}
 use Rattle.listing.specs.Left.{left, ahead, Stands}
 use Rattle.listing.specs.Passed.{stands-first}
-use Rattle.listing.specs.Whole.{listing-parts, left-done}
+use Rattle.listing.specs.Whole.{totalLines, listing-begun, left-done}
 use Rattle.escape.specs.Handed.{handed-all}
 use Rattle.escape.proofs.pages.show_wires.Statement.{statement}
 use Rattle.escape.proofs.pages.show_wires.Tie as tie
 
 abbrev Inv-loop : tie.InvT-loop
 Inv-loop rec page₀ first begun n₀ at₀ page n at =
-    (n + length (left (jobOf rec) (load rec) (at .cell) (at .index)) ≡ length (wiresListing (jobOf rec) (load rec))) × (length page ≡ 32768)
+    (n + (length (left (jobOf rec) (load rec) (at .cell) (at .index)) + length (totalLines (jobOf rec) (load rec))) ≡ length (wiresListing (jobOf rec) (load rec)))
+    × (length page ≡ 32768)
     × Stands rec (at .cell) (at .index) (at .dart) (at .lane)
 
 abbrev μ-loop : tie.MeasureT-loop
@@ -58,7 +60,7 @@ loop-holds c =
         arith,
         handed-all bytes (c .before .before .begun .given .1) (c .before .before .before .before .print .ensures),
         length-take-le (m .result) (m .last .1 .0) (omega (arith, size, m .ensures .1)),
-        parts-length (listing-parts (jobOf rec) (load rec) (f .0) (f .1) (m .ensures .0)),
+        listing-begun (jobOf rec) (load rec) (f .0) (f .1) (m .ensures .0),
       ),
       size,
       stands-first (omega (arith, f .0)) (f .1),
@@ -107,11 +109,55 @@ loop-again c =
     let here = length-take-le (r .result .length) (r .last .1 .1 .0) (omega (arith, size, r .ensures .1 .0)) in
     (omega (arith, l .inv .0, handed, here, parts-length (r .ensures .0 .parts)), size, r .ensures .0 .stands)
 
+totals-page-requires : tie.Need-totals-page-requires Inv-loop μ-loop
+totals-page-requires c κs = c .before .before .before .before .before .before .before .before .before .before .before .before .before .pre
+
+slice-aggregate-print-3 : tie.Need-slice-aggregate-print-3 Inv-loop μ-loop
+slice-aggregate-print-3 c = sym (puts-length (c .before .totals-page .ensures .0) ∙ c .before .before .before .before .before .loop .inv .1)
+
+print-requires-3 : tie.Need-print-requires-3 Inv-loop μ-loop
+print-requires-3 c κs = let r = c .before .totals-page .ensures in omega (arith, r .1, puts-length (r .0), c .before .before .before .before .before .loop .inv .1)
+
+enum-known-end : tie.Need-enum-known-end Inv-loop μ-loop
+enum-known-end c = search needs
+
+enum-told-3 : tie.Need-enum-told-3 Inv-loop μ-loop
+enum-told-3 c = search needs
+
 returns-3 : tie.Need-returns-3 Inv-loop μ-loop
-returns-3 c =
-    let rec = now (c .before .before .before .before .before .before .before .before .before .before .before .before .args .rec) in
-    let l = c .before .before .loop in
-    omega (arith, l .inv .0, ap length (left-done (jobOf rec) (load rec) rec _ _ _ _ (l .inv .2) (c .if1 .left)))
+returns-3 c = tt
+
+add-t25 : tie.Need-add-t25 Inv-loop μ-loop
+add-t25 c =
+    let rec = now (c .before .before .before .before .before .before .before .before .before .before .before .before .before .before .before .before .before .before .before .args .rec) in
+    let t = c .before .before .before .before .before .totals-page in
+    let l = c .before .before .before .before .before .before .before .before .before .loop in
+    let size : length (t .last .1 .0) ≡ 32768 = puts-length (t .ensures .0) ∙ l .inv .1 in
+    let bytes : List ℕ = take (t .result) (t .last .1 .0) in
+    omega (
+      arith,
+      l .inv .0,
+      handed-all bytes (c .before .end .given .1) (c .before .before .before .print3 .ensures),
+      length-take-le (t .result) (t .last .1 .0) (omega (arith, size, t .ensures .1)),
+      t .ensures .0 .next,
+      listing-short (jobOf rec) (load rec),
+    )
+
+returns-4 : tie.Need-returns-4 Inv-loop μ-loop
+returns-4 c =
+    let rec = now (c .before .before .before .before .before .before .before .before .before .before .before .before .before .before .before .before .before .before .before .args .rec) in
+    let t = c .before .before .before .before .before .totals-page in
+    let l = c .before .before .before .before .before .before .before .before .before .loop in
+    let size : length (t .last .1 .0) ≡ 32768 = puts-length (t .ensures .0) ∙ l .inv .1 in
+    let bytes : List ℕ = take (t .result) (t .last .1 .0) in
+    omega (
+      arith,
+      l .inv .0,
+      handed-all bytes (c .before .end .given .1) (c .before .before .before .print3 .ensures),
+      length-take-le (t .result) (t .last .1 .0) (omega (arith, size, t .ensures .1)),
+      t .ensures .0 .next,
+      ap length (left-done (jobOf rec) (load rec) rec _ _ _ _ (l .inv .2) (c .before .before .before .before .before .before .before .if1 .left)),
+    )
 
 pub show-wires-spec : {M : Type 1} → statement M
 show-wires-spec =
@@ -136,4 +182,11 @@ show-wires-spec =
     add-n
     loop-less
     loop-again
-    returns-3)
+    totals-page-requires
+    slice-aggregate-print-3
+    print-requires-3
+    enum-known-end
+    enum-told-3
+    returns-3
+    add-t25
+    returns-4)

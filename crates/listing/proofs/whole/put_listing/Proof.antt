@@ -9,7 +9,7 @@ use Rattle.model.specs.Record.{jobOf, load}
 use Rattle.listing.specs.Puts.{Parts, puts-length, parts-none, parts-then, parts-all, parts-length}
 use Rattle.listing.specs.Left.{left, ahead, Stands}
 use Rattle.listing.specs.Passed.{stands-first}
-use Rattle.listing.specs.Whole.{listing-parts, left-done, page-copied}
+use Rattle.listing.specs.Whole.{listing-begun, listing-laid, left-done, lines-copied, page-copied}
 use Rattle.listing.proofs.whole.put_listing.Statement.{statement}
 use Rattle.listing.proofs.whole.put_listing.Tie as tie
 
@@ -31,7 +31,7 @@ copy-page-requires c κs =
     let m = c .before .before .count-page .ensures in (
       omega (arith, m .1),
       omega (arith, m .1, puts-length (m .0), length-replicate {A = ℕ} 32768 0),
-      omega (arith, s .pre .1, parts-length (listing-parts (jobOf rec) (load rec) refl refl (m .0))),
+      omega (arith, s .pre .1, listing-begun (jobOf rec) (load rec) refl refl (m .0)),
     )
 
 first-wire-requires : tie.Need-first-wire-requires Inv-loop μ-loop
@@ -60,7 +60,7 @@ copy-page-requires-2 c κs =
         arith,
         s .pre .1,
         l .inv .1,
-        parts-length (page-copied (listing-parts (jobOf rec) (load rec) (f .0) (f .1) (m .0)) (omega (arith, m .1, length-replicate {A = ℕ} 32768 0)) first),
+        listing-begun (jobOf rec) (load rec) (f .0) (f .1) (lines-copied (m .0) (omega (arith, m .1, length-replicate {A = ℕ} 32768 0)) first),
         parts-length (l .inv .2),
         parts-length (r .0 .parts),
         puts-length (l .inv .2 .puts),
@@ -80,18 +80,47 @@ loop-again c =
       parts-then (l .inv .2) (page-copied (r .0 .parts) (omega (arith, r .1 .0, l .inv .1)) (c .before .before .copy-page2 .ensures)),
     )
 
+totals-page-requires : tie.Need-totals-page-requires Inv-loop μ-loop
+totals-page-requires c κs = c .before .before .before .before .before .before .before .before .before .before .before .before .before .before .pre .0
+
+copy-page-requires-3 : tie.Need-copy-page-requires-3 Inv-loop μ-loop
+copy-page-requires-3 c κs =
+    let s = c .before .before .before .before .before .before .before .before .before .before .before .before .before .before .before .before .before in
+    let rec = now (s .args .rec) in
+    let l = c .before .before .before .before .before .before .loop in
+    let t = c .before .before .totals-page .ensures in
+    let f = c .before .before .before .before .before .before .before .first-wire .ensures in
+    let m = c .before .before .before .before .before .before .before .before .before .before .before .before .before .count-page .ensures in
+    let first = c .before .before .before .before .before .before .before .before .before .before .copy-page .ensures in (
+      omega (arith, t .1),
+      omega (arith, t .1, l .inv .1, puts-length (t .0)),
+      omega (
+        arith,
+        s .pre .1,
+        t .0 .next,
+        listing-begun (jobOf rec) (load rec) (f .0) (f .1) (lines-copied (m .0) (omega (arith, m .1, length-replicate {A = ℕ} 32768 0)) first),
+        parts-length (l .inv .2),
+        puts-length (l .inv .2 .puts),
+        puts-length first,
+      ),
+    )
+
 same-length : tie.Need-same-length Inv-loop μ-loop
-same-length c = puts-length (c .before .before .loop .inv .2 .puts) ∙ puts-length (c .before .before .before .before .before .before .copy-page .ensures)
+same-length c =
+    puts-length (c .before .before .copy-page3 .ensures)
+    ∙ (puts-length (c .before .before .before .before .before .before .before .before .before .loop .inv .2 .puts) ∙ puts-length (c .before .before .before .before .before .before .before .before .before .before .before .before .before .copy-page .ensures))
 
 returns : tie.Need-returns Inv-loop μ-loop
 returns c =
-    let rec = now (c .before .before .before .before .before .before .before .before .before .before .before .before .before .args .rec) in
-    let l = c .before .before .loop in
-    let f = c .before .before .before .first-wire .ensures in
-    let m = c .before .before .before .before .before .before .before .before .before .count-page .ensures in
-    parts-all
-    (parts-then (page-copied (listing-parts (jobOf rec) (load rec) (f .0) (f .1) (m .0)) (omega (arith, m .1, length-replicate {A = ℕ} 32768 0)) (c .before .before .before .before .before .before .copy-page .ensures)) (l .inv .2))
-    (left-done (jobOf rec) (load rec) rec _ _ _ _ (l .inv .0) (c .if1 .left))
+    let rec = now (c .before .before .before .before .before .before .before .before .before .before .before .before .before .before .before .before .before .before .before .before .args .rec) in
+    let l = c .before .before .before .before .before .before .before .before .before .loop in
+    let t = c .before .before .before .before .before .totals-page .ensures in
+    let f = c .before .before .before .before .before .before .before .before .before .before .first-wire .ensures in
+    let m = c .before .before .before .before .before .before .before .before .before .before .before .before .before .before .before .before .count-page .ensures in
+    listing-laid (jobOf rec) (load rec) (f .0) (f .1)
+    (lines-copied (m .0) (omega (arith, m .1, length-replicate {A = ℕ} 32768 0)) (c .before .before .before .before .before .before .before .before .before .before .before .before .before .copy-page .ensures))
+    (parts-all (l .inv .2) (left-done (jobOf rec) (load rec) rec _ _ _ _ (l .inv .0) (c .before .before .before .before .before .before .before .if1 .left)))
+    (lines-copied (t .0) (omega (arith, t .1, l .inv .1)) (c .before .before .copy-page3 .ensures))
 
 pub put-listing-spec : {M : Type 1} → statement M
 put-listing-spec =
@@ -107,5 +136,7 @@ put-listing-spec =
     copy-page-requires-2
     loop-less
     loop-again
+    totals-page-requires
+    copy-page-requires-3
     same-length
     returns)
