@@ -10,7 +10,7 @@ use lib.Seq.{length-take-le}
 use Rattle.model.specs.Job.{Job}
 use Rattle.model.specs.Route.{chosenCount, Greatest}
 use Rattle.model.specs.Record.{recordSize, scratchSize, jobOf, Legal}
-use Rattle.model.specs.Calls.{Answer, refused, added, allWired, short, lacks, after, cleared, wiresIn, OneMore, Stepped, adds, stays, lacking, Steps}
+use Rattle.model.specs.Calls.{Answer, refused, added, allWired, short, lacks, after, cleared, wiresIn, OneMore, Shortened, Stepped, adds, stays, lacking, Steps}
 use Rattle.model.specs.Calls.{Lacks as LacksCall}
 use Rattle.model.proofs.Empty.{greatest-le-chosen}
 use Rattle.channel.specs.Written.{zeros, zeros-filled}
@@ -53,8 +53,15 @@ module _ {rec rec′ : List ℕ} (q : rec′ ≡ rec) (G : Greatest (jobOf rec) 
   lacks-here : k ≡ chosenCount (jobOf rec) - wiresIn rec
   lacks-here = e ∙ ap (λ x. chosenCount (jobOf x) - wiresIn x) q
 
-  pub step-all : k ≡ 0 → Stepped rec allWired rec′
-  step-all z = stays (omega (arith, lacks-here, greatest-le-chosen (jobOf rec) (wiresIn rec) G)) q
+  -- where none does every chosen pin is wired, and the wires are shortened
+  all-here : k ≡ 0 → wiresIn rec ≡ chosenCount (jobOf rec)
+  all-here z = omega (arith, lacks-here, greatest-le-chosen (jobOf rec) (wiresIn rec) G)
+
+  pub step-complete : k ≡ 0 → wiresIn rec′ ≡ chosenCount (jobOf rec′)
+  step-complete z = subst (λ (x : List ℕ). wiresIn x ≡ chosenCount (jobOf x)) (sym q) (all-here z)
+
+  pub step-all : k ≡ 0 → {rec″ : List ℕ} → Shortened rec′ rec″ → Stepped rec allWired rec″
+  step-all z {rec″} s = stays (all-here z) (subst (λ (x : List ℕ). Shortened x rec″) q s)
 
   pub step-short : k ≢ 0 → Stepped rec short rec′
   step-short n = lacking G (omega (arith, lacks-here)) q

@@ -6,12 +6,13 @@ use channel::is_chosen;
 use listing::Listed;
 use search::lacking;
 use search::step::Progress;
+use shortest::shorten::shorten;
 use wire::part_at;
 ghost use mathlib.Core.List.{[]};
 ghost use Rattle.model.specs.Calls.{step as Step, shortfall as Shortfall, part as Part, listing as Listing, after, Did};
 ghost use Rattle.answers.specs.Answers.{asAnswer};
 
-// One wire more, if one fits.
+// One wire more, if one fits; where every chosen pin is wired, wires of the least total length.
 pub fn step(rec: &mut [u8], scratch: &mut [u8]) -> Answer
     ensures { λ a. ⌜ Did (Step (now (scratch .entry))) (now (rec .entry)) (after (asAnswer a) (now (rec .exit)) (now (scratch .exit)) []) ⌝ }
 {
@@ -26,6 +27,7 @@ pub fn step(rec: &mut [u8], scratch: &mut [u8]) -> Answer
         return Answer::Added;
     };
     if lacking(rec) == 0 {
+        shorten(rec);
         return Answer::AllWired;
     }
     Answer::Short

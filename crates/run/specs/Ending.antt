@@ -10,10 +10,11 @@ use lib.Dec.{T}
 use Rattle.model.specs.Job.{Job, isChosen}
 use Rattle.model.specs.Route.{Route, Together, Family, Greatest, chosenCount}
 use Rattle.model.specs.Record.{jobOf, load}
+use Rattle.model.specs.Length.{routesLength, LeastLength, heldLength}
 use Rattle.model.specs.Wires.{Part, partAt, wireCount, Holds}
 use Rattle.model.specs.Calls.{part, Answer, refused, allWired, short, lists, After, after, listed}
 use Rattle.model.specs.Run.{Word, Service, Ended}
-use Rattle.wire.specs.Held.{sound-holds}
+use Rattle.wire.specs.Held.{wireRoutes, routes-held, routes-together, routes-length}
 use Rattle.run.specs.Invariant.{Kept}
 use Rattle.wire.specs.Families.{chosen-le-family, wires-family}
 use Rattle.run.specs.Rows.{Stop}
@@ -34,12 +35,19 @@ module _ (S : Service) (J : Job) where
 
   -- the wires of a record, as routes of its job
   abbrev Wires : Job → List ℕ → ℕ → Type 0
-  Wires X rec g = (rs : List (Route X)) × Holds X (load rec) rs × Together X rs × (wireCount X (load rec) ≡ g)
+  Wires X rec g =
+      (rs : List (Route X)) × Holds X (load rec) rs × Together X rs × (wireCount X (load rec) ≡ g) × (routesLength X rs ≡ heldLength X (load rec))
 
   wires-of : (rec : List ℕ) (g : ℕ) → Kept rec J → wireCount (jobOf rec) (load rec) ≡ g → Wires J rec g
   wires-of rec g k e =
-      let (rs, H, F) = sound-holds (jobOf rec) (load rec) (k .legal .sound) in
-      subst (λ (X : Job). Wires X rec g) (k .job) (rs, H, F, e)
+      let s = k .legal .sound in
+      subst (λ (X : Job). Wires X rec g) (k .job) (
+        wireRoutes (jobOf rec) (load rec) s,
+        routes-held (jobOf rec) (load rec) s,
+        routes-together (jobOf rec) (load rec) s,
+        e,
+        routes-length (jobOf rec) (load rec) s,
+      )
 
   short-all : {w : Answer} → w ≡ short → w ≡ allWired → ⊥
   short-all a b = let z : _≡_ {A = ℕ} 0 1 = cc in omega arith
@@ -47,8 +55,9 @@ module _ (S : Service) (J : Job) where
   pub stop-ended : (g : ℕ) (w : Answer) (end : List ℕ) → Greatest J g → Stop J g w end → Ended S J g w end
   stop-ended g w end G s = by (wires-of end g (s .kept) (s .full)) (s .how)
     where
-      by : Wires J end g → ((w ≡ allWired) × (g ≡ chosenCount J)) ⊎ ((w ≡ short) × (g < chosenCount J)) → Ended S J g w end
-      by (rs, H, F, e) (inl (a, c)) =
+      by : Wires J end g → ((w ≡ allWired) × (g ≡ chosenCount J) × LeastLength J (heldLength J (load end))) ⊎ ((w ≡ short) × (g < chosenCount J))
+          → Ended S J g w end
+      by (rs, H, F, e, m) (inl (a, c, L)) =
           let W : Family J rs = wires-family J (load end) rs H F (e ∙ c) in
           record {
             job = s .kept .job;
@@ -59,9 +68,10 @@ module _ (S : Service) (J : Job) where
             number = H .number ∙ e;
             all = (λ x. (rs, W), λ x. a);
             family = λ x. W;
+            length = λ x. subst (LeastLength J) (sym m) L;
             otherwise = inl a;
           }
-      by (rs, H, F, e) (inr (a, l)) =
+      by (rs, H, F, e, m) (inr (a, l)) =
           record {
             job = s .kept .job;
             routes = rs;
@@ -74,5 +84,6 @@ module _ (S : Service) (J : Job) where
               λ x. absurd (omega (arith, chosen-le-family J (x .0) (x .1), G .most (x .0) (x .1 .together))),
             );
             family = λ x. absurd (short-all a x);
+            length = λ x. absurd (short-all a x);
             otherwise = inr (a, l);
           }

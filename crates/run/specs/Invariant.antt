@@ -256,17 +256,18 @@ module _ (S : Service) (rec : List ℕ) (J : Job) (k : Kept rec J) where
   stays-kept : {rec′ : List ℕ} → rec′ ≡ rec → Kept rec′ J
   stays-kept e = subst (λ (x : List ℕ). Kept x J) (sym e) k
 
+  -- one whose record is legal, of the same job, with other bytes in its first 32,768
+  moved-kept : {rec′ : List ℕ} → Legal rec′ → jobOf rec′ ≡ jobOf rec → (new : List ℕ) × (length new ≡ recordSize) × (rec′ ≡ over new rec) → Kept rec′ J
+  moved-kept g j (bytes, size, e) =
+      record {
+        buffer = subst Buffer (sym e) (over-buffer bytes rec size (k .legal .long) (subst Legal e g) (k .buffer));
+        legal = g;
+        job = j ∙ k .job;
+      }
+
   pub stepped-kept : {x : Answer} {rec′ : List ℕ} → Stepped rec x rec′ → Accepted x × Kept rec′ J
-  stepped-kept (adds o) =
-      let (bytes, size, e) = o .rest in (
-        refl,
-        record {
-          buffer = subst Buffer (sym e) (over-buffer bytes rec size (k .legal .long) (subst Legal e (o .legal)) (k .buffer));
-          legal = o .legal;
-          job = o .job ∙ k .job;
-        },
-      )
-  stepped-kept (stays w e) = (refl, stays-kept e)
+  stepped-kept (adds o) = (refl, moved-kept (o .legal) (o .job) (o .rest))
+  stepped-kept (stays w s) = (refl, moved-kept (s .legal) (s .job) (s .rest))
   stepped-kept (lacking G l e) = (refl, stays-kept e)
 
   step-leaves : (scratch : List ℕ) (a : After) → Steps scratch rec a → Leaves S (step scratch) rec J a

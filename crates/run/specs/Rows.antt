@@ -8,7 +8,8 @@ use native.Mathlib.Omega.{arith}
 use lib.ListN.{length}
 use Rattle.model.specs.Job.{Job}
 use Rattle.model.specs.Route.{Greatest, chosenCount}
-use Rattle.model.specs.Record.{scratchSize}
+use Rattle.model.specs.Length.{LeastLength, heldLength}
+use Rattle.model.specs.Record.{scratchSize, load}
 use Rattle.model.specs.Calls.{step, Answer, added, allWired, short, refusal, Accepted, wiresIn}
 use Rattle.model.specs.Run.{Buffer, Service, Stepping, last, more, Adding, begin, again}
 use Rattle.run.specs.Invariant.{Kept}
@@ -18,7 +19,7 @@ use Rattle.run.specs.Says.{Says, one, all, few, held-le, step-says, enou
 pub record Stop (J : Job) (g : ℕ) (w : Answer) (end : List ℕ) : Type 0 where
   pub kept : Kept end J
   pub full : wiresIn end ≡ g
-  pub how : ((w ≡ allWired) × (g ≡ chosenCount J)) ⊎ ((w ≡ short) × (g < chosenCount J))
+  pub how : ((w ≡ allWired) × (g ≡ chosenCount J) × LeastLength J (heldLength J (load end))) ⊎ ((w ≡ short) × (g < chosenCount J))
 
 module _ (S : Service) (J : Job) (g : ℕ) (G : Greatest J g) where
   -- a step that says "added"
@@ -27,7 +28,7 @@ module _ (S : Service) (J : Job) (g : ℕ) (G : Greatest J g) where
 
   grows : {a : Answer} {rec′ : List ℕ} (rec : List ℕ) → Says J g rec a rec′ → a ≡ added → Grows rec rec′
   grows rec (one l k n) e = (l, k, n)
-  grows rec (all w c q) e = let z : _≡_ {A = ℕ} 0 1 = cc in absurd (omega arith)
+  grows rec (all w c k n l) e = let z : _≡_ {A = ℕ} 0 1 = cc in absurd (omega arith)
   grows rec (few w c q) e = let z : _≡_ {A = ℕ} 0 1 = cc in absurd (omega arith)
 
   step-grows : (rec scratch : List ℕ) → Kept rec J → Buffer scratch → S .does (step scratch) rec .answer ≡ added
@@ -44,7 +45,7 @@ module _ (S : Service) (J : Job) (g : ℕ) (G : Greatest J g) where
     where
       by : {a : Answer} {rec′ : List ℕ} → Says J g rec a rec′ → (a ≡ added) × Kept rec′ J × (wiresIn rec′ ≡ suc (wiresIn rec))
       by (one m k′ n) = (refl, k′, n)
-      by (all w c q) = absurd (omega arith)
+      by (all w c k′ n s) = absurd (omega arith)
       by (few w c q) = absurd (omega arith)
 
   pub adding-le : {rec : List ℕ} {n : ℕ} → Adding S rec n → Kept rec J → n + wiresIn rec ≤ g
@@ -55,8 +56,7 @@ module _ (S : Service) (J : Job) (g : ℕ) (G : Greatest J g) where
 
   stops : {a : Answer} {rec′ : List ℕ} (rec : List ℕ) → Kept rec J → a ≢ added → Says J g rec a rec′ → (wiresIn rec ≡ g) × Stop J g a rec′
   stops rec k n (one l k′ e) = absurd (n refl)
-  stops rec k n (all w c q) =
-      (w, record { kept = subst (λ (x : List ℕ). Kept x J) (sym q) k; full = ap wiresIn q ∙ w; how = inl (refl, c) })
+  stops rec k n (all w c k′ e s) = (w, record { kept = k′; full = e; how = inl (refl, c, s) })
   stops rec k n (few w c q) =
       (w, record { kept = subst (λ (x : List ℕ). Kept x J) (sym q) k; full = ap wiresIn q ∙ w; how = inr (refl, c) })
 
@@ -89,7 +89,7 @@ module _ (S : Service) (J : Job) (g : ℕ) (G : Greatest J g) where
     ends-by rec p q x (one {rec′ = rec′} l k n) r =
         let (m, w, end, s) = r (l, k, n) in
         (suc m, w, end, more scratch b (sym p) (subst (λ (y : List ℕ). Stepping S y m w end) q s))
-    ends-by rec p q x (all {rec′ = rec′} w c e) r = (0, allWired, rec′, last scratch b p x all-added q)
+    ends-by rec p q x (all {rec′ = rec′} w c k n s) r = (0, allWired, rec′, last scratch b p x all-added q)
       where
         all-added : allWired ≡ added → ⊥
         all-added e = let z : _≡_ {A = ℕ} 0 1 = cc in omega arith

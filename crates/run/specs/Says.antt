@@ -1,17 +1,22 @@
 -- What an accepted step says, on the record of a run whose job has the greatest number g: "added" while fewer than g wires are held, then "all wired" where
 -- g is the number of chosen pins, else "short". For the wires of a legal record are routes, so at most g. Assumes nothing.
 use mathlib.Core.Path.{_≡_, sym, ap, subst, _∙_}
-use mathlib.Core.Bool.{Bool, true, false, not}
+use mathlib.Core.Bool.{Bool, true, false, not, _&&_}
 use mathlib.Core.List.{List}
 use Prim.Native.Nat.{ℕ, suc, _≤_, _<_}
 use native.Mathlib.Omega.{arith}
 use lib.Dec.{T, leb, leb→le, nleb→lt}
 use lib.ListN.{length}
+use Rattle.sums.specs.Counting.{when}
 use Rattle.sums.specs.Entries.{none-some}
+use Rattle.sums.specs.Totals.{total-cong}
 use Rattle.model.specs.Job.{Job}
 use Rattle.model.specs.Route.{Greatest, chosenCount}
+use Rattle.model.specs.Links.{isPinKind, places}
+use Rattle.model.specs.Length.{LeastLength, heldLength}
 use Rattle.model.specs.Record.{scratchSize, jobOf, load}
-use Rattle.model.specs.Calls.{step, shortfall, Answer, added, allWired, short, refusal, Accepted, After, wiresIn, Stepped, adds, stays, lacking, Steps, Lacks}
+use Rattle.model.specs.Wires.{isWired, wireCount}
+use Rattle.model.specs.Calls.{step, shortfall, Answer, added, allWired, short, refusal, Accepted, After, wiresIn, Shortened, Stepped, adds, stays, lacking, Steps, Lacks}
 use Rattle.model.specs.Run.{Buffer, Service}
 use Rattle.model.proofs.Unique.{greatest-unique}
 use Rattle.model.proofs.Empty.{greatest-le-chosen}
@@ -21,8 +26,16 @@ use Rattle.run.specs.Invariant.{Kept, stepped-kept}
 
 pub data Says (J : Job) (g : ℕ) (rec : List ℕ) : Answer → List ℕ → Type 0 where
   one : {rec′ : List ℕ} → wiresIn rec < g → Kept rec′ J → wiresIn rec′ ≡ suc (wiresIn rec) → Says J g rec added rec′
-  all : {rec′ : List ℕ} → wiresIn rec ≡ g → g ≡ chosenCount J → rec′ ≡ rec → Says J g rec allWired rec′
+  all : {rec′ : List ℕ} → wiresIn rec ≡ g → g ≡ chosenCount J → Kept rec′ J → wiresIn rec′ ≡ g → LeastLength J (heldLength J (load rec′)) → Says J g rec allWired rec′
   few : {rec′ : List ℕ} → wiresIn rec ≡ g → g < chosenCount J → rec′ ≡ rec → Says J g rec short rec′
+
+-- "No pin loses its wire": as many wires are held.
+shortened-wires : {rec rec′ : List ℕ} → Shortened rec rec′ → wiresIn rec′ ≡ wiresIn rec
+unfolding wireCount
+shortened-wires {rec} {rec′} s =
+    ap (λ (X : Job). wireCount X (load rec′)) (s .job)
+    ∙ total-cong (places (jobOf rec)) _ _
+    (λ x. ap (λ (b : Bool). when (isPinKind x && b) 1) (ap (λ (X : Job). isWired X (load rec′) (x .row) (x .column)) (sym (s .job)) ∙ s .wired (x .row) (x .column)))
 
 -- a step that is lent enough is accepted, and one that is accepted was lent enough
 pub enough-accepted : (S : Service) (rec scratch : List ℕ) (J : Job) (a : After) → Kept rec J → Steps scratch rec a → scratchSize ≤ length scratch
@@ -58,9 +71,11 @@ module _ (S : Service) (J : Job) where
     stepped-says rec k (adds {rec′ = rec′} o) =
         let k′ : Kept rec′ J = stepped-kept S rec J k (adds o) .1 in
         one (omega (arith, held-le rec′ k′, o .number)) k′ (o .number)
-    stepped-says rec k (stays w q) =
+    stepped-says rec k (stays {rec′ = rec′} w s) =
         let c : chosenCount (jobOf rec) ≡ chosenCount J = ap chosenCount (k .job) in
-        all (omega (arith, held-le rec k, greatest-le-chosen J g G)) (omega (arith, held-le rec k, greatest-le-chosen J g G)) q
+        let e : wiresIn rec ≡ g = omega (arith, held-le rec k, greatest-le-chosen J g G) in
+        all e (omega (arith, held-le rec k, greatest-le-chosen J g G)) (stepped-kept S rec J k (stays w s) .1) (shortened-wires s ∙ e)
+        (subst (λ (X : Job). LeastLength X (heldLength X (load rec′))) (k .job) (s .least))
     stepped-says rec k (lacking H l q) =
         let e : wiresIn rec ≡ g = same-greatest rec (wiresIn rec) k H in
         few e (omega (arith, ap chosenCount (k .job))) q

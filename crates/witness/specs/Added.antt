@@ -34,7 +34,7 @@ module _ (rec : List ℕ) (g : Legal rec) where
   abbrev J : Job
   J = jobOf rec
 
-  held : Held J rec
+  pub held : Held J rec
   held =
       record {
         fits = g .values .array;
@@ -48,7 +48,7 @@ module _ (rec : List ℕ) (g : Legal rec) where
 
   module _ (rec′ : List ℕ) (k : SameButLoads rec rec′) where
     -- where only load bytes differ, it is the loads that make the record legal
-    kept-legal : BytesFit rec′ → Feasible J (load rec′) → LoopFree J rec′ → Legal rec′
+    pub kept-legal : BytesFit rec′ → Feasible J (load rec′) → LoopFree J rec′ → Legal rec′
     kept-legal bytes feasible free =
         record {
           long = omega (arith, g .long, k .size);
@@ -72,7 +72,7 @@ module _ (rec : List ℕ) (g : Legal rec) where
         to P p = subst P (sym (k .job)) p
 
     -- nothing is written behind the record
-    kept-rest : Legal rec′ → (new : List ℕ) × (length new ≡ recordSize) × (rec′ ≡ over new rec)
+    pub kept-rest : Legal rec′ → (new : List ℕ) × (length new ≡ recordSize) × (rec′ ≡ over new rec)
     kept-rest h = (new, size, legal-record rec′ h ∙ ap (λ (l : List ℕ). new ++ l) same)
       where
         new : List ℕ
@@ -99,7 +99,7 @@ module _ (rec : List ℕ) (g : Legal rec) where
       and-both (eqb i r) (eqb j c) (subst (λ (x : ℕ). T (eqb i x)) m (eqb-refl i)) (subst (λ (x : ℕ). T (eqb j x)) n (eqb-refl j))
 
   -- a pin that is not chosen has no wire
-  idle : (f : Step → ℕ) (r c : ℕ) → T (not (isChosen J r c)) → isWired J f r c ≡ false
+  pub idle : (f : Step → ℕ) (r c : ℕ) → T (not (isChosen J r c)) → isWired J f r c ≡ false
   unfolding isWired
   idle f r c n = by (isChosen J r c) (ltb 0 (departures f (at pin r c))) n
     where

@@ -11,6 +11,10 @@ pub mod Untangled
 pub mod NextWire
 pub mod Added
 pub mod Most
+-- The least length, where every chosen pin is wired.
+pub mod Tight
+pub mod Complete
+pub mod LeastRecord
 -- The service, and demand 3 of it.
 pub mod Served
 pub mod Demand

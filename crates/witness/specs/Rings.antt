@@ -54,7 +54,7 @@ module _ (G : Net) (E : ℕ → Bool) where
   walk-in S c t (onto d k l p e) = subst (λ (x : ℕ). T (S x)) e (c d l (walk-in S c t k) p)
 
   -- what u leads to
-  reach-of : (u : ℕ) → Closure G E (λ v. eqb u v) (Walk u)
+  pub reach-of : (u : ℕ) → Closure G E (λ v. eqb u v) (Walk u)
   reach-of u = closure G E (Walk u) (λ d l k t. onto d k l t refl) (λ v. eqb u v) (λ v t. start (eqb→eq u v t))
 
   -- how many nodes u leads to

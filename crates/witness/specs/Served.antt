@@ -25,6 +25,7 @@ use Rattle.witness.specs.Damage.{legal?}
 use Rattle.witness.specs.Verdicts.{reading}
 use Rattle.witness.specs.Added.{Full, add-or-full}
 use Rattle.witness.specs.Most.{wires-chosen, Most, most}
+use Rattle.witness.specs.LeastRecord.{shortened}
 
 -- a call on a record is refused by 1 where it is damaged
 on : (rec scratch output : List ℕ) (Accepts : After → Type 0) → (Legal rec → (a : After) × Accepts a) → (a : After) × On rec scratch output a (Accepts a)
@@ -43,7 +44,10 @@ module _ (rec : List ℕ) where
       by : ((rec′ : List ℕ) × OneMore rec rec′) ⊎ Full rec g → Dec (wiresIn rec < chosenCount (jobOf rec)) → (w : Answer) × (rec′ : List ℕ) × Stepped rec w rec′
       by (inl (rec′, A)) d = (added, rec′, adds A)
       by (inr F) (yes l) = (short, rec, lacking (F .greatest) l refl)
-      by (inr F) (no n) = (allWired, rec, stays (omega (arith, wires-chosen (jobOf rec) (load rec))) refl)
+      by (inr F) (no n) =
+          let e : wiresIn rec ≡ chosenCount (jobOf rec) = omega (arith, wires-chosen (jobOf rec) (load rec)) in
+          let (rec′, s) = shortened rec g e in
+          (allWired, rec′, stays e s)
 
   steps : (scratch : List ℕ) → Legal rec → (a : After) × Steps scratch rec a
   steps scratch g = by (decLe scratchSize (length scratch)) (stepped g)

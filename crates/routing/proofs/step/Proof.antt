@@ -4,7 +4,7 @@ use lib.Seq.{length-take-le}
 use borrow.Author.Tests.{not-true, not-false}
 use Rattle.model.specs.Record.{Legal}
 use Rattle.answers.specs.Outcomes.{on-damaged, on-legal}
-use Rattle.routing.specs.Wiring.{step-small, step-enough, step-added, step-full, step-all, step-short}
+use Rattle.routing.specs.Wiring.{step-small, step-enough, step-added, step-full, step-complete, step-all, step-short}
 use denote.Ref.{now}
 use borrow.Author.Needs.{needs}
 use Rattle.routing.proofs.step.Statement.{statement}
@@ -69,6 +69,14 @@ lacking-requires c κs =
     let c12 = c5 .before .before .before .before .before .before .before in
     subst Legal (sym (step-full (c5 .step .ensures) (c1 .enum-told .given .1) .0)) (c12 .before .sound .ensures .yes (not-false _ (c12 .if1 .left)))
 
+shorten-requires : tie.Need-shorten-requires
+shorten-requires c κs =
+    let c4 = c .before .before .before .before in
+    let c8 = c .before .before .before .before .before .before .before .before in
+    let c15 = c .before .before .before .before .before .before .before .before .before .before .before .before .before .before .before in
+    let (q, G) = step-full (c8 .step .ensures) (c4 .enum-told .given .1) in
+    (subst Legal (sym q) (c15 .before .sound .ensures .yes (not-false _ (c15 .if1 .left))), step-complete q G (c .before .before .lacking .ensures) (c .before .if3 .taken))
+
 same-length-5 : tie.Need-same-length-5
 same-length-5 c = search needs
 
@@ -77,14 +85,14 @@ same-length-6 c = search needs
 
 returns-4 : tie.Need-returns-4
 returns-4 c =
-    let c3 = c .before .before .before in
-    let c7 = c3 .before .before .before .before in
-    let c11 = c7 .before .before .before .before in
-    let c13 = c11 .before .before in
-    let c14 = c13 .before in
-    let (q, G) = step-full (c7 .step .ensures) (c3 .enum-told .given .1) in
-    on-legal (c14 .before .sound .ensures .yes (not-false _ (c14 .if1 .left)))
-    (step-enough (c13 .if2 .left) (c11 .clear .ensures) (step-all q G (c .before .lacking .ensures) (c .if3 .taken)))
+    let c7 = c .before .before .before .before .before .before .before in
+    let c11 = c .before .before .before .before .before .before .before .before .before .before .before in
+    let c15 = c .before .before .before .before .before .before .before .before .before .before .before .before .before .before .before in
+    let c17 = c .before .before .before .before .before .before .before .before .before .before .before .before .before .before .before .before .before in
+    let c18 = c .before .before .before .before .before .before .before .before .before .before .before .before .before .before .before .before .before .before in
+    let (q, G) = step-full (c11 .step .ensures) (c7 .enum-told .given .1) in
+    on-legal (c18 .before .sound .ensures .yes (not-false _ (c18 .if1 .left)))
+    (step-enough (c17 .if2 .left) (c15 .clear .ensures) (step-all q G (c .before .before .before .before .before .lacking .ensures) (c .before .before .before .before .if3 .taken) (c .before .before .shorten .ensures)))
 
 same-length-7 : tie.Need-same-length-7
 same-length-7 c = search needs
@@ -122,6 +130,7 @@ step-spec =
     same-length-4
     returns-3
     lacking-requires
+    shorten-requires
     same-length-5
     same-length-6
     returns-4
