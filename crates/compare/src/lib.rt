@@ -2,3 +2,4 @@
 pub mod lent; // the operations on parts of a buffer
 pub mod listed; // the router's listings
 pub mod said; // answers as numbers
+pub mod shortened; // what an "all wired" leaves

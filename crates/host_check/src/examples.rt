@@ -3,6 +3,7 @@ use check::same;
 use talusdish::exports::talusdish_close;
 use talusdish::exports::talusdish_diagonal;
 use talusdish::exports::talusdish_lay;
+use talusdish::exports::talusdish_listing;
 use talusdish::exports::talusdish_mark;
 use talusdish::exports::talusdish_new;
 use talusdish::exports::talusdish_part;
@@ -12,6 +13,7 @@ use talusdish::exports::talusdish_step;
 use talusdish::exports::talusdish_write_text;
 use verdict::bytes::Tally;
 use verdict::bytes::hold;
+use verdict::bytes::span;
 
 type Bytes = [u8; 32768];
 
@@ -60,6 +62,17 @@ fn ranges(tally: &mut Tally) {
     hold(tally, word == 1, b"new on a short record");
     hold(tally, same(&short, &[7u8; 32767]), b"a refused new");
 }
+
+// All four pins chosen, and the listing of their wires.
+const FOUR: [u8; 90] =
+    *b"(array (pins 2 2) (caps 1 2 0))\n(chosen 0 0)\n(chosen 0 1)\n(chosen 1 0)\n(chosen 1 1)\n(end)\n";
+
+const FOUR_LISTED: [u8; 140] =
+    *b"(wires 4)\n(wire (pin 0 0) (out p 0))\n(wire (pin 0 1) (out p 0))\n(wire (pin 1 0) (out p 0))\n(wire (pin 1 1) (out p 0))\n(length 0)\n(mean 0 0)\n";
+
+// A pin whose wire goes over two sides round an idle pin, and over the rim.
+const ROUND: [u8; 135] =
+    *b"(array (pins 3 4) (caps 1 2 1))\n(chosen 1 1)\n(closed 0 0)\n(closed 1 0)\n(closed 1 1)\n(laid 0 1 n 1)\n(laid 0 2 n 1)\n(laid 0 2 e 1)\n(end)\n";
 
 // Read text gives the word; the text stands for what came out wrong.
 fn reads(tally: &mut Tally, rec: &mut Bytes, text: &[u8], expected: u64) {
@@ -263,6 +276,57 @@ fn east(tally: &mut Tally) {
     lists(tally, &rec, 2, 2, 4, 1);
 }
 
+// The listing gives the word, and the output begins so.
+fn listed(tally: &mut Tally, rec: &Bytes, output: &mut [u8], expected: u64, begins: &[u8]) {
+    let word = talusdish_listing(rec, output);
+    hold(tally, word == expected, b"an example of listing");
+    hold(tally, same(span(output, 0, begins.len()), begins), begins);
+}
+
+// The listing of four direct exits, and nothing where a byte is wanting.
+fn four(tally: &mut Tally) {
+    let mut rec = [7u8; 32768];
+    let mut output = [9u8; 200];
+    let mut short = [9u8; 139];
+    reads(tally, &mut rec, &FOUR, 0);
+    steps(tally, &mut rec, 0);
+    steps(tally, &mut rec, 0);
+    steps(tally, &mut rec, 0);
+    steps(tally, &mut rec, 0);
+    steps(tally, &mut rec, 256);
+    listed(tally, &rec, &mut short, 7, &[9u8; 139]);
+    listed(tally, &rec, &mut output, 256 * 140, &FOUR_LISTED);
+}
+
+fn is_same(a: &Bytes, b: &Bytes) -> bool {
+    same(a, b)
+}
+
+// The last lines of the listing are these.
+fn ends_with(tally: &mut Tally, rec: &Bytes, last: &[u8]) {
+    let mut output = [9u8; 1000];
+    let word = talusdish_listing(rec, &mut output);
+    let from = std::num::wrapping_sub_usize((word / 256) as usize, last.len());
+    hold(tally, word % 256 == 0, b"an example of listing");
+    hold(tally, same(span(&output, from, last.len()), last), last);
+}
+
+// The wire of a pin goes round the pin to its east; once that is missing, an "all wired" leads it past, 14 for two sides, and the next moves nothing.
+fn shorter(tally: &mut Tally) {
+    let mut rec = [7u8; 32768];
+    reads(tally, &mut rec, &ROUND, 0);
+    steps(tally, &mut rec, 0);
+    steps(tally, &mut rec, 256);
+    ends_with(tally, &rec, b"(length 30)\n(mean 30 0)\n");
+    marks(tally, &mut rec, 1, 2, 2, 0);
+    ends_with(tally, &rec, b"(length 30)\n(mean 30 0)\n");
+    steps(tally, &mut rec, 256);
+    ends_with(tally, &rec, b"(length 24)\n(mean 24 0)\n");
+    let before = rec;
+    steps(tally, &mut rec, 256);
+    hold(tally, is_same(&rec, &before), b"the next all wired");
+}
+
 pub fn examples(tally: &mut Tally) {
     ranges(tally);
     texts(tally);
@@ -273,4 +337,6 @@ pub fn examples(tally: &mut Tally) {
     shared(tally);
     kept(tally);
     east(tally);
+    four(tally);
+    shorter(tally);
 }

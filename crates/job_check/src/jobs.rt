@@ -1,4 +1,4 @@
-// Random jobs: each is read from the oracle's text, stepped to the end, and held to the oracle's greatest number, near side and listing.
+// Random jobs: each is read from the oracle's text, stepped to the end, and held to the oracle's greatest number, near side, least length and listing.
 use crate::legs::lay_north;
 use crate::parts::list_by_parts;
 use check::same;
@@ -17,9 +17,14 @@ use compare::said::REFUSED;
 use compare::said::SHORT;
 use compare::said::WROTE;
 use compare::said::is;
+use compare::shortened::Found;
+use compare::shortened::hold_shortened;
+use compare::shortened::length_of;
 use judge::listing::check_listing;
 use judge::walk::LEGAL;
 use oracle::near::shortfall;
+use oracle_length::least::least_length;
+use oracle_length::lines::total_lines;
 use oracle_text::job::CHOSEN;
 use oracle_text::job::Job;
 use oracle_text::job::blank;
@@ -43,10 +48,15 @@ use verdict::record::holds_job;
 use verdict::record::holds_unwired;
 use verdict::record::legal;
 
+// What the oracle says of a job: how many chosen pins no wire is left for, and where none, the least length.
+struct Asked {
+    missed: usize,
+    least: usize,
+}
+
 // One step, of which the answer has to be this.
-fn step(tally: &mut Tally, rec: &mut Record, job: &Job, expected: usize) {
+fn step(tally: &mut Tally, rec: &mut Record, expected: usize) {
     let mut scratch = [9u8; 65540];
-    let before = *rec;
     hold(
         tally,
         is(service::step(rec, &mut scratch), expected, 0),
@@ -57,10 +67,39 @@ fn step(tally: &mut Tally, rec: &mut Record, job: &Job, expected: usize) {
         split_at(&scratch, 65536, 0, 9),
         b"step clears the scratch",
     );
-    if expected == ADDED {
-        hold_added(tally, &before, rec, job);
+}
+
+// A step that adds a wire.
+fn step_more(tally: &mut Tally, rec: &mut Record, job: &Job) {
+    let before = *rec;
+    step(tally, rec, ADDED);
+    hold_added(tally, &before, rec, job);
+}
+
+fn is_same(a: &Record, b: &Record) -> bool {
+    same(a, b)
+}
+
+// The step after which no other changes anything: "all wired", which leaves the least length, or "short".
+fn step_last(
+    tally: &mut Tally,
+    found: &mut Found,
+    rec: &mut Record,
+    job: &Job,
+    asked: Asked,
+    page: &mut Page,
+) {
+    let before = *rec;
+    if asked.missed == 0 {
+        step(tally, rec, ALL_WIRED);
+        hold_shortened(tally, found, &before, rec, job, asked.least, page);
     } else {
-        hold(tally, same(&before, rec), b"the last step changes nothing");
+        step(tally, rec, SHORT);
+        hold(
+            tally,
+            is_same(&before, rec),
+            b"a short step changes nothing",
+        );
     }
 }
 
@@ -103,7 +142,7 @@ fn ask_listing(tally: &mut Tally, rec: &Record, job: &Job, page: &mut Page) -> u
 
 fn steps(tally: &mut Tally, rec: &mut Record, job: &Job, n: usize) {
     for k in 0..n {
-        step(tally, rec, job, ADDED);
+        step_more(tally, rec, job);
     }
 }
 
@@ -127,10 +166,30 @@ fn ask_route(tally: &mut Tally, rec: &mut Record, missed: usize, near: &[u8; 327
     );
 }
 
+// The wires laid at once have the least length, where every chosen pin has one.
+fn ask_least(tally: &mut Tally, rec: &Record, job: &Job, asked: Asked, page: &mut Page) {
+    if asked.missed == 0 {
+        hold(
+            tally,
+            length_of(rec, job, page) == asked.least,
+            b"the route has the least length",
+        );
+    }
+}
+
 // A copy of the record with all wires laid at once.
-fn ask_copy(tally: &mut Tally, rec: &Record, job: &Job, missed: usize, near: &[u8; 32768]) {
+fn ask_copy(
+    tally: &mut Tally,
+    rec: &Record,
+    job: &Job,
+    asked: Asked,
+    near: &[u8; 32768],
+    page: &mut Page,
+) {
+    let missed = asked.missed;
     let mut copy = *rec;
     ask_route(tally, &mut copy, missed, near);
+    ask_least(tally, &copy, job, asked, page);
     hold(tally, holds_job(&copy, job), b"the route keeps the job");
     hold(tally, legal(&copy), b"the route is legal");
     let n = std::num::wrapping_add_usize(count_wires(&copy), missed);
@@ -142,11 +201,18 @@ fn ask_copy(tally: &mut Tally, rec: &Record, job: &Job, missed: usize, near: &[u
 }
 
 // The same from wires of rim pins that leave by a leg.
-fn ask_legs(tally: &mut Tally, rec: &Record, job: &Job, missed: usize, near: &[u8; 32768]) {
+fn ask_legs(
+    tally: &mut Tally,
+    rec: &Record,
+    job: &Job,
+    asked: Asked,
+    near: &[u8; 32768],
+    page: &mut Page,
+) {
     let mut laid = *rec;
     lay_north(&mut laid, job);
     hold(tally, legal(&laid), b"the wires of legs are legal");
-    ask_copy(tally, &laid, job, missed, near);
+    ask_copy(tally, &laid, job, asked, near, page);
 }
 
 // The most steps taken in one job; what is left is then laid at once.
@@ -159,12 +225,14 @@ fn least(a: usize, b: usize) -> usize {
 // Steps to the end, with Shortfall asked at the start, half way and at the end.
 fn step_on(
     tally: &mut Tally,
+    found: &mut Found,
     rec: &mut Record,
     job: &Job,
-    missed: usize,
+    asked: Asked,
     near: &[u8; 32768],
     page: &mut Page,
 ) {
+    let missed = asked.missed;
     let greatest = std::num::wrapping_sub_usize(count_marked(job, CHOSEN), missed);
     let n = least(greatest, MOST);
     ask_shortfall(tally, rec, missed, near);
@@ -176,7 +244,7 @@ fn step_on(
         ask_route(tally, rec, missed, near);
     }
     ask_shortfall(tally, rec, missed, near);
-    step(tally, rec, job, if missed == 0 { ALL_WIRED } else { SHORT });
+    step_last(tally, found, rec, job, asked, page);
     hold(tally, count_wires(rec) == greatest, b"the greatest number");
 }
 
@@ -206,13 +274,16 @@ fn ask_text(tally: &mut Tally, rec: &Record, text: &[u8]) {
     hold(tally, same(&more, &out), b"write text leaves the rest");
 }
 
-// The listing again, from what Part answers.
+// The listing again, from what Part answers, with the length that its parts have by the oracle.
 fn ask_parts(tally: &mut Tally, rec: &Record, job: &Job, list: &[u8]) {
     let mut sheet = [0u8; 262144];
-    let n = list_by_parts(rec, job, count_wires(rec), &mut sheet);
+    let w = check_listing(&only_wired(rec, job), list);
+    let wires = count_wires(rec);
+    let n = list_by_parts(rec, job, wires, &mut sheet);
+    let m = total_lines(&mut sheet, n, wires, w.length as usize);
     hold(
         tally,
-        same(held(&sheet, n), list),
+        same(held(&sheet, m), list),
         b"the parts are the listing",
     );
 }
@@ -225,22 +296,36 @@ fn count_exits(exits: &mut Tally, rec: &Record) {
     exits[1] = std::num::wrapping_add_u64(exits[1], m as u64);
 }
 
+// The least length of a job that lacks this many wires; 0 where it lacks some.
+fn least_of(job: &Job, missed: usize) -> usize {
+    if missed == 0 { least_length(job) } else { 0 }
+}
+
 // All that is asked of one job; of the parts only where they are few.
-fn judge(tally: &mut Tally, exits: &mut Tally, job: &Job, page: &mut Page, parts: bool) {
+fn judge(
+    tally: &mut Tally,
+    exits: &mut Tally,
+    found: &mut Found,
+    job: &Job,
+    page: &mut Page,
+    parts: bool,
+) {
     let mut sheet = [0u8; 262144];
     let mut near = [0u8; 32768];
     let mut rec = [BEYOND; 32800];
     let n = write_text(job, &mut sheet);
     let missed = shortfall(job, &mut near);
+    let least = least_of(job, missed);
+    let asked = Asked { missed, least };
     hold(
         tally,
         is(service::read_text(&mut rec, held(&sheet, n)), DONE, 0),
         b"read text answers",
     );
     hold(tally, holds_unwired(&rec, job), b"read text gives the job");
-    ask_copy(tally, &rec, job, missed, &near);
-    ask_legs(tally, &rec, job, missed, &near);
-    step_on(tally, &mut rec, job, missed, &near, page);
+    ask_copy(tally, &rec, job, asked, &near, page);
+    ask_legs(tally, &rec, job, asked, &near, page);
+    step_on(tally, found, &mut rec, job, asked, &near, page);
     count_exits(exits, &rec);
     let m = ask_listing(tally, &rec, job, page);
     ask_text(tally, &rec, held(&sheet, n));
@@ -277,24 +362,32 @@ fn own_some(seed: u32, k: usize, job: &mut Job) -> u32 {
 }
 
 // The k-th job; gives the generator's number afterwards.
-fn draw(tally: &mut Tally, exits: &mut Tally, page: &mut Page, seed: u32, k: usize) -> u32 {
+fn draw(
+    tally: &mut Tally,
+    exits: &mut Tally,
+    found: &mut Found,
+    page: &mut Page,
+    seed: u32,
+    k: usize,
+) -> u32 {
     let mut job = blank();
     let wrong = tally[1];
     let then = random_job(seed, size(k), &mut job);
     let last = lay_some(then, k, &mut job);
     let next = own_some(last, k, &mut job);
-    judge(tally, exits, &job, page, k % 32 == 0);
+    judge(tally, exits, found, &job, page, k % 32 == 0);
     if tally[1] != wrong {
         line(b"in the random job", seed as u64);
     }
     next
 }
 
-// Random jobs, each drawn with the number that the one before left. `exits` counts the wires at the end: those that leave directly, and the others.
-pub fn jobs(tally: &mut Tally, exits: &mut Tally) {
+// Random jobs, each drawn with the number that the one before left. `exits` counts the wires at the end: those that leave directly, and the others; `found` what an
+// "all wired" finds.
+pub fn jobs(tally: &mut Tally, exits: &mut Tally, found: &mut Found) {
     let mut page = [0u8; 1048576];
     let mut seed = 2463534242;
     for k in 0..3000 {
-        seed = draw(tally, exits, &mut page, seed, k);
+        seed = draw(tally, exits, found, &mut page, seed, k);
     }
 }

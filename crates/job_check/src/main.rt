@@ -6,6 +6,7 @@ mod legs; // wires of rim pins that leave by a leg
 mod parts; // the listing by Part
 mod vectors; // the vectors of data/
 
+use compare::shortened::tell_found;
 use verdict::bytes::line;
 use verdict::bytes::tell;
 
@@ -15,10 +16,12 @@ fn main() {
     tell(b"vectors", &vectors);
     let mut jobs = [0u64; 2];
     let mut exits = [0u64; 2];
-    jobs::jobs(&mut jobs, &mut exits);
+    let mut found = [0u64; 2];
+    jobs::jobs(&mut jobs, &mut exits, &mut found);
     tell(b"random jobs", &jobs);
     line(b"wires that leave directly", exits[0]);
     line(b"wires that leave by a side", exits[1]);
+    tell_found(&found);
     let mut damage = [0u64; 2];
     let mut kept = [0u64; 2];
     damage::damage(&mut damage, &mut kept);

@@ -1,20 +1,23 @@
-// The vectors of data/: NAME.job with NAME.expect, what `escape` prints for it, of a wired job the first line alone. A wired job's listing has to be legal.
+// The vectors of data/: NAME.job with NAME.expect, what `escape` prints for it, of a wired job the first line, and from K8 on the last two. A wired job's listing has
+// to be legal, and of the least length.
 use check::same;
 use compare::listed::Page;
 use compare::listed::held;
 use compare::listed::list_text;
 use compare::listed::shown;
-use judge::listing::check_listing;
+use judge::listing::check_least;
 use judge::walk::LEGAL;
 use oracle_text::job::blank;
 use oracle_text::page::Page as Sheet;
 use oracle_text::page::byte;
 use oracle_text::page::decimal;
 use oracle_text::page::word;
+use oracle_text::scan::scan;
 use oracle_text::text::read_text;
 use verdict::bytes::Tally;
 use verdict::bytes::first;
 use verdict::bytes::hold;
+use verdict::bytes::rest;
 
 // Reads the file of the vector `name` that has this ending, and gives its length.
 fn load(name: &[u8], ending: &[u8], sheet: &mut Sheet) -> usize {
@@ -31,12 +34,20 @@ fn load(name: &[u8], ending: &[u8], sheet: &mut Sheet) -> usize {
     n
 }
 
-// The listing of a wired job begins as expected and is legal.
+// The listing begins with the first line that is expected, and ends with the other lines.
+fn frames(expected: &[u8], list: &[u8]) -> bool {
+    let f = scan(expected, 0, b"(wires #)\n");
+    let last = rest(expected, f.at);
+    let from = std::num::wrapping_sub_usize(list.len(), last.len());
+    f.fits && same(first(list, f.at), first(expected, f.at)) && same(rest(list, from), last)
+}
+
+// The listing of a wired job is as expected, legal, and of the least length.
 fn is_wired(text: &[u8], expected: &[u8], list: &[u8]) -> bool {
     let mut job = blank();
     read_text(text, &mut job);
-    let w = check_listing(&job, list);
-    same(first(list, expected.len()), expected) && w.fault == LEGAL
+    let w = check_least(&job, list);
+    frames(expected, list) && w.fault == LEGAL
 }
 
 // The router's listing of the text is the expected one.
@@ -88,6 +99,8 @@ pub fn vectors(tally: &mut Tally) {
     series(tally, &mut page, b"K3/text", 8);
     series(tally, &mut page, b"K7/job", 12);
     series(tally, &mut page, b"K7/text", 8);
+    series(tally, &mut page, b"K8/job", 16);
+    series(tally, &mut page, b"K8/text", 4);
     series(tally, &mut page, b"K9/job", 14);
     series(tally, &mut page, b"K9/text", 6);
 }

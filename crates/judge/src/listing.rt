@@ -1,9 +1,11 @@
 // The check of a listing: the wires that `escape` prints for a job whose chosen pins all have one. Every step has to be
-// an arc of the job, taken the way it leads, and what the wires use of each link has to keep its limit and fill its lanes.
+// an arc of the job, taken the way it leads, and what the wires use of each link has to keep its limit and fill its lanes. The
+// two lines behind the wires have to be their total length and mean.
 use crate::rounds::are_paired;
 use crate::rounds::coming;
 use crate::rounds::join;
 use crate::rounds::leaving;
+use crate::totals::judge_total;
 use crate::walk::BOTH_WAYS;
 use crate::walk::LANE_SKIPPED;
 use crate::walk::LANE_TWICE;
@@ -11,6 +13,7 @@ use crate::walk::LEGAL;
 use crate::walk::NO_LINK;
 use crate::walk::NO_PLACE;
 use crate::walk::NOT_ENDED;
+use crate::walk::NOT_LEAST;
 use crate::walk::NOT_PAIRED;
 use crate::walk::OVER_LIMIT;
 use crate::walk::PLACE_TWICE;
@@ -41,6 +44,7 @@ use oracle::sheet::WAY;
 use oracle::sheet::count;
 use oracle::sheet::read;
 use oracle::sheet::write;
+use oracle_length::least::least_length;
 use oracle_text::job::CHOSEN;
 use oracle_text::job::Job;
 use oracle_text::job::count_marked;
@@ -217,6 +221,21 @@ fn judge_all(m: &Sheet) -> usize {
     fault
 }
 
+// Checks what the wires use together, and the lines behind them.
+fn judge_end(m: &mut Sheet, job: &Job, text: &[u8], w: Walk) -> usize {
+    if w.pin < 1600 {
+        return NOT_ENDED;
+    }
+    let fault = judge_all(m);
+    if fault != LEGAL {
+        return fault;
+    }
+    if !are_paired(m) {
+        return NOT_PAIRED;
+    }
+    judge_total(text, w.at, count_marked(job, CHOSEN), w.length as usize)
+}
+
 // Checks the listing of a wired job. The fault is LEGAL where every chosen pin has one legal wire; the length is that of
 // the wires together.
 pub fn check_listing(job: &Job, text: &[u8]) -> Walk {
@@ -238,12 +257,14 @@ pub fn check_listing(job: &Job, text: &[u8]) -> Walk {
     if w.fault != LEGAL {
         return w;
     }
-    if w.pin < 1600 || w.at != text.len() {
-        return at_fault(w, NOT_ENDED);
+    at_fault(w, judge_end(&mut m, job, text, w))
+}
+
+// The same, of wires that have to have the least length together.
+pub fn check_least(job: &Job, text: &[u8]) -> Walk {
+    let w = check_listing(job, text);
+    if w.fault == LEGAL && w.length as usize != least_length(job) {
+        return at_fault(w, NOT_LEAST);
     }
-    let fault = judge_all(&m);
-    if fault == LEGAL && !are_paired(&mut m) {
-        return at_fault(w, NOT_PAIRED);
-    }
-    at_fault(w, fault)
+    w
 }

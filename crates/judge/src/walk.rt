@@ -27,6 +27,10 @@ pub const NOT_ENDED: usize = 11;
 
 pub const NOT_PAIRED: usize = 12;
 
+pub const WRONG_TOTAL: usize = 13;
+
+pub const NOT_LEAST: usize = 14;
+
 // How far the check is: the offset, the pin whose wire is checked, the node that the wire has come to (START between
 // two wires) and its position round that node, the length so far, and what is wrong.
 pub struct Walk {

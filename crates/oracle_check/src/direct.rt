@@ -52,24 +52,34 @@ fn faulty(counts: &mut Judged, text: &[u8], list: &[u8], fault: usize) {
 
 // What leaves as it may.
 fn allowed(counts: &mut Judged) {
-    legal(counts, &SHUT, b"(wires 1)\n(wire (pin 0 0) (out p 0))\n", 0);
-    legal(counts, &OPEN, b"(wires 1)\n(wire (pin 0 0) (out p 0))\n", 0);
+    legal(
+        counts,
+        &SHUT,
+        b"(wires 1)\n(wire (pin 0 0) (out p 0))\n(length 0)\n(mean 0 0)\n",
+        0,
+    );
     legal(
         counts,
         &OPEN,
-        b"(wires 1)\n(wire (pin 0 0) (to 0 0 n 0) (out n 0))\n",
+        b"(wires 1)\n(wire (pin 0 0) (out p 0))\n(length 0)\n(mean 0 0)\n",
+        0,
+    );
+    legal(
+        counts,
+        &OPEN,
+        b"(wires 1)\n(wire (pin 0 0) (to 0 0 n 0) (out n 0))\n(length 10)\n(mean 10 0)\n",
         10,
     );
     legal(
         counts,
         &RIMS,
-        b"(wires 4)\n(wire (pin 0 2) (out p 0))\n(wire (pin 1 0) (out p 0))\n(wire (pin 1 3) (out p 0))\n(wire (pin 2 1) (out p 0))\n",
+        b"(wires 4)\n(wire (pin 0 2) (out p 0))\n(wire (pin 1 0) (out p 0))\n(wire (pin 1 3) (out p 0))\n(wire (pin 2 1) (out p 0))\n(length 0)\n(mean 0 0)\n",
         0,
     );
     legal(
         counts,
         &INNER,
-        b"(wires 1)\n(wire (pin 2 2) (to 2 2 n 0) (to 2 2 c 0) (to 2 2 e 0) (out e 0))\n",
+        b"(wires 1)\n(wire (pin 2 2) (to 2 2 n 0) (to 2 2 c 0) (to 2 2 e 0) (out e 0))\n(length 10)\n(mean 10 0)\n",
         10,
     );
 }

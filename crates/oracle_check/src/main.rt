@@ -1,9 +1,10 @@
-// Runs the oracle on the vectors of data/: NAME.job with NAME.expect, what `escape` is to print for it (of a wired job only
-// the first line), and for a wired job NAME.list, a legal listing. It writes the name of each vector that does not agree
-// and how many do: texts refused, jobs short, jobs wired. Then it changes each byte of three listings, all of which have to be
-// refused, has listings with direct exits judged, and random jobs written and read back, and the sum of each near side compared
-// with the greatest number.
+// Runs the oracle on the vectors of data/: NAME.job with NAME.expect, what `escape` is to print for it (of a wired job the first
+// line and from K8 on the last two; else the first alone, and beside it NAME.list, a legal listing). It writes the name of each
+// vector that does not agree and how many do: texts refused, jobs short, jobs wired. Then it changes each byte of three listings,
+// all of which have to be refused, has listings with direct exits and least lengths judged, and random jobs written and read
+// back, and the sum of each near side compared with the greatest number.
 mod direct; // listings with direct exits
+mod lengths; // least lengths
 
 use check::same;
 use judge::listing::check_listing;
@@ -13,6 +14,8 @@ use oracle::lines::refused_listing;
 use oracle::lines::short_listing;
 use oracle::near::shortfall;
 use oracle::near::sum_of;
+use oracle_length::least::least_length;
+use oracle_length::lines::total_lines;
 use oracle_text::job::CHOSEN;
 use oracle_text::job::Job;
 use oracle_text::job::blank;
@@ -96,15 +99,24 @@ fn short(name: &[u8], job: &Job, missed: usize, near: &[u8; 32768]) -> usize {
     }
 }
 
+// The listing beside the vector is legal, and no shorter than the least length.
+fn is_listed(name: &[u8], job: &Job) -> bool {
+    let mut list = [0u8; 262144];
+    let n = load_vector(name, b".list", &mut list);
+    let w = check_listing(job, bytes(&list, n));
+    w.fault == LEGAL && w.length as usize >= least_length(job)
+}
+
 fn wired(name: &[u8], job: &Job) -> usize {
     let mut mine = [0u8; 262144];
+    let wires = count_marked(job, CHOSEN);
     let a = word(&mut mine, 0, b"(wires ");
-    let b = decimal(&mut mine, a, count_marked(job, CHOSEN));
+    let b = decimal(&mut mine, a, wires);
     let c = word(&mut mine, b, b")\n");
+    let d = total_lines(&mut mine, c, wires, least_length(job));
+    let whole = is_file(name, b".expect", bytes(&mine, d));
     let first = is_file(name, b".expect", bytes(&mine, c));
-    let n = load_vector(name, b".list", &mut mine);
-    let w = check_listing(job, bytes(&mine, n));
-    if first && w.fault == LEGAL {
+    if whole || first && is_listed(name, job) {
         WIRED
     } else {
         WRONG
@@ -179,6 +191,8 @@ fn vectors() {
     run(&mut counts, b"four");
     series(&mut counts, b"K2/job", 16);
     series(&mut counts, b"K2/text", 4);
+    series(&mut counts, b"K8/job", 16);
+    series(&mut counts, b"K8/text", 4);
     line(b"refused", counts[0]);
     line(b"short", counts[1]);
     line(b"wired", counts[2]);
@@ -280,11 +294,24 @@ fn direct_exits() {
     line(b"direct exits misjudged", counts[1]);
 }
 
+fn least_lengths() {
+    let mut counts = [0u64; 2];
+    lengths::examples(&mut counts);
+    line(b"least lengths judged", counts[0]);
+    line(b"least lengths misjudged", counts[1]);
+    let mut random = [0u64; 3];
+    lengths::random(&mut random);
+    line(b"random least lengths right", random[0]);
+    line(b"random least lengths wrong", random[1]);
+    line(b"random jobs that cannot be wired", random[2]);
+}
+
 fn main() {
     vectors();
     spoil(b"four");
     spoil(b"job003");
     spoil(b"K2/job05");
     direct_exits();
+    least_lengths();
     random();
 }

@@ -29,15 +29,22 @@ use compare::lent::write_on;
 use compare::listed::Page;
 use compare::listed::held;
 use compare::listed::listed;
+use compare::listed::only_wired;
 use compare::listed::shown;
 use compare::said::ADDED;
+use compare::said::ALL_WIRED;
 use compare::said::DONE;
 use compare::said::LACKS;
 use compare::said::LISTS;
 use compare::said::REFUSED;
 use compare::said::Said;
 use compare::said::put_listed;
+use compare::shortened::Found;
+use compare::shortened::hold_shortened;
+use judge::listing::check_listing;
+use judge::walk::LEGAL;
 use oracle::near::shortfall;
+use oracle_length::least::least_length;
 use oracle_text::job::Job;
 use oracle_text::job::fresh;
 use oracle_text::random::below;
@@ -63,7 +70,33 @@ fn hold_scratch(tally: &mut Tally, scratch: &[u8; 65600], kind: usize) {
     hold(tally, split_at(scratch, zeros, 0, 201), b"the scratch");
 }
 
-fn call_step(tally: &mut Tally, rec: &mut Record, job: &Job, seed: u32) -> u32 {
+// The record after a step that answers so.
+pub fn hold_step(
+    tally: &mut Tally,
+    found: &mut Found,
+    before: &Record,
+    rec: &Record,
+    job: &Job,
+    kind: usize,
+    page: &mut Page,
+) {
+    match kind {
+        ADDED => hold_added(tally, before, rec, job),
+        ALL_WIRED => {
+            hold_shortened(tally, found, before, rec, job, least_length(job), page);
+        }
+        _ => hold_same(tally, before, rec),
+    }
+}
+
+fn call_step(
+    tally: &mut Tally,
+    found: &mut Found,
+    rec: &mut Record,
+    job: &Job,
+    page: &mut Page,
+    seed: u32,
+) -> u32 {
     let a = xorshift(seed);
     let b = xorshift(a);
     let n = pick_length(a, 32768, 32800);
@@ -76,11 +109,7 @@ fn call_step(tally: &mut Tally, rec: &mut Record, job: &Job, seed: u32) -> u32 {
     let expected = expect_step(job, n, m, count_wires(&before), missed);
     hold_answer(tally, answer, expected, b"step answers");
     hold_scratch(tally, &scratch, expected.kind);
-    if expected.kind == ADDED {
-        hold_added(tally, &before, rec, job);
-    } else {
-        hold_same(tally, &before, rec);
-    }
+    hold_step(tally, found, &before, rec, job, expected.kind, page);
     b
 }
 
@@ -170,12 +199,14 @@ fn call_write(tally: &mut Tally, rec: &Record, job: &Job, seed: u32) -> u32 {
     b
 }
 
-// The listing of the wires, into an output of any length. `listed` gives the whole, which `job_check` has judged.
-fn call_listing(tally: &mut Tally, rec: &Record, page: &mut Page, seed: u32) -> u32 {
+// The listing of the wires, into an output of any length. `listed` gives the whole, which has to be legal.
+fn call_listing(tally: &mut Tally, rec: &Record, job: &Job, page: &mut Page, seed: u32) -> u32 {
     let a = xorshift(seed);
     let b = xorshift(a);
     let mut output = [90u8; 66000];
     let length = listed(rec, page);
+    let w = check_listing(&only_wired(rec, job), shown(page, length));
+    hold(tally, w.fault == LEGAL, b"the listing is legal");
     let n = pick_length(a, 32768, 32800);
     let m = pick_length(b, length, 66000);
     let answer = list_on(first(rec, n), &mut output, m);
@@ -193,6 +224,7 @@ fn call_listing(tally: &mut Tally, rec: &Record, page: &mut Page, seed: u32) -> 
 // A call of this kind.
 fn call(
     tally: &mut Tally,
+    found: &mut Found,
     kept: &mut Kept,
     rec: &mut Record,
     job: &mut Job,
@@ -205,7 +237,7 @@ fn call(
         1 => call_read(tally, rec, job, seed),
         2 => call_mark(tally, kept, rec, job, seed),
         3 => call_close(tally, kept, rec, job, seed),
-        4 => call_step(tally, rec, job, seed),
+        4 => call_step(tally, found, rec, job, page, seed),
         5 => call_shortfall(tally, rec, job, seed),
         6 => call_part(tally, rec, job, page, seed),
         7 => call_write(tally, rec, job, seed),
@@ -214,7 +246,7 @@ fn call(
         11 => call_diagonal(tally, kept, rec, job, seed),
         12 => call_extra(tally, kept, rec, job, seed),
         13 => make_old(rec, job, seed),
-        _ => call_listing(tally, rec, page, seed),
+        _ => call_listing(tally, rec, job, page, seed),
     }
 }
 
@@ -290,6 +322,7 @@ fn note(direct: &mut Tally, rec: &Record) {
 // The k-th call; gives the generator's number afterwards.
 fn draw(
     tally: &mut Tally,
+    found: &mut Found,
     direct: &mut Tally,
     kept: &mut Kept,
     rec: &mut Record,
@@ -300,7 +333,7 @@ fn draw(
 ) -> u32 {
     let x = xorshift(seed);
     let wrong = tally[1];
-    let next = call(tally, kept, rec, job, page, x, kind_of(x, k));
+    let next = call(tally, found, kept, rec, job, page, x, kind_of(x, k));
     if tally[1] != wrong {
         line(b"in the random call", k as u64);
     }
@@ -310,6 +343,7 @@ fn draw(
 
 fn draw_all(
     tally: &mut Tally,
+    found: &mut Found,
     direct: &mut Tally,
     kept: &mut Kept,
     rec: &mut Record,
@@ -318,17 +352,17 @@ fn draw_all(
 ) {
     let mut seed = 88675123;
     for k in 0..6000 {
-        seed = draw(tally, direct, kept, rec, job, page, seed, k);
+        seed = draw(tally, found, direct, kept, rec, job, page, seed, k);
     }
 }
 
 // A list of calls that starts with an accepted New. `direct` counts them: those after which some wire leaves its pin directly, and the others; `kept` the wires
-// that edits leave and take out.
-pub fn calls(tally: &mut Tally, direct: &mut Tally, kept: &mut Kept) {
+// that edits leave and take out; `found` what an "all wired" finds.
+pub fn calls(tally: &mut Tally, found: &mut Found, direct: &mut Tally, kept: &mut Kept) {
     let mut page = [0u8; 1048576];
     let mut rec = [BEYOND; 32800];
     let mut job = fresh(4, 5, 2, 3, 1);
     let answer = service::new(&mut rec, 4, 5, 2, 3, 1);
     hold(tally, compare::said::is(answer, DONE, 0), b"the first new");
-    draw_all(tally, direct, kept, &mut rec, &mut job, &mut page);
+    draw_all(tally, found, direct, kept, &mut rec, &mut job, &mut page);
 }

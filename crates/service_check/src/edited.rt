@@ -1,4 +1,4 @@
-// Examples of K5 and K7: three wires by one side of a tile, and what edits leave of them.
+// Examples of K5, K7 and K8: three wires by one side of a tile, what edits leave of them, and what an "all wired" makes of them once a shorter way is open.
 use crate::examples::read_into;
 use crate::examples::steps;
 use check::same;
@@ -11,6 +11,7 @@ use compare::said::DONE;
 use compare::said::is;
 use verdict::bytes::Tally;
 use verdict::bytes::hold;
+use verdict::bytes::rest;
 
 type Bytes = [u8; 32768];
 
@@ -19,34 +20,34 @@ const CHANNEL: [u8; 194] =
     *b"(array (pins 5 4) (caps 3 6 0))\n(chosen 2 2)\n(chosen 3 1)\n(chosen 3 2)\n(closed 0 0)\n(closed 0 2)\n(closed 1 0)\n(closed 1 2)\n(closed 2 0)\n(closed 2 2)\n(closed 3 0)\n(closed 3 1)\n(closed 3 2)\n(end)\n";
 
 // Its wires. On the north side of tile 1 1 those of pins 3 1, 3 2 and 2 2 have the lanes 0, 1 and 2.
-const ALL: [u8; 390] =
-    *b"(wires 3)\n(wire (pin 2 2) (to 1 1 s 0) (to 1 1 e 0) (to 1 1 n 0) (to 0 1 s 2) (to 0 1 e 0) (to 0 1 n 0) (out n 2))\n(wire (pin 3 1) (to 2 1 w 0) (to 2 1 n 0) (to 1 1 s 0) (to 1 1 w 0) (to 1 1 n 0) (to 0 1 s 0) (to 0 1 w 0) (to 0 1 n 0) (out n 0))\n(wire (pin 3 2) (to 2 1 s 0) (to 2 1 e 0) (to 2 1 n 0) (to 1 1 s 1) (to 1 1 c 0) (to 1 1 n 0) (to 0 1 s 1) (to 0 1 c 0) (to 0 1 n 0) (out n 1))\n";
+const ALL: [u8; 414] =
+    *b"(wires 3)\n(wire (pin 2 2) (to 1 1 s 0) (to 1 1 e 0) (to 1 1 n 0) (to 0 1 s 2) (to 0 1 e 0) (to 0 1 n 0) (out n 2))\n(wire (pin 3 1) (to 2 1 w 0) (to 2 1 n 0) (to 1 1 s 0) (to 1 1 w 0) (to 1 1 n 0) (to 0 1 s 0) (to 0 1 w 0) (to 0 1 n 0) (out n 0))\n(wire (pin 3 2) (to 2 1 s 0) (to 2 1 e 0) (to 2 1 n 0) (to 1 1 s 1) (to 1 1 c 0) (to 1 1 n 0) (to 0 1 s 1) (to 0 1 c 0) (to 0 1 n 0) (out n 1))\n(length 80)\n(mean 26 2)\n";
 
 // Without that in lane 0: the lanes of the others shrink.
-const WITHOUT_FIRST: [u8; 259] =
-    *b"(wires 2)\n(wire (pin 2 2) (to 1 1 s 0) (to 1 1 e 0) (to 1 1 n 0) (to 0 1 s 1) (to 0 1 e 0) (to 0 1 n 0) (out n 1))\n(wire (pin 3 2) (to 2 1 s 0) (to 2 1 e 0) (to 2 1 n 0) (to 1 1 s 0) (to 1 1 c 0) (to 1 1 n 0) (to 0 1 s 0) (to 0 1 c 0) (to 0 1 n 0) (out n 0))\n";
+const WITHOUT_FIRST: [u8; 283] =
+    *b"(wires 2)\n(wire (pin 2 2) (to 1 1 s 0) (to 1 1 e 0) (to 1 1 n 0) (to 0 1 s 1) (to 0 1 e 0) (to 0 1 n 0) (out n 1))\n(wire (pin 3 2) (to 2 1 s 0) (to 2 1 e 0) (to 2 1 n 0) (to 1 1 s 0) (to 1 1 c 0) (to 1 1 n 0) (to 0 1 s 0) (to 0 1 c 0) (to 0 1 n 0) (out n 0))\n(length 50)\n(mean 25 0)\n";
 
 // Without that in lane 2.
-const WITHOUT_LAST: [u8; 285] =
-    *b"(wires 2)\n(wire (pin 3 1) (to 2 1 w 0) (to 2 1 n 0) (to 1 1 s 0) (to 1 1 w 0) (to 1 1 n 0) (to 0 1 s 0) (to 0 1 w 0) (to 0 1 n 0) (out n 0))\n(wire (pin 3 2) (to 2 1 s 0) (to 2 1 e 0) (to 2 1 n 0) (to 1 1 s 1) (to 1 1 c 0) (to 1 1 n 0) (to 0 1 s 1) (to 0 1 c 0) (to 0 1 n 0) (out n 1))\n";
+const WITHOUT_LAST: [u8; 309] =
+    *b"(wires 2)\n(wire (pin 3 1) (to 2 1 w 0) (to 2 1 n 0) (to 1 1 s 0) (to 1 1 w 0) (to 1 1 n 0) (to 0 1 s 0) (to 0 1 w 0) (to 0 1 n 0) (out n 0))\n(wire (pin 3 2) (to 2 1 s 0) (to 2 1 e 0) (to 2 1 n 0) (to 1 1 s 1) (to 1 1 c 0) (to 1 1 n 0) (to 0 1 s 1) (to 0 1 c 0) (to 0 1 n 0) (out n 1))\n(length 60)\n(mean 30 0)\n";
 
 // Without that through the centre of tile 1 1.
-const WITHOUT_MIDDLE: [u8; 246] =
-    *b"(wires 2)\n(wire (pin 2 2) (to 1 1 s 0) (to 1 1 e 0) (to 1 1 n 0) (to 0 1 s 1) (to 0 1 e 0) (to 0 1 n 0) (out n 1))\n(wire (pin 3 1) (to 2 1 w 0) (to 2 1 n 0) (to 1 1 s 0) (to 1 1 w 0) (to 1 1 n 0) (to 0 1 s 0) (to 0 1 w 0) (to 0 1 n 0) (out n 0))\n";
+const WITHOUT_MIDDLE: [u8; 270] =
+    *b"(wires 2)\n(wire (pin 2 2) (to 1 1 s 0) (to 1 1 e 0) (to 1 1 n 0) (to 0 1 s 1) (to 0 1 e 0) (to 0 1 n 0) (out n 1))\n(wire (pin 3 1) (to 2 1 w 0) (to 2 1 n 0) (to 1 1 s 0) (to 1 1 w 0) (to 1 1 n 0) (to 0 1 s 0) (to 0 1 w 0) (to 0 1 n 0) (out n 0))\n(length 50)\n(mean 25 0)\n";
 
 // That in lane 0 alone.
-const FIRST: [u8; 141] =
-    *b"(wires 1)\n(wire (pin 3 1) (to 2 1 w 0) (to 2 1 n 0) (to 1 1 s 0) (to 1 1 w 0) (to 1 1 n 0) (to 0 1 s 0) (to 0 1 w 0) (to 0 1 n 0) (out n 0))\n";
+const FIRST: [u8; 165] =
+    *b"(wires 1)\n(wire (pin 3 1) (to 2 1 w 0) (to 2 1 n 0) (to 1 1 s 0) (to 1 1 w 0) (to 1 1 n 0) (to 0 1 s 0) (to 0 1 w 0) (to 0 1 n 0) (out n 0))\n(length 30)\n(mean 30 0)\n";
 
 // That of pin 2 2 alone.
-const ONLY_LAST: [u8; 115] =
-    *b"(wires 1)\n(wire (pin 2 2) (to 1 1 s 0) (to 1 1 e 0) (to 1 1 n 0) (to 0 1 s 0) (to 0 1 e 0) (to 0 1 n 0) (out n 0))\n";
+const ONLY_LAST: [u8; 139] =
+    *b"(wires 1)\n(wire (pin 2 2) (to 1 1 s 0) (to 1 1 e 0) (to 1 1 n 0) (to 0 1 s 0) (to 0 1 e 0) (to 0 1 n 0) (out n 0))\n(length 20)\n(mean 20 0)\n";
 
 // A direct exit.
-const DIRECT: [u8; 37] = *b"(wires 1)\n(wire (pin 0 1) (out p 0))\n";
+const DIRECT: [u8; 59] = *b"(wires 1)\n(wire (pin 0 1) (out p 0))\n(length 0)\n(mean 0 0)\n";
 
 // No wire.
-const NONE: [u8; 10] = *b"(wires 0)\n";
+const NONE: [u8; 32] = *b"(wires 0)\n(length 0)\n(mean 0 0)\n";
 
 // The record has these wires.
 fn leaves(tally: &mut Tally, rec: &Bytes, wires: &[u8]) {
@@ -155,6 +156,35 @@ fn direct_stays(tally: &mut Tally) {
     close(tally, &mut rec, 0, 1, 1, &DIRECT);
 }
 
+fn is_same(a: &Bytes, b: &Bytes) -> bool {
+    same(a, b)
+}
+
+// The listing of the record ends so.
+fn ends(tally: &mut Tally, rec: &Bytes, total: &[u8]) {
+    let mut page: Page = [0u8; 1048576];
+    let n = listed(rec, &mut page);
+    let from = std::num::wrapping_sub_usize(n, total.len());
+    hold(tally, same(rest(shown(&page, n), from), total), total);
+}
+
+// A tile is opened to the east of the three wires: they stay as they are until a step says "all wired", which leaves 10 for the pins 2 2 and 3 2 and 20 for the pin
+// 3 1. The next one moves nothing.
+fn shortens(tally: &mut Tally) {
+    let mut rec = wired(tally);
+    close(tally, &mut rec, 2, 2, 0, &ALL);
+    ends(tally, &rec, b"(length 80)\n(mean 26 2)\n");
+    steps(tally, &mut rec, ALL_WIRED);
+    ends(tally, &rec, b"(length 40)\n(mean 13 1)\n");
+    let before = rec;
+    steps(tally, &mut rec, ALL_WIRED);
+    hold(
+        tally,
+        is_same(&rec, &before),
+        b"an example's next all wired",
+    );
+}
+
 pub fn edited(tally: &mut Tally) {
     none_goes(tally);
     pin_goes(tally);
@@ -162,4 +192,5 @@ pub fn edited(tally: &mut Tally) {
     tile_goes(tally);
     middle_goes(tally);
     direct_stays(tally);
+    shortens(tally);
 }

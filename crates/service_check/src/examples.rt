@@ -1,4 +1,4 @@
-// The examples of document 01: those of its text, and those settled by hand, with direct exits; and short jobs with inner pins.
+// The examples of document 01: those of its text, and those settled by hand, with direct exits; short jobs with inner pins; and jobs with a known least length.
 use check::same;
 use compare::listed::Page;
 use compare::listed::held;
@@ -17,13 +17,14 @@ use compare::said::coded;
 use compare::said::is;
 use compare::said::put_listed;
 use compare::said::say;
-use judge::listing::check_listing;
+use judge::listing::check_least;
 use judge::walk::LEGAL;
 use oracle_text::job::blank;
 use oracle_text::text::read_text;
 use verdict::bytes::Tally;
 use verdict::bytes::first;
 use verdict::bytes::hold;
+use verdict::bytes::rest;
 
 // The 64 bytes.
 const SIXTY_FOUR: [u8; 64] =
@@ -65,6 +66,22 @@ const NARROW_LISTED: [u8; 80] =
 
 const RIM_MISSING_LISTED: [u8; 148] =
     *b"(short 1)\n(near pin 1 1)\n(near pin 1 2)\n(near ri 0 1)\n(near ro 0 1)\n(near 0 1 n)\n(near 0 1 e)\n(near 0 1 s)\n(near 0 1 w)\n(near 0 1 ci)\n(near 0 1 co)\n";
+
+// Four direct exits.
+const FOUR_LISTED: [u8; 140] =
+    *b"(wires 4)\n(wire (pin 0 0) (out p 0))\n(wire (pin 0 1) (out p 0))\n(wire (pin 1 0) (out p 0))\n(wire (pin 1 1) (out p 0))\n(length 0)\n(mean 0 0)\n";
+
+// Two pins whose shortest wires leave over one side that takes one wire: the least is 10 and 20.
+const CROWDED: [u8; 144] =
+    *b"(array (pins 3 5) (caps 1 2 0))\n(chosen 1 1)\n(chosen 1 2)\n(closed 0 0)\n(closed 1 0)\n(closed 1 1)\n(closed 1 2)\n(closed 1 3)\n(laid 0 2 n 1)\n(end)\n";
+
+// A wire that passes a missing pin, 14, rather than two more sides.
+const PAST: [u8; 149] =
+    *b"(array (pins 3 4) (caps 1 2 1))\n(chosen 1 1)\n(missing 1 2)\n(closed 0 0)\n(closed 1 0)\n(closed 1 1)\n(laid 0 1 n 1)\n(laid 0 2 n 1)\n(laid 0 2 e 1)\n(end)\n";
+
+// The same pin idle, and the two sides.
+const ROUND: [u8; 135] =
+    *b"(array (pins 3 4) (caps 1 2 1))\n(chosen 1 1)\n(closed 0 0)\n(closed 1 0)\n(closed 1 1)\n(laid 0 1 n 1)\n(laid 0 2 n 1)\n(laid 0 2 e 1)\n(end)\n";
 
 // Read text answers so, on a record of its own; the text stands for what came out wrong.
 fn reads(tally: &mut Tally, text: &[u8], kind: usize, number: usize) {
@@ -114,31 +131,76 @@ fn lists(tally: &mut Tally, text: &[u8], expected: &[u8], page: &mut Page) {
     hold(tally, same(shown(page, n), expected), expected);
 }
 
-// The router's listing of the text begins so, and is legal.
-fn lists_legally(tally: &mut Tally, text: &[u8], count: &[u8], page: &mut Page) {
+// The list begins and ends so.
+fn frames(list: &[u8], count: &[u8], total: &[u8]) -> bool {
+    let from = std::num::wrapping_sub_usize(list.len(), total.len());
+    same(first(list, count.len()), count) && same(rest(list, from), total)
+}
+
+// The router's listing of the text begins and ends so, is legal, and of the least length.
+fn lists_least(tally: &mut Tally, text: &[u8], count: &[u8], total: &[u8], page: &mut Page) {
     let mut job = blank();
     read_text(text, &mut job);
     let n = list_text(text, page);
-    let w = check_listing(&job, shown(page, n));
-    let begins = same(first(shown(page, n), count.len()), count);
-    hold(tally, begins && w.fault == LEGAL, text);
+    let w = check_least(&job, shown(page, n));
+    hold(
+        tally,
+        frames(shown(page, n), count, total) && w.fault == LEGAL,
+        text,
+    );
+}
+
+fn lengths(tally: &mut Tally, page: &mut Page) {
+    lists_least(
+        tally,
+        &THREE,
+        b"(wires 3)\n",
+        b"(length 10)\n(mean 3 1)\n",
+        page,
+    );
+    lists_least(
+        tally,
+        &CROWDED,
+        b"(wires 2)\n",
+        b"(length 30)\n(mean 15 0)\n",
+        page,
+    );
+    lists_least(
+        tally,
+        &PAST,
+        b"(wires 1)\n",
+        b"(length 24)\n(mean 24 0)\n",
+        page,
+    );
+    lists_least(
+        tally,
+        &ROUND,
+        b"(wires 1)\n",
+        b"(length 30)\n(mean 30 0)\n",
+        page,
+    );
 }
 
 fn listings(tally: &mut Tally) {
     let mut page = [0u8; 1048576];
-    lists_legally(tally, &FOUR, b"(wires 4)\n", &mut page);
-    lists_legally(tally, &THREE, b"(wires 3)\n", &mut page);
+    lengths(tally, &mut page);
+    lists(tally, &FOUR, &FOUR_LISTED, &mut page);
     lists(
         tally,
         &SIXTY_FOUR,
-        b"(wires 1)\n(wire (pin 0 0) (out p 0))\n",
+        b"(wires 1)\n(wire (pin 0 0) (out p 0))\n(length 0)\n(mean 0 0)\n",
         &mut page,
     );
     lists(tally, &SHUT, b"(short 1)\n(near pin 1 1)\n", &mut page);
     lists(tally, &NARROW, &NARROW_LISTED, &mut page);
     lists(tally, &RIM_MISSING, &RIM_MISSING_LISTED, &mut page);
     lists(tally, &EXCHANGED, b"(refused 6 45)\n", &mut page);
-    lists(tally, &MISSING, b"(wires 0)\n", &mut page);
+    lists(
+        tally,
+        &MISSING,
+        b"(wires 0)\n(length 0)\n(mean 0 0)\n",
+        &mut page,
+    );
 }
 
 // New answers so.

@@ -294,18 +294,24 @@ fn pass_wire(rec: &mut Record, was: &[u8], now: &[u8], edit: Edit, s: Compared) 
     follow(stands(s, alike), was, f.at, now, g.at, start, edit)
 }
 
+// The wires of a list are at their end.
+fn is_past(list: &[u8], at: usize) -> bool {
+    let f = scan(list, at, b"(length ");
+    f.fits
+}
+
 // All wires of the listing before the edit, with the listing after it.
 fn pass_wires(rec: &mut Record, was: &[u8], now: &[u8], edit: Edit, first: Compared) -> Compared {
     let mut s = first;
     let mut turns: u64 = 1600;
-    while turns > 0 && s.right && s.at < was.len() {
+    while turns > 0 && s.right && !is_past(was, s.at) {
         s = pass_wire(rec, was, now, edit, s);
         turns -= 1;
     }
     s
 }
 
-// Both listings are compared to their ends, and their first lines count the wires that were there and those that stay.
+// Both listings are compared to the end of their wires, and their first lines count the wires that were there and those that stay.
 fn pass_all(rec: &mut Record, was: &[u8], now: &[u8], edit: Edit) -> Compared {
     let f = scan(was, 0, b"(wires #)\n");
     let g = scan(now, 0, b"(wires #)\n");
@@ -317,7 +323,7 @@ fn pass_all(rec: &mut Record, was: &[u8], now: &[u8], edit: Edit) -> Compared {
         right: f.fits && g.fits,
     };
     let s = pass_wires(rec, was, now, edit, first);
-    let ended = s.at == was.len() && s.then == now.len();
+    let ended = is_past(was, s.at) && is_past(now, s.then);
     let all = std::num::wrapping_add_usize(s.stay, s.go);
     stands(s, ended && value(f, 0) == all && value(g, 0) == s.stay)
 }

@@ -1,5 +1,6 @@
 // Compares the operations call by call with the oracle, which shares no code with them: on the examples of document 01, on random lists of calls, and on edits of
-// large records that are full of wires. It writes what came out wrong, how many checks of each part are right and wrong, and how many wires edits leave and take out.
+// large records that are full of wires. It writes what came out wrong, how many checks of each part are right and wrong, how often an "all wired" finds the least
+// length and how often a greater one, and how many wires edits leave and take out.
 mod calls; // random lists of calls
 mod draws; // random arguments
 mod edited; // the examples of K5 and K7
@@ -11,6 +12,7 @@ mod kept; // the wires that an edit leaves
 mod lookup; // a part in a listing
 mod steps; // the parts and the links of a wire
 
+use compare::shortened::tell_found;
 use verdict::bytes::line;
 use verdict::bytes::tell;
 
@@ -18,8 +20,10 @@ fn random_calls() {
     let mut calls = [0u64; 2];
     let mut direct = [0u64; 2];
     let mut kept = [0u64; 9];
-    calls::calls(&mut calls, &mut direct, &mut kept);
+    let mut found = [0u64; 2];
+    calls::calls(&mut calls, &mut found, &mut direct, &mut kept);
     tell(b"random calls", &calls);
+    tell_found(&found);
     line(b"calls after which a wire leaves directly", direct[0]);
     line(b"calls after which none does", direct[1]);
     kept::tell_kept(&kept);
@@ -28,8 +32,10 @@ fn random_calls() {
 fn full_records() {
     let mut full = [0u64; 2];
     let mut kept = [0u64; 9];
-    full::full(&mut full, &mut kept);
+    let mut found = [0u64; 2];
+    full::full(&mut full, &mut found, &mut kept);
     tell(b"edits of full records", &full);
+    tell_found(&found);
     kept::tell_kept(&kept);
 }
 

@@ -108,6 +108,11 @@ fn stay_wired(before: &Record, rec: &Record) -> bool {
     true
 }
 
+// The same pins have a wire in both records.
+pub fn wired_alike(before: &Record, rec: &Record) -> bool {
+    stay_wired(before, rec) && stay_wired(rec, before)
+}
+
 // A step has added a wire: the record is legal, one pin more has a wire, and those that had one have one.
 pub fn hold_added(tally: &mut Tally, before: &Record, rec: &Record, job: &[u8]) {
     hold(tally, holds_job(rec, job), b"a step keeps the job");

@@ -5,10 +5,10 @@ use Rattle.job_check.proofs.jobs.jobs.Statement.{statement}
 use Rattle.job_check.proofs.jobs.jobs.Tie as tie
 
 abbrev Inv-loop : tie.InvT-loop
-Inv-loop tally₀ exits₀ page₀ seed₀ k₀ tally exits page seed k = k ≤ 3000
+Inv-loop tally₀ exits₀ found₀ page₀ seed₀ k₀ tally exits found page seed k = k ≤ 3000
 
 abbrev μ-loop : tie.MeasureT-loop
-μ-loop tally₀ exits₀ page₀ seed₀ k₀ tally exits page seed k = 3000 - k
+μ-loop tally₀ exits₀ found₀ page₀ seed₀ k₀ tally exits found page seed k = 3000 - k
 
 loop-holds : tie.Need-loop-holds Inv-loop μ-loop
 loop-holds c = search needs

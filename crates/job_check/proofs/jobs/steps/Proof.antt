@@ -13,8 +13,8 @@ abbrev μ-loop : tie.MeasureT-loop
 loop-holds : tie.Need-loop-holds Inv-loop μ-loop
 loop-holds c = search needs
 
-step-requires : tie.Need-step-requires Inv-loop μ-loop
-step-requires c κs = search needs
+step-more-requires : tie.Need-step-more-requires Inv-loop μ-loop
+step-more-requires c κs = search needs
 
 add-k : tie.Need-add-k Inv-loop μ-loop
 add-k c = search needs
@@ -31,4 +31,4 @@ returns c = search needs
 pub steps-spec : {M : Type 1} → statement M
 steps-spec =
     tie.close
-    (tie.spec Inv-loop μ-loop loop-holds step-requires add-k loop-less loop-again returns)
+    (tie.spec Inv-loop μ-loop loop-holds step-more-requires add-k loop-less loop-again returns)

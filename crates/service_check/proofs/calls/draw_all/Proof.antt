@@ -5,10 +5,10 @@ use Rattle.service_check.proofs.calls.draw_all.Statement.{statement}
 use Rattle.service_check.proofs.calls.draw_all.Tie as tie
 
 abbrev Inv-loop : tie.InvT-loop
-Inv-loop tally₀ direct₀ kept₀ rec₀ job₀ page₀ seed₀ k₀ tally direct kept rec job page seed k = k ≤ 6000
+Inv-loop tally₀ found₀ direct₀ kept₀ rec₀ job₀ page₀ seed₀ k₀ tally found direct kept rec job page seed k = k ≤ 6000
 
 abbrev μ-loop : tie.MeasureT-loop
-μ-loop tally₀ direct₀ kept₀ rec₀ job₀ page₀ seed₀ k₀ tally direct kept rec job page seed k = 6000 - k
+μ-loop tally₀ found₀ direct₀ kept₀ rec₀ job₀ page₀ seed₀ k₀ tally found direct kept rec job page seed k = 6000 - k
 
 loop-holds : tie.Need-loop-holds Inv-loop μ-loop
 loop-holds c = search needs

@@ -5,10 +5,10 @@ use Rattle.service_check.proofs.full.draw_all.Statement.{statement}
 use Rattle.service_check.proofs.full.draw_all.Tie as tie
 
 abbrev Inv-loop : tie.InvT-loop
-Inv-loop tally₀ kept₀ rec₀ job₀ seed n x₀ k₀ tally kept rec job x k = k ≤ n
+Inv-loop tally₀ found₀ kept₀ rec₀ job₀ page₀ often seed n x₀ k₀ tally found kept rec job page x k = k ≤ n
 
 abbrev μ-loop : tie.MeasureT-loop
-μ-loop tally₀ kept₀ rec₀ job₀ seed n x₀ k₀ tally kept rec job x k = n - k
+μ-loop tally₀ found₀ kept₀ rec₀ job₀ page₀ often seed n x₀ k₀ tally found kept rec job page x k = n - k
 
 loop-holds : tie.Need-loop-holds Inv-loop μ-loop
 loop-holds c = search needs

@@ -5,10 +5,10 @@ use Rattle.service_check.proofs.full.random_jobs.Statement.{statement}
 use Rattle.service_check.proofs.full.random_jobs.Tie as tie
 
 abbrev Inv-loop : tie.InvT-loop
-Inv-loop tally₀ kept₀ seed₀ k₀ tally kept seed k = k ≤ 60
+Inv-loop tally₀ found₀ kept₀ seed₀ k₀ tally found kept seed k = k ≤ 60
 
 abbrev μ-loop : tie.MeasureT-loop
-μ-loop tally₀ kept₀ seed₀ k₀ tally kept seed k = 60 - k
+μ-loop tally₀ found₀ kept₀ seed₀ k₀ tally found kept seed k = 60 - k
 
 loop-holds : tie.Need-loop-holds Inv-loop μ-loop
 loop-holds c = search needs

@@ -12,6 +12,9 @@ abbrev μ-loop : tie.MeasureT-loop
 loop-holds : tie.Need-loop-holds Inv-loop μ-loop
 loop-holds c = search needs
 
+is-past-requires : tie.Need-is-past-requires Inv-loop μ-loop
+is-past-requires c κs = search needs
+
 pass-wire-requires : tie.Need-pass-wire-requires Inv-loop μ-loop
 pass-wire-requires c κs = search needs
 
@@ -40,6 +43,7 @@ pass-wires-spec =
     Inv-loop
     μ-loop
     loop-holds
+    is-past-requires
     pass-wire-requires
     sub-turns
     loop-less
