@@ -114,7 +114,8 @@ struct Answer {
 
 constexpr int source = 8 * 1600, outside = source + 1, nodes = outside + 1;
 
-// The links of a job, each handed to `link` with its two nodes, its limit and the limit of the way back; how many pins are chosen.
+// The links of a job, each handed to `link` with its two nodes, its limit, the limit of the way back and its length, 10 for a side and 14 through a missing pin; how
+// many pins are chosen.
 template <class Link> int links(const Job &job, const Link &link) {
     enum { entry, leave, north, east, south, west, centreIn, centreOut };
     auto at = [](int kind, int r, int c) { return 8 * (40 * r + c) + kind; };
@@ -124,16 +125,16 @@ template <class Link> int links(const Job &job, const Link &link) {
     for (int r = 0; r < job.rows - 1; r++) {
         for (int c = 0; c < job.columns - 1; c++) {
             if (!open(r, c)) continue;
-            for (int k = 0; k < 4; k++) link(at(north + k, r, c), at(north + (k + 1) % 4, r, c), half, half);
-            for (int k = 0; k < 4; k++) link(at(north + k, r, c), at(centreIn, r, c), unlimited, 0);
-            for (int k = 0; k < 4; k++) link(at(centreOut, r, c), at(north + k, r, c), unlimited, 0);
-            link(at(centreIn, r, c), at(centreOut, r, c), job.d - 2 * half, 0);
-            if (open(r + 1, c)) link(at(south, r, c), at(north, r + 1, c), job.o, job.o);
-            if (open(r, c + 1)) link(at(east, r, c), at(west, r, c + 1), job.o, job.o);
-            if (!inside(r - 1, c)) link(at(north, r, c), outside, job.o, 0);
-            if (!inside(r + 1, c)) link(at(south, r, c), outside, job.o, 0);
-            if (!inside(r, c - 1)) link(at(west, r, c), outside, job.o, 0);
-            if (!inside(r, c + 1)) link(at(east, r, c), outside, job.o, 0);
+            for (int k = 0; k < 4; k++) link(at(north + k, r, c), at(north + (k + 1) % 4, r, c), half, half, 0);
+            for (int k = 0; k < 4; k++) link(at(north + k, r, c), at(centreIn, r, c), unlimited, 0, 0);
+            for (int k = 0; k < 4; k++) link(at(centreOut, r, c), at(north + k, r, c), unlimited, 0, 0);
+            link(at(centreIn, r, c), at(centreOut, r, c), job.d - 2 * half, 0, 0);
+            if (open(r + 1, c)) link(at(south, r, c), at(north, r + 1, c), job.o, job.o, 10);
+            if (open(r, c + 1)) link(at(east, r, c), at(west, r, c + 1), job.o, job.o, 10);
+            if (!inside(r - 1, c)) link(at(north, r, c), outside, job.o, 0, 10);
+            if (!inside(r + 1, c)) link(at(south, r, c), outside, job.o, 0, 10);
+            if (!inside(r, c - 1)) link(at(west, r, c), outside, job.o, 0, 10);
+            if (!inside(r, c + 1)) link(at(east, r, c), outside, job.o, 0, 10);
         }
     }
     int chosen = 0;
@@ -145,14 +146,14 @@ template <class Link> int links(const Job &job, const Link &link) {
             const int tiles[4][3] = {{r, c, north}, {r, c - 1, east}, {r - 1, c - 1, south}, {r - 1, c, west}};
             for (const auto &[tr, tc, k] : tiles) {
                 if (!open(tr, tc)) continue;
-                link(at(leave, r, c), at(k, tr, tc), mark == 1 ? 1 : unlimited, 0);
-                if (mark == 2) link(at(k, tr, tc), at(entry, r, c), unlimited, 0);
+                link(at(leave, r, c), at(k, tr, tc), mark == 1 ? 1 : unlimited, 0, 0);
+                if (mark == 2) link(at(k, tr, tc), at(entry, r, c), unlimited, 0, 0);
             }
-            if (mark == 2) link(at(entry, r, c), at(leave, r, c), job.e, 0);
+            if (mark == 2) link(at(entry, r, c), at(leave, r, c), job.e, 0, 14);
             if (mark == 1) {
-                link(source, at(leave, r, c), 1, 0);
+                link(source, at(leave, r, c), 1, 0, 0);
                 // straight out of the first and last rows and columns
-                if (r == 0 || r == job.rows - 1 || c == 0 || c == job.columns - 1) link(at(leave, r, c), outside, 1, 0);
+                if (r == 0 || r == job.rows - 1 || c == 0 || c == job.columns - 1) link(at(leave, r, c), outside, 1, 0, 0);
                 chosen++;
             }
         }
@@ -162,7 +163,7 @@ template <class Link> int links(const Job &job, const Link &link) {
 
 inline Answer route(const Job &job) {
     Network net(nodes);
-    const int chosen = links(job, [&](int a, int b, int forth, int back) { net.link(a, b, forth, back); });
+    const int chosen = links(job, [&](int a, int b, int forth, int back, int) { net.link(a, b, forth, back); });
     return {chosen, net.greatest(source, outside)};
 }
 

@@ -1,6 +1,6 @@
 // bench ESCAPE EMPTY JOB..: the library and the plain router on the same jobs, the program ESCAPE less the empty program EMPTY beside the libraries of
 // peers.h, and each operation on full and idle records, as tables in Markdown. Times are those of the processor, so that other work on the machine counts
-// little. Ends with status 1 where two greatest numbers differ.
+// little. Ends with status 1 where two greatest numbers or two least lengths differ.
 #include "baseline.h"
 #include "peers.h"
 #include "talusdish.h"
@@ -44,18 +44,23 @@ struct Host {
         return talusdish_shortfall(record.data(), record.size(), scratch.data(), scratch.size(), output.data(), output.size());
     }
 
-    // Steps until no wire more fits; how many were added.
-    uint64_t fill() {
+    // Steps until no wire more fits; how many were added, and the microseconds of the last step, which adds none.
+    uint64_t fill(double &last) {
         uint64_t wires = 0;
-        while (step() == 0) wires++;
-        return wires;
+        for (;;) {
+            const double start = now();
+            const bool more = step() == 0;
+            last = now() - start;
+            if (!more) return wires;
+            wires++;
+        }
     }
 };
 
 struct Timed {
     uint64_t wires, lack;
-    double reading, stepping, lacking;
-    double whole() const { return reading + stepping + lacking; }
+    double reading, stepping, last, lacking;
+    double whole() const { return reading + stepping + last + lacking; }
 };
 
 // From empty buffers to the last answer.
@@ -65,7 +70,7 @@ Timed run(const std::string &text) {
     const double a = now();
     const uint64_t read = host.read(text);
     const double b = now();
-    t.wires = host.fill();
+    t.wires = host.fill(t.last);
     const double c = now();
     const uint64_t lack = host.shortfall();
     const double d = now();
@@ -75,7 +80,7 @@ Timed run(const std::string &text) {
     }
     t.lack = TALUSDISH_VALUE(lack);
     t.reading = b - a;
-    t.stepping = c - b;
+    t.stepping = c - b - t.last;
     t.lacking = d - c;
     return t;
 }
@@ -96,8 +101,8 @@ bool compare(const std::string &name, const std::string &text) {
     for (double spent = 0; runs.size() < 5 && spent < 5e6; spent += runs.back().whole()) runs.push_back(run(text));
     std::sort(runs.begin(), runs.end(), [](const Timed &x, const Timed &y) { return x.whole() < y.whole(); });
     const Timed t = runs[runs.size() / 2];
-    std::printf("| %s | %d × %d | %d | %d | %.2f | %.1f | %.0f | %.1f | %.1f | %.1f | %.1f |\n", name.c_str(), job.rows, job.columns, plain.chosen,
-                static_cast<int>(t.wires), t.reading / 1e3, t.stepping / 1e3, t.stepping / static_cast<double>(t.wires + 1), t.lacking / 1e3,
+    std::printf("| %s | %d × %d | %d | %d | %.2f | %.1f | %.0f | %.1f | %.1f | %.1f | %.1f | %.1f |\n", name.c_str(), job.rows, job.columns, plain.chosen,
+                static_cast<int>(t.wires), t.reading / 1e3, t.stepping / 1e3, t.stepping / static_cast<double>(t.wires + 1), t.last / 1e3, t.lacking / 1e3,
                 t.whole() / 1e3, other / 1e3, t.whole() / other);
     const bool agree = t.wires == static_cast<uint64_t>(plain.greatest) && t.wires + t.lack == static_cast<uint64_t>(plain.chosen);
     if (!agree)
@@ -152,6 +157,60 @@ bool beside(const char *escape, const char *empty, const std::vector<peers::Peer
     return agree;
 }
 
+#ifdef HAS_LEMON
+// The number behind the word `(length` of the record's listing.
+long listed(Host &host) {
+    std::vector<uint8_t> page(1 << 20);
+    const uint64_t word = talusdish_listing(host.record.data(), host.record.size(), page.data(), page.size());
+    const std::string text(page.begin(), page.begin() + static_cast<long>(TALUSDISH_VALUE(word)));
+    return std::atol(text.c_str() + text.rfind("(length ") + 8);
+}
+
+// One row of the table of the least length, of a job that is not short; whether both find the same.
+bool shortest(const char *escape, const char *empty, const std::string &name, const std::string &path, const std::string &text) {
+    baseline::Job job;
+    baseline::read(text, job);
+    double own = 1e12, nothing = 1e12, first = 1e12, again = 1e12, other = 1e12;
+    long least = 0;
+    bool agree = true;
+    for (int i = 0; i < turns; i++) {
+        Host host;
+        host.read(text);
+        double last;
+        host.fill(last);
+        first = std::min(first, last);
+        const double start = now();
+        host.step();
+        again = std::min(again, now() - start);
+        own = std::min(own, process(escape, path));
+        nothing = std::min(nothing, process(empty, path));
+        const double before = now();
+        least = peers::networkSimplex(job);
+        other = std::min(other, now() - before);
+        agree = agree && least == listed(host);
+    }
+    std::printf("| %s | %ld | %.2f | %.2f | %.2f | %.2f | %.2f | %.2f |\n", name.c_str(), least, first / 1e3, again / 1e3, (own - nothing) / 1e3, other / 1e3,
+                first / other, (own - nothing) / other);
+    if (!agree) std::fprintf(stderr, "%s: the library finds another length\n", name.c_str());
+    return agree;
+}
+
+bool shortestTable(const char *escape, const char *empty, const std::vector<std::string> &paths, const std::function<std::string(const std::string &)> &name,
+                   const std::function<std::string(const std::string &)> &contents) {
+    std::printf("\nMilliseconds of the \"all wired\" that shortens, of one more, and of the program `escape` less an empty program, beside LEMON's network simplex, which is handed the job; the least of %d turns. Ratios: the first and the program by the library.\n\n", turns);
+    std::printf("| job | least length | \"all wired\" | again | `escape` | network simplex | ratio | ratio of `escape` |\n|---|---|---|---|---|---|---|---|\n");
+    bool agree = true;
+    for (const std::string &path : paths) {
+        baseline::Job job;
+        baseline::read(contents(path), job);
+        const baseline::Answer plain = baseline::route(job);
+        if (plain.greatest == plain.chosen) agree = shortest(escape, empty, name(path), path, contents(path)) && agree;
+        std::fflush(stdout);
+    }
+    return agree;
+}
+#endif
+
 // Microseconds of a call on a host, which `prepare` makes ready outside the time.
 double each(const std::function<void()> &prepare, const std::function<uint64_t()> &call) {
     std::vector<double> times;
@@ -180,7 +239,8 @@ struct Column {
 
     explicit Column(const std::string &job) : text(job) {
         host.read(text);
-        host.fill();
+        double last;
+        host.fill(last);
         kept = host.record;
         baseline::Job read;
         baseline::read(text, read);
@@ -271,8 +331,8 @@ int main(int count, char **words) {
     const auto name = [&](const std::string &path) { return path.substr(folder.size(), path.rfind('.') - folder.size()); };
     bool agree = true;
     std::printf("Milliseconds, the median of up to five runs; ratio: the whole by the plain router.\n\n");
-    std::printf("| job | array | chosen | wires | Read text | all Steps | µs a Step | Shortfall | whole | plain router | ratio |\n");
-    std::printf("|---|---|---|---|---|---|---|---|---|---|---|\n");
+    std::printf("| job | array | chosen | wires | Read text | Steps that add | µs a Step | the last Step | Shortfall | whole | plain router | ratio |\n");
+    std::printf("|---|---|---|---|---|---|---|---|---|---|---|---|\n");
     for (const std::string &path : paths) {
         agree = compare(name(path), contents(path)) && agree;
         std::fflush(stdout);
@@ -287,6 +347,11 @@ int main(int count, char **words) {
         agree = beside(escape, empty, others, name(path), path, contents(path)) && agree;
         std::fflush(stdout);
     }
+#ifdef HAS_LEMON
+    agree = shortestTable(escape, empty, paths, name, contents) && agree;
+#else
+    std::fprintf(stderr, "LEMON's network simplex is not measured: liblemon-dev is not installed\n");
+#endif
     std::printf("\nMicroseconds for a call on a record of 40 by 40 pins, the median: idle; full_wired stepped to \"all wired\"; full_short stepped to \"short\".\n\n");
     std::printf("| operation | idle | all wired | short |\n|---|---|---|---|\n");
     std::vector<Column> columns;

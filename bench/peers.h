@@ -1,5 +1,5 @@
 // Two libraries' greatest flows on the plain router's network: LEMON's Preflow and Boost's Boykov-Kolmogorov, where their headers are installed
-// (Debian's liblemon-dev and libboost-graph-dev). Both find the greatest number alone.
+// (Debian's liblemon-dev and libboost-graph-dev). Both find the greatest number alone. LEMON's network simplex finds the least length.
 #ifndef PEERS_H
 #define PEERS_H
 
@@ -7,6 +7,7 @@
 
 #if __has_include(<lemon/preflow.h>)
 #define HAS_LEMON 1
+#include <lemon/network_simplex.h>
 #include <lemon/preflow.h>
 #include <lemon/smart_graph.h>
 #pragma GCC diagnostic ignored "-Wmaybe-uninitialized" // LEMON adds an arc and then fills it in
@@ -36,12 +37,36 @@ inline int preflow(const baseline::Job &job) {
         graph.addArc(graph.nodeFromId(a), graph.nodeFromId(b));
         room.push_back(limit);
     };
-    baseline::links(job, [&](int a, int b, int forth, int back) { arc(a, b, forth), arc(b, a, back); });
+    baseline::links(job, [&](int a, int b, int forth, int back, int) { arc(a, b, forth), arc(b, a, back); });
     lemon::SmartDigraph::ArcMap<int> limits(graph);
     for (std::size_t i = 0; i < room.size(); i++) limits[graph.arcFromId(static_cast<int>(i))] = room[i];
     lemon::Preflow<lemon::SmartDigraph> search(graph, limits, graph.nodeFromId(baseline::source), graph.nodeFromId(baseline::outside));
     search.runMinCut();
     return search.flowValue();
+}
+
+// The least total length of a wire for every chosen pin; -1 where there is none.
+inline long networkSimplex(const baseline::Job &job) {
+    lemon::SmartDigraph graph;
+    std::vector<int> room, count;
+    graph.reserveNode(baseline::nodes);
+    for (int i = 0; i < baseline::nodes; i++) graph.addNode();
+    const auto arc = [&](int a, int b, int limit, int length) {
+        if (limit == 0) return;
+        graph.addArc(graph.nodeFromId(a), graph.nodeFromId(b));
+        room.push_back(limit);
+        count.push_back(length);
+    };
+    const int chosen = baseline::links(job, [&](int a, int b, int forth, int back, int length) { arc(a, b, forth, length), arc(b, a, back, length); });
+    lemon::SmartDigraph::ArcMap<int> limits(graph), lengths(graph);
+    for (std::size_t i = 0; i < room.size(); i++) {
+        limits[graph.arcFromId(static_cast<int>(i))] = room[i];
+        lengths[graph.arcFromId(static_cast<int>(i))] = count[i];
+    }
+    lemon::NetworkSimplex<lemon::SmartDigraph, int, int> search(graph);
+    search.upperMap(limits).costMap(lengths).stSupply(graph.nodeFromId(baseline::source), graph.nodeFromId(baseline::outside), chosen);
+    if (search.run() != search.OPTIMAL) return -1;
+    return search.totalCost<long>();
 }
 #endif
 
@@ -54,7 +79,7 @@ inline int boykovKolmogorov(const baseline::Job &job) {
     };
     using Graph = boost::adjacency_list<boost::vecS, boost::vecS, boost::directedS, boost::no_property, Dart>;
     Graph graph(baseline::nodes);
-    baseline::links(job, [&](int a, int b, int forth, int back) {
+    baseline::links(job, [&](int a, int b, int forth, int back, int) {
         const auto there = boost::add_edge(a, b, graph).first, here = boost::add_edge(b, a, graph).first;
         graph[there] = {forth, 0, here};
         graph[here] = {back, 0, there};

@@ -224,6 +224,11 @@ def wires_of(listing):
     return wires
 
 
+def total_of(listing):
+    """The total length of a listing's wires, and the mean per wire as quotient and remainder, by its last two lines."""
+    return tuple(map(int, re.search(r'^\(length (\d+)\)\n\(mean (\d+) (\d+)\)\n\Z', listing, re.MULTILINE).groups()))
+
+
 class Near:
     """The near side that Shortfall gives, by docs/RECORD.md's published order."""
     KINDS = {'entry': 0, 'exit': 1, 'pin': 1, 'n': 2, 'e': 3, 's': 4, 'w': 5, 'ci': 6, 'co': 7}
@@ -281,7 +286,7 @@ class Job:
         return (value >> 10 & 63, value >> 16) if value else None
 
     def step(self):
-        """ADDED, ALL_WIRED or SHORT."""
+        """ADDED, ALL_WIRED or SHORT. ALL_WIRED leaves the least total length, and moves no wire where the record has it."""
         return call('talusdish_step', self._record, self._scratch)
 
     def route(self):
@@ -311,7 +316,7 @@ class Job:
         return bytes(output[:length])
 
     def listing(self, size=LISTING):
-        """The listing of the wires that the record holds, whether all are wired or not."""
+        """The listing of the wires that the record holds, whether all are wired or not, with their total length and mean."""
         output = buffer(size)
         try:
             length = call('talusdish_listing', self._record, output)

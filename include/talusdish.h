@@ -28,7 +28,7 @@
  * with length 0 is an empty buffer. The buffers of one call do not overlap, and nobody else writes them during the call. A function keeps nothing between
  * calls, so calls on different records may run at the same time. docs/RECORD.md says what each byte of a record and of shortfall's output holds.
  *
- * A call works on the stack of its thread: step and shortfall need 263 KiB of it, listing, mark, close, lay, diagonal and extra 135 KiB, part, write_text and sheet 103 KiB, new, read_text, trial and rules at most
+ * A call works on the stack of its thread: step needs 314 KiB of it, shortfall 263 KiB, listing, mark, close, lay, diagonal and extra 135 KiB, part, write_text and sheet 103 KiB, new, read_text, trial and rules at most
  * 17 KiB (measured on x86-64 with two 40 by 40 jobs, not proved). A thread with 512 KiB is safe.
  */
 #ifndef TALUSDISH_H
@@ -73,7 +73,9 @@ uint64_t talusdish_diagonal(uint8_t *record, uint64_t record_len, uint64_t row, 
 uint64_t talusdish_extra(uint8_t *record, uint64_t record_len, uint64_t e);
 
 /* One wire more. 1; 8. Value 0 added: one more chosen pin is wired and those wired stay wired; 1 all wired; 2 short: no more wires fit.
- * 1 and 2 change no byte of the record. The scratch of an accepted call is zero afterwards. */
+ * An all wired leaves wires of the least total length, 10 for each side crossed and 14 for each missing pin passed: it may move wires, no pin loses its own, and
+ * where the length is the least already no byte changes, so that a repeated one moves nothing. 2 changes no byte of the record. The scratch of an accepted call is
+ * zero afterwards. */
 uint64_t talusdish_step(uint8_t *record, uint64_t record_len, uint8_t *scratch, uint64_t scratch_len);
 
 /* How many chosen pins cannot be wired. 1; 8; 7 for output under 32,768 bytes. The value is the chosen pins less the greatest number. Where it is not 0,
@@ -94,9 +96,9 @@ uint64_t talusdish_read_text(uint8_t *record, uint64_t record_len, const uint8_t
  * text has 117,252 bytes (40 by 40, every pin missing, every tile closed with a D of its own, wires laid on every side); that 640,320 are always enough is proved. */
 uint64_t talusdish_write_text(const uint8_t *record, uint64_t record_len, uint8_t *output, uint64_t output_len);
 
-/* The listing of the wires that the record holds, as the program escape prints wires, whether all are wired or not; beyond document 01. 1; 7 for output
- * shorter than the listing. The value is the listing's length; bytes beyond it are untouched. The longest listing found has 678,069 bytes; that
- * 1,254,600,029 are always enough is proved. */
+/* The listing of the wires that the record holds, as the program escape prints wires, whether all are wired or not; beyond document 01. Behind the wires stand their
+ * total length, (length N), and the mean of a wire as quotient and remainder, (mean Q R). 1; 7 for output shorter than the listing. The value is the listing's
+ * length; bytes beyond it are untouched. The longest listing found has some 678,100 bytes; that 1,254,600,108 are always enough is proved. */
 uint64_t talusdish_listing(const uint8_t *record, uint64_t record_len, uint8_t *output, uint64_t output_len);
 
 /* The capacities that design rules give: pitch p, pad diameter d, wire width w and spacing s, in micrometres. 9; 10. No record is needed.

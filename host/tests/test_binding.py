@@ -7,7 +7,7 @@ import command
 import talusdish
 from layout import hops, link
 from support import EXAMPLES, ROOT, random_job
-from talusdish import CHOSEN, IDLE, MISSING, SHORT, Job, Out, Refused, To, ball_name, ball_place, row_name, wires_of
+from talusdish import CHOSEN, IDLE, MISSING, SHORT, Job, Out, Refused, To, ball_name, ball_place, row_name, total_of, wires_of
 
 HEADER = (ROOT / 'include' / 'talusdish.h').read_text()
 
@@ -256,7 +256,7 @@ class Limits(unittest.TestCase):
 
 
 class BesideEscape(unittest.TestCase):
-    """The same answers as `escape` on all examples. Which legal wires Steps lead to is free, so of a wired job the wired pins are compared."""
+    """The same answers as `escape` on all examples. Which legal wires Steps lead to is free, so of a wired job the wired pins and the total are compared."""
 
     @classmethod
     def setUpClass(cls):
@@ -273,6 +273,7 @@ class BesideEscape(unittest.TestCase):
                 self.assertEqual(mine.split('\n')[0], other.split('\n')[0])
                 if mine.startswith('(wires'):
                     self.compare_wires(Job.of_text(path.read_bytes()), wires_of(mine), wires_of(other))
+                    self.assertEqual(total_of(mine), total_of(other))
                 else:
                     self.assertEqual(mine, other)
 

@@ -44,6 +44,11 @@ class Status(Folder):
             self.assertEqual((run.returncode, run.stderr), (0, ''))
         self.assertEqual(talus('check', example('four_pins')).stdout, '')
 
+    def test_the_four_pin_listing(self):
+        wires = ''.join(f'(wire (pin {row} {column}) (out p 0))\n' for row in (0, 1) for column in (0, 1))
+        self.assertEqual(talus('route', example('four_pins')).stdout, f'(wires 4)\n{wires}(length 0)\n(mean 0 0)\n')
+        self.assertEqual(talus('route', example('nothing_chosen')).stdout, '(wires 0)\n(length 0)\n(mean 0 0)\n')
+
     def test_short(self):
         run = talus('route', example('short'))
         self.assertTrue(run.stdout.startswith('(short '))
