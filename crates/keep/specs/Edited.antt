@@ -1,6 +1,6 @@
 -- Request K5: the loads that are left when exactly the wires that meet some places are taken out, for any places whose limits change, and for the edited pin
--- or the places of the edited tile; and for the centre of a tile whose D changes (K7). Every other wire keeps its places; and where an idle pin is marked or a closed tile opened, no wire meets what is edited, so the loads stay as they are.
--- Assumes nothing.
+-- or the places of the edited tile; for the centre of a tile whose D changes (K7), and for the missing pins where E is lowered (K9). Every other wire keeps its
+-- places; and where an idle pin is marked or a closed tile opened, no wire meets what is edited, so the loads stay as they are. Assumes nothing.
 use mathlib.Core.Path.{_≡_, refl, sym, ap, ap₂, subst, _∙_}
 use mathlib.Core.Option.{some}
 use mathlib.Core.Logic.{_⊎_, inl, inr}

@@ -1,4 +1,4 @@
--- Document 02, K5 and K9: which wires an edit takes out, and the loads of those that stay. f gives each step how many wires go along its link that way. Assumes
+-- Document 02, K5, K7 and K9: which wires an edit takes out, and the loads of those that stay. f gives each step how many wires go along its link that way. Assumes
 -- nothing.
 use mathlib.Core.Bool.{Bool, false, not, _&&_, _||_}
 use mathlib.Core.List.{List, [], _∷_}

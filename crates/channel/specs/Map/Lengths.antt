@@ -3,9 +3,9 @@
 use mathlib.Core.Path.{_≡_, refl, ap, _∙_}
 use mathlib.Core.Logic.{_≢_, _⊎_, inl, inr}
 use mathlib.Core.Bool.{Bool, true, false, not, _||_}
-use Prim.Native.Nat.{ℕ, _+_, _*_, _/_, _%_, _≤_, _<_}
+use Prim.Native.Nat.{ℕ, _+_, _*_, _/_, _%_, _<_}
 use native.Mathlib.Omega.{arith}
-use lib.Dec.{T, eqb, leb, eqb→eq, leb→le}
+use lib.Dec.{T, eqb, leb, eqb→eq}
 use lib.ListN.{getD}
 use Rattle.sums.specs.Counting.{when}
 use Rattle.sums.specs.Tests.{Same, same, same?, and-left, if-so, below, below-at}
@@ -30,10 +30,6 @@ dartLength d = lengthOf (d % 64)
 
 row< : (d : ℕ) → d % 64 < 64
 row< d = omega arith
-
-pub length-most : (d : ℕ) → dartLength d ≤ 14
-unfolding dartLength below
-length-most d = leb→le _ _ (below-at 64 (λ i. leb (lengthOf i) 14) tt (d % 64) (row< d))
 
 -- a dart along a side counts 10, and one along another link nothing
 pub link-length : (d : ℕ) → T (isLinkDart d) → dartLength d ≡ 10 * when (isSide (stepOf d .link)) 1
