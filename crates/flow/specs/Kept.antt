@@ -58,6 +58,7 @@ path-start {S = S} c (along {d = d} l e r n p) t = path-start c p (c.moves d l (
 
 -- A path of residual moves that ends out of a closed set has no dart that starts or ends in it.
 pub path-avoids : {G : Net} {f : ℕ → ℕ} {S : ℕ → Bool} {ds : List ℕ} {u v : ℕ} → Closed G f S → Path G (Residual G f) ds u v → T (not (S v)) → Avoids G S ds
+path-avoids {G = G} {f = f} {S = S} c (here {u = u} {v = v} _) o x x15 = elim x15 [ ]
 path-avoids {G} {S = S} {v = v} c (along {d = d} l e r n p) o x (Memᴰ.head q) =
     subst (λ (y : ℕ). T (not (S (G.tail y))) × T (not (S (head G y)))) (sym q)
     (not_T (S (G.tail d)) (λ t. T_not (S v) o (path-start c p (c.moves d l t r))), not_T (S (head G d)) (λ t. T_not (S v) o (path-start c p t)))

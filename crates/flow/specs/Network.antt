@@ -83,10 +83,12 @@ times_none ds x n = go (eq-zero-or-pos (times ds x))
 
 pub has-times : (ds : List ℕ) {x : ℕ} → Memᴰ x ds → 0 < times ds x
 unfolding total
+has-times [] {x = x} x3 = elim x3 [ ]
 has-times (d ∷ ds) {x} (Memᴰ.head e) = omega (arith, when-same d x 1 (sym e))
 has-times (d ∷ ds) (Memᴰ.tail m) = omega (arith, has-times ds m)
 
 pub path-dart : {G : Net} {P : ℕ → Type 0} {ds : List ℕ} {u v x : ℕ} → Path G P ds u v → Memᴰ x ds → P x
+path-dart {G = G} {P = P} (here {u = u} {v = v} _) x11 = elim x11 [ ]
 path-dart {P = P} (along l e p n r) (Memᴰ.head q) = subst P (sym q) p
 path-dart (along l e p n r) (Memᴰ.tail m) = path-dart r m
 

@@ -94,6 +94,7 @@ every (x ∷ l) p = p x && every l p
 
 pub every-at : {A : Type 0} {x : A} (l : List A) (p : A → Bool) → T (every l p) → Memᴰ x l → T (p x)
 unfolding every
+every-at {A = A} {x = x} [] p t x3 = elim x3 [ ]
 every-at {A} {x} (y ∷ l) p t (Memᴰ.head e) = subst (λ (z : A). T (p z)) (sym e) (and_left (p y) (every l p) t)
 every-at (y ∷ l) p t (Memᴰ.tail m) = every-at l p (and_right (p y) (every l p) t) m
 
@@ -131,6 +132,7 @@ each-has {A} {x} (suc n) i f l m = by (eqb i n) (same? i n) (λ k. each-has n i 
 
 pub those-has : {A : Type 0} {x : A} (p : A → Bool) (l : List A) → T (p x) → Memᴰ x l → Memᴰ x (those p l)
 unfolding those
+those-has {A = A} {x = x} p [] t x3 = elim x3 [ ]
 those-has {A} {x} p (y ∷ l) t (Memᴰ.head e) = by (p y) (subst (λ (z : A). T (p z)) e t)
   where
     by : (b : Bool) → T b → Memᴰ x (only b (y ∷ []) ++ those p l)

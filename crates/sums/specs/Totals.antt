@@ -30,6 +30,7 @@ total-none (x ∷ l) f h = omega (arith, h x, total-none l f h)
 -- one term of a sum
 pub total-has : {A : Type 0} {x : A} (l : List A) (f : A → ℕ) → Memᴰ x l → f x ≤ total l f
 unfolding total
+total-has {A = A} [] f x'' = elim x'' [ ]
 total-has (y ∷ l) f (Memᴰ.head e) = omega (arith, ap f e)
 total-has (y ∷ l) f (Memᴰ.tail m) = omega (arith, total-has l f m)
 
