@@ -166,5 +166,6 @@ lengths-hold x (Memᴰ.tail (Memᴰ.head e)) = subst (λ (y : Measured). LeastLe
 lengths-hold x (Memᴰ.tail (Memᴰ.tail (Memᴰ.head e))) = subst (λ (y : Measured). LeastLength y.job y.least) (sym e) least_crowded
 lengths-hold x (Memᴰ.tail (Memᴰ.tail (Memᴰ.tail (Memᴰ.head e)))) =
     subst (λ (y : Measured). LeastLength y.job y.least) (sym e) least_passing
+lengths-hold x (mathlib.Core.List.Memᴰ.tail (mathlib.Core.List.Memᴰ.tail (mathlib.Core.List.Memᴰ.tail (mathlib.Core.List.Memᴰ.tail (mathlib.Core.List.Memᴰ.tail x21))))) = elim x21 [ ]
 lengths-hold x (Memᴰ.tail (Memᴰ.tail (Memᴰ.tail (Memᴰ.tail (Memᴰ.head e))))) =
     subst (λ (y : Measured). LeastLength y.job y.least) (sym e) least_round

@@ -19,4 +19,5 @@ shorts-hold x (Memᴰ.tail (Memᴰ.tail (Memᴰ.head e))) = subst ShortHolds (sy
 shorts-hold x (Memᴰ.tail (Memᴰ.tail (Memᴰ.tail (Memᴰ.head e)))) = subst ShortHolds (sym e) short_missing-holds
 shorts-hold x (Memᴰ.tail (Memᴰ.tail (Memᴰ.tail (Memᴰ.tail (Memᴰ.head e))))) = subst ShortHolds (sym e) short_entry-holds
 shorts-hold x (Memᴰ.tail (Memᴰ.tail (Memᴰ.tail (Memᴰ.tail (Memᴰ.tail (Memᴰ.head e)))))) = subst ShortHolds (sym e) short_laid-holds
+shorts-hold x (mathlib.Core.List.Memᴰ.tail (mathlib.Core.List.Memᴰ.tail (mathlib.Core.List.Memᴰ.tail (mathlib.Core.List.Memᴰ.tail (mathlib.Core.List.Memᴰ.tail (mathlib.Core.List.Memᴰ.tail (mathlib.Core.List.Memᴰ.tail x29))))))) = elim x29 [ ]
 shorts-hold x (Memᴰ.tail (Memᴰ.tail (Memᴰ.tail (Memᴰ.tail (Memᴰ.tail (Memᴰ.tail (Memᴰ.head e))))))) = subst ShortHolds (sym e) short_own-holds

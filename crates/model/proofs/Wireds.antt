@@ -75,5 +75,6 @@ unfolding every total places each those is_chosen is_missing is_open may head ah
 wireds-hold J (Memᴰ.head e) = subst (λ (K : Job). Greatest K (chosen_count K)) (sym e) (all-by-test job64 routes64 tt refl)
 wireds-hold J (Memᴰ.tail (Memᴰ.head e)) = subst (λ (K : Job). Greatest K (chosen_count K)) (sym e) (all-by-test job33 routes33 tt refl)
 wireds-hold J (Memᴰ.tail (Memᴰ.tail (Memᴰ.head e))) = subst (λ (K : Job). Greatest K (chosen_count K)) (sym e) (all-by-test job_two routes_two tt refl)
+wireds-hold J (mathlib.Core.List.Memᴰ.tail (mathlib.Core.List.Memᴰ.tail (mathlib.Core.List.Memᴰ.tail (mathlib.Core.List.Memᴰ.tail x16)))) = elim x16 [ ]
 wireds-hold J (Memᴰ.tail (Memᴰ.tail (Memᴰ.tail (Memᴰ.head e)))) =
     subst (λ (K : Job). Greatest K (chosen_count K)) (sym e) (all-by-test job_earlier routes_earlier tt refl)

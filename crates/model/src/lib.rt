@@ -13,7 +13,7 @@ pub fn in_range(least: usize, most: usize, n: usize) -> bool
 }
 
 // An array of pins.
-#[derive(Drop)]
+#[derive(Clone, Copy)]
 pub struct Array {
     pub rows: usize,
     pub columns: usize,
@@ -38,7 +38,7 @@ impl Array {
 }
 
 // The capacities of an array: O, D and E of document 01.
-#[derive(Drop)]
+#[derive(Clone, Copy)]
 pub struct Capacities {
     pub orthogonal: usize,
     pub diagonal: usize,
