@@ -1,0 +1,10 @@
+-- `header::byte` meets its contract: a cell of the grid has its byte in the plane. Assumes nothing.
+use native.Mathlib.Omega.{arith}
+use Rattle.channel.specs.Map.Grid.{cell-on}
+use mathlib.Core.Path.{◌∙◌}
+use Rattle.channel.proofs.header.byte.Goals as goal
+
+pub returns : goal.returns
+returns c =
+    let s = c in
+    (c.wide.ensures.0 ∙ cell-on s.args.rec.now s.args.p s.args.r s.args.c (omega arith) (omega arith), c.wide.ensures.1)

@@ -1,0 +1,7 @@
+-- `header::extra` meets its contract: byte 4 of the record. Assumes nothing.
+use Rattle.model.specs.Record.{job_of}
+use Rattle.channel.proofs.header.extra.Goals as goal
+
+pub returns : goal.returns
+unfolding job_of
+returns c = c.wide.ensures

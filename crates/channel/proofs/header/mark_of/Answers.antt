@@ -1,0 +1,7 @@
+-- `header::mark_of` meets its contract: the byte of the plane of marks. Assumes nothing.
+use Rattle.model.specs.Record.{job_of}
+use Rattle.channel.proofs.header.mark_of.Goals as goal
+
+pub returns : goal.returns
+unfolding job_of
+returns c = c.value_of.ensures

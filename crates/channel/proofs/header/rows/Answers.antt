@@ -1,0 +1,7 @@
+-- `header::rows` meets its contract: byte 0 of the record. Assumes nothing.
+use Rattle.model.specs.Record.{job_of}
+use Rattle.channel.proofs.header.rows.Goals as goal
+
+pub returns : goal.returns
+unfolding job_of
+returns c = c.wide.ensures

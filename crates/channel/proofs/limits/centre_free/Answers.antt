@@ -1,0 +1,11 @@
+-- `limits::centre_free` meets its contract: the tile is open. Assumes nothing.
+use mathlib.Core.Path.{sym, ◌∙◌}
+use Rattle.model.specs.Record.{job_of}
+use Rattle.channel.specs.Map.Codes.{three-four}
+use Rattle.channel.specs.Map.Caps.{free-centre}
+use Rattle.channel.proofs.limits.centre_free.Goals as goal
+
+pub returns : goal.returns
+returns c =
+    let s = c in
+    c.open_at.ensures ∙ sym (free-centre (job_of s.args.job.now) s.args.d (three-four _ s.requires.2))

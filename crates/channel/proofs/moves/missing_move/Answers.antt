@@ -1,0 +1,23 @@
+-- `moves::missing_move` meets its contract: the pin is missing, and fewer than the limit pass. Assumes nothing.
+use mathlib.Core.Path.{sym, ◌∙◌}
+use native.Mathlib.Omega.{arith}
+use Rattle.model.specs.Record.{job_of}
+use Rattle.channel.specs.Map.Numbers.{is-dart}
+use Rattle.channel.specs.Map.Moving.{missing-shut, missing-open, grid-of}
+use Rattle.channel.proofs.moves.missing_move.Goals as goal
+
+pub through_missing-requires : goal.through_missing-requires
+through_missing-requires c =
+    omega (arith, grid-of _ _ _ c.missing_at.ensures c.if-missing_at.true)
+
+pub returns-then-missing_at : goal.returns-then-missing_at
+returns-then-missing_at c =
+    let s = c in
+    missing-open (job_of s.args.job.now) s.args.loads.now s.args.d (is-dart s.requires.2) s.requires.3
+    (sym c.missing_at.ensures ∙ c.if-missing_at.true) _ _
+    c.through_missing.ensures.0 c.missing_most.ensures.0
+
+pub returns : goal.returns
+returns c =
+    let s = c in
+    missing-shut (job_of s.args.job.now) s.args.loads.now s.args.d (is-dart s.requires.2) s.requires.3 (sym c.missing_at.ensures ∙ c.if-missing_at.false)
