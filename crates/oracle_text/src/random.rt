@@ -25,7 +25,7 @@ pub fn below(x: u32, n: usize) -> usize
 }
 
 // How often of 1,000 a pin is chosen, one that is not chosen is missing, and a tile is closed.
-#[derive(Drop)]
+#[derive(Clone, Copy)]
 pub struct Rates {
     pub chosen: usize,
     pub missing: usize,

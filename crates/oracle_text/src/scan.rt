@@ -3,7 +3,7 @@
 ghost use Rattle.std.specs.Prelude.{◌<◌};
 
 // What a template found: whether it fits, where it ends, and the values of its numbers and letters in order.
-#[derive(Drop)]
+#[derive(Clone, Copy)]
 pub struct Found {
     pub fits: bool,
     pub at: usize,

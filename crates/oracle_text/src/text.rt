@@ -12,7 +12,7 @@ use crate::scan::{Found, scan, value};
 // a missing pin, a closed tile, a tile's own D and laid wires, 7 the end; 8 is accepted and 9 refused. `next` is the first
 // pin or tile, 40 r + c, that may stand in the group, and of laid wires the first side: four times its tile and 0 to 3 for
 // n, e, s, w.
-#[derive(Drop)]
+#[derive(Clone, Copy)]
 pub struct Reading {
     pub at: usize,
     pub stage: usize,

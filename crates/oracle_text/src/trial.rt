@@ -3,7 +3,7 @@ use crate::job::{CHOSEN, Job, MISSING, fresh, is_pin, is_tile, set_mark, set_sta
 use crate::random::{below, xorshift};
 
 // The percentages of chosen and of missing pins, and of closed tiles.
-#[derive(Drop)]
+#[derive(Clone, Copy)]
 pub struct Percents {
     pub chosen: usize,
     pub missing: usize,
