@@ -1,4 +1,6 @@
 // The wires that `escape` lists, judged on the arcs of the second implementation.
+#![tactic(auto)]
+
 pub mod walk; // how far the check is, and what is wrong
 pub mod ways; // the nodes and darts that a listing names
 pub mod rounds; // the pairing inside each place

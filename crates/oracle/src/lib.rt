@@ -1,5 +1,7 @@
 // The second implementation of document 01, for tests to compare the router with. It shares no code with the router: the network is an explicit list of arcs,
 // and the greatest number comes from Dinic's phases of levels. Each function is proved safe and ending, and no more: what it computes is what the tests compare.
+#![tactic(auto)]
+
 pub mod sheet; // its memory
 pub mod net; // the arcs of a job
 pub mod flow; // phases of levels
