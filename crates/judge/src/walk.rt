@@ -33,7 +33,7 @@ pub const NOT_LEAST: usize = 14;
 
 // How far the check is: the offset, the pin whose wire is checked, the node that the wire has come to (START between
 // two wires) and its position round that node, the length so far, and what is wrong.
-#[derive(Drop)]
+#[derive(Clone, Copy)]
 pub struct Walk {
     pub at: usize,
     pub pin: usize,
