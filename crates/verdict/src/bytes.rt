@@ -2,7 +2,6 @@
 ghost use Rattle.std.specs.Prelude.{◌<◌};
 
 use check::same;
-use libc::STDOUT_FILENO;
 
 // How many checks came out right, and how many wrong.
 pub type Tally = [u64; 2];
@@ -50,30 +49,33 @@ pub fn begins(s: &[u8], t: &[u8], w: u8) -> bool {
     same(first(s, t.len()), t) && all(rest(s, t.len()), w)
 }
 
+// Writes the bytes; a standard output that takes them no longer is no error here.
+pub fn write(rt: &impl Print, s: &[u8]) {
+    let _ = rt.write_all(s);
+}
+
 // A line with a number.
-pub fn line(w: &[u8], n: u64) {
-    io::write_all(STDOUT_FILENO, w);
-    io::write_all(STDOUT_FILENO, b" ");
-    io::print_decimal(STDOUT_FILENO, n);
-    io::write_all(STDOUT_FILENO, b"\n");
+pub fn line(rt: &impl Print, w: &[u8], n: u64) {
+    write(rt, w);
+    let _ = println!(rt; " {n}");
 }
 
 // Counts a check, and writes what it is where it came out wrong.
-pub fn hold(tally: &mut Tally, right: bool, what: &[u8]) {
+pub fn hold(rt: &impl Print, tally: &mut Tally, right: bool, what: &[u8]) {
     if right {
-        tally[0] = std::num::wrapping_add_u64(tally[0], 1);
+        tally[0] = tally[0].wrapping_add(1);
     } else {
-        tally[1] = std::num::wrapping_add_u64(tally[1], 1);
-        io::write_all(STDOUT_FILENO, b"wrong: ");
-        io::write_all(STDOUT_FILENO, what);
-        io::write_all(STDOUT_FILENO, b"\n");
+        tally[1] = tally[1].wrapping_add(1);
+        write(rt, b"wrong: ");
+        write(rt, what);
+        write(rt, b"\n");
     }
 }
 
 // How many checks of these are right and wrong.
-pub fn tell(what: &[u8], tally: &Tally) {
-    io::write_all(STDOUT_FILENO, what);
-    line(b" right", tally[0]);
-    io::write_all(STDOUT_FILENO, what);
-    line(b" wrong", tally[1]);
+pub fn tell(rt: &impl Print, what: &[u8], tally: &Tally) {
+    write(rt, what);
+    line(rt, b" right", tally[0]);
+    write(rt, what);
+    line(rt, b" wrong", tally[1]);
 }

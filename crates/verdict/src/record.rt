@@ -109,13 +109,19 @@ pub fn wired_alike(before: &Record, rec: &Record) -> bool {
 }
 
 // A step has added a wire: the record is legal, one pin more has a wire, and those that had one have one.
-pub fn hold_added(tally: &mut Tally, before: &Record, rec: &Record, job: &[u8]) {
-    hold(tally, holds_job(rec, job), b"a step keeps the job");
-    hold(tally, legal(rec), b"a step leaves a legal record");
+pub fn hold_added(rt: &impl Print, tally: &mut Tally, before: &Record, rec: &Record, job: &[u8]) {
+    hold(rt, tally, holds_job(rec, job), b"a step keeps the job");
+    hold(rt, tally, legal(rec), b"a step leaves a legal record");
     hold(
+        rt,
         tally,
         count_wires(rec) == count_wires(before) + 1,
         b"a step adds one wire",
     );
-    hold(tally, stay_wired(before, rec), b"a step keeps pins wired");
+    hold(
+        rt,
+        tally,
+        stay_wired(before, rec),
+        b"a step keeps pins wired",
+    );
 }
