@@ -3,13 +3,15 @@
 // vector that does not agree and how many do: texts refused, jobs short, jobs wired. Then it changes each byte of three listings,
 // all of which have to be refused, has listings with direct exits and least lengths judged, and random jobs written and read
 // back, and the sum of each near side compared with the greatest number.
+#![tactic(auto)]
+
 mod direct; // listings with direct exits
 mod lengths; // least lengths
 
 use check::same;
+use files::load;
 use judge::listing::check_listing;
 use judge::walk::LEGAL;
-use libc::STDOUT_FILENO;
 use oracle::lines::{refused_listing, short_listing};
 use oracle::near::{shortfall, sum_of};
 use oracle_length::least::least_length;
@@ -18,6 +20,7 @@ use oracle_text::job::{CHOSEN, Job, blank, count_marked};
 use oracle_text::page::{Page, byte, decimal, word};
 use oracle_text::random::random_job;
 use oracle_text::text::{ACCEPTED, read_text, write_text};
+use std::rt::Files;
 
 // What a vector came to.
 const REFUSED: usize = 0;
@@ -27,18 +30,6 @@ const SHORT: usize = 1;
 const WIRED: usize = 2;
 
 const WRONG: usize = 3;
-
-// Reads the file of this name into the page, and gives its length.
-fn load(name: &[u8], page: &mut Page) -> usize {
-    let fd = os::open_read(name);
-    if fd < 0 {
-        os::fail(name);
-        return 0;
-    }
-    let n = io::read_full(fd, page);
-    libc::close(fd);
-    n
-}
 
 fn whole(page: &Page) -> &[u8] {
     page
@@ -55,34 +46,40 @@ fn bytes(page: &Page, n: usize) -> &[u8] {
 }
 
 // Reads the file of the vector `name` that has this ending.
-fn load_vector(name: &[u8], ending: &[u8], page: &mut Page) -> usize {
+fn load_vector(rt: &(impl Files + Eprint), name: &[u8], ending: &[u8], page: &mut Page) -> usize {
     let mut path = [0u8; 262144];
     let a = word(&mut path, 0, name);
     let b = word(&mut path, a, ending);
-    load(bytes(&path, b), page)
+    load(rt, bytes(&path, b), page)
 }
 
 // What is in the file of the vector `name` that has this ending.
-fn is_file(name: &[u8], ending: &[u8], expected: &[u8]) -> bool {
+fn is_file(rt: &(impl Files + Eprint), name: &[u8], ending: &[u8], expected: &[u8]) -> bool {
     let mut page = [0u8; 262144];
-    let n = load_vector(name, ending, &mut page);
+    let n = load_vector(rt, name, ending, &mut page);
     same(bytes(&page, n), expected)
 }
 
-fn refused(name: &[u8], offset: usize) -> usize {
+fn refused(rt: &(impl Files + Eprint), name: &[u8], offset: usize) -> usize {
     let mut mine = [0u8; 262144];
     let n = refused_listing(offset, &mut mine);
-    if is_file(name, b".expect", bytes(&mine, n)) {
+    if is_file(rt, name, b".expect", bytes(&mine, n)) {
         REFUSED
     } else {
         WRONG
     }
 }
 
-fn short(name: &[u8], job: &Job, missed: usize, near: &[u8; 32768]) -> usize {
+fn short(
+    rt: &(impl Files + Eprint),
+    name: &[u8],
+    job: &Job,
+    missed: usize,
+    near: &[u8; 32768],
+) -> usize {
     let mut mine = [0u8; 262144];
     let n = short_listing(job, missed, near, &mut mine);
-    if is_file(name, b".expect", bytes(&mine, n)) {
+    if is_file(rt, name, b".expect", bytes(&mine, n)) {
         SHORT
     } else {
         WRONG
@@ -90,23 +87,23 @@ fn short(name: &[u8], job: &Job, missed: usize, near: &[u8; 32768]) -> usize {
 }
 
 // The listing beside the vector is legal, and no shorter than the least length.
-fn is_listed(name: &[u8], job: &Job) -> bool {
+fn is_listed(rt: &(impl Files + Eprint), name: &[u8], job: &Job) -> bool {
     let mut list = [0u8; 262144];
-    let n = load_vector(name, b".list", &mut list);
+    let n = load_vector(rt, name, b".list", &mut list);
     let w = check_listing(job, bytes(&list, n));
     w.fault == LEGAL && w.length as usize >= least_length(job)
 }
 
-fn wired(name: &[u8], job: &Job) -> usize {
+fn wired(rt: &(impl Files + Eprint), name: &[u8], job: &Job) -> usize {
     let mut mine = [0u8; 262144];
     let wires = count_marked(job, CHOSEN);
     let a = word(&mut mine, 0, b"(wires ");
     let b = decimal(&mut mine, a, wires);
     let c = word(&mut mine, b, b")\n");
     let d = total_lines(&mut mine, c, wires, least_length(job));
-    let whole = is_file(name, b".expect", bytes(&mine, d));
-    let first = is_file(name, b".expect", bytes(&mine, c));
-    if whole || first && is_listed(name, job) {
+    let whole = is_file(rt, name, b".expect", bytes(&mine, d));
+    let first = is_file(rt, name, b".expect", bytes(&mine, c));
+    if whole || first && is_listed(rt, name, job) {
         WIRED
     } else {
         WRONG
@@ -114,32 +111,30 @@ fn wired(name: &[u8], job: &Job) -> usize {
 }
 
 // Runs one vector. An accepted text is also what the writer makes of its job.
-fn vector(name: &[u8]) -> usize {
+fn vector(rt: &(impl Files + Eprint), name: &[u8]) -> usize {
     let mut text = [0u8; 262144];
     let mut job = blank();
-    let n = load_vector(name, b".job", &mut text);
+    let n = load_vector(rt, name, b".job", &mut text);
     let s = read_text(bytes(&text, n), &mut job);
     if s.stage != ACCEPTED {
-        return refused(name, s.at);
+        return refused(rt, name, s.at);
     }
     let m = write_text(&job, &mut text);
-    if !is_file(name, b".job", bytes(&text, m)) {
+    if !is_file(rt, name, b".job", bytes(&text, m)) {
         return WRONG;
     }
     let mut near = [0u8; 32768];
     let missed = shortfall(&job, &mut near);
     if missed == 0 {
-        wired(name, &job)
+        wired(rt, name, &job)
     } else {
-        short(name, &job, missed, &near)
+        short(rt, name, &job, missed, &near)
     }
 }
 
-fn line(w: &[u8], n: u64) {
-    io::write_all(STDOUT_FILENO, w);
-    io::write_all(STDOUT_FILENO, b" ");
-    io::print_decimal(STDOUT_FILENO, n);
-    io::write_all(STDOUT_FILENO, b"\n");
+fn line(rt: &impl Print, w: &[u8], n: u64) {
+    let _ = rt.write_all(w);
+    let _ = println!(rt; " {n}");
 }
 
 // Counts one more of what `k` says.
@@ -149,44 +144,44 @@ fn tally(counts: &mut [u64; 4], k: usize) {
     }
 }
 
-fn run(counts: &mut [u64; 4], name: &[u8]) {
-    let k = vector(name);
+fn run(rt: &(impl Files + Print + Eprint), counts: &mut [u64; 4], name: &[u8]) {
+    let k = vector(rt, name);
     if k == WRONG {
-        line(name, 0);
+        line(rt, name, 0);
     }
     tally(counts, k);
 }
 
 // The vector STEM with the number k, of two digits.
-fn numbered(counts: &mut [u64; 4], stem: &[u8], k: usize) {
+fn numbered(rt: &(impl Files + Print + Eprint), counts: &mut [u64; 4], stem: &[u8], k: usize) {
     let mut name = [0u8; 262144];
     let a = word(&mut name, 0, stem);
     let b = if k < 10 { byte(&mut name, a, b'0') } else { a };
     let c = decimal(&mut name, b, k);
-    run(counts, bytes(&name, c));
+    run(rt, counts, bytes(&name, c));
 }
 
 // The first `n` vectors of the stem.
-fn series(counts: &mut [u64; 4], stem: &[u8], n: usize) {
+fn series(rt: &(impl Files + Print + Eprint), counts: &mut [u64; 4], stem: &[u8], n: usize) {
     for k in 0..n {
-        numbered(counts, stem, k);
+        numbered(rt, counts, stem, k);
     }
 }
 
-fn vectors() {
+fn vectors(rt: &(impl Files + Print + Eprint)) {
     let mut counts = [0u64; 4];
-    series(&mut counts, b"job0", 60);
-    series(&mut counts, b"text0", 60);
-    run(&mut counts, b"empty");
-    run(&mut counts, b"four");
-    series(&mut counts, b"K2/job", 16);
-    series(&mut counts, b"K2/text", 4);
-    series(&mut counts, b"K8/job", 16);
-    series(&mut counts, b"K8/text", 4);
-    line(b"refused", counts[0]);
-    line(b"short", counts[1]);
-    line(b"wired", counts[2]);
-    line(b"wrong", counts[3]);
+    series(rt, &mut counts, b"job0", 60);
+    series(rt, &mut counts, b"text0", 60);
+    run(rt, &mut counts, b"empty");
+    run(rt, &mut counts, b"four");
+    series(rt, &mut counts, b"K2/job", 16);
+    series(rt, &mut counts, b"K2/text", 4);
+    series(rt, &mut counts, b"K8/job", 16);
+    series(rt, &mut counts, b"K8/text", 4);
+    line(rt, b"refused", counts[0]);
+    line(rt, b"short", counts[1]);
+    line(rt, b"wired", counts[2]);
+    line(rt, b"wrong", counts[3]);
 }
 
 // The listing in the page is refused once its byte `k` is changed.
@@ -212,16 +207,16 @@ fn notice_all(counts: &mut [u64; 4], job: &Job, list: &Page, n: usize) {
 }
 
 // Changes each byte of the listing of the vector `name`.
-fn spoil(name: &[u8]) {
+fn spoil(rt: &(impl Files + Print + Eprint), name: &[u8]) {
     let mut counts = [0u64; 4];
     let mut page = [0u8; 262144];
     let mut job = blank();
-    let n = load_vector(name, b".job", &mut page);
+    let n = load_vector(rt, name, b".job", &mut page);
     read_text(bytes(&page, n), &mut job);
-    let l = load_vector(name, b".list", &mut page);
+    let l = load_vector(rt, name, b".list", &mut page);
     notice_all(&mut counts, &job, &page, l);
-    line(b"changes noticed", counts[0]);
-    line(b"changes not noticed", counts[1]);
+    line(rt, b"changes noticed", counts[0]);
+    line(rt, b"changes not noticed", counts[1]);
 }
 
 fn is_same(a: &Job, b: &Job) -> bool {
@@ -269,39 +264,39 @@ fn draw_all(counts: &mut [u64; 4]) {
     }
 }
 
-fn random() {
+fn random(rt: &impl Print) {
     let mut counts = [0u64; 4];
     draw_all(&mut counts);
-    line(b"random wired", counts[0]);
-    line(b"random short", counts[1]);
-    line(b"random wrong", counts[3]);
+    line(rt, b"random wired", counts[0]);
+    line(rt, b"random short", counts[1]);
+    line(rt, b"random wrong", counts[3]);
 }
 
-fn direct_exits() {
+fn direct_exits(rt: &impl Print) {
     let mut counts = [0u64; 2];
     direct::direct(&mut counts);
-    line(b"direct exits judged", counts[0]);
-    line(b"direct exits misjudged", counts[1]);
+    line(rt, b"direct exits judged", counts[0]);
+    line(rt, b"direct exits misjudged", counts[1]);
 }
 
-fn least_lengths() {
+fn least_lengths(rt: &impl Print) {
     let mut counts = [0u64; 2];
     lengths::examples(&mut counts);
-    line(b"least lengths judged", counts[0]);
-    line(b"least lengths misjudged", counts[1]);
+    line(rt, b"least lengths judged", counts[0]);
+    line(rt, b"least lengths misjudged", counts[1]);
     let mut random = [0u64; 3];
     lengths::random(&mut random);
-    line(b"random least lengths right", random[0]);
-    line(b"random least lengths wrong", random[1]);
-    line(b"random jobs that cannot be wired", random[2]);
+    line(rt, b"random least lengths right", random[0]);
+    line(rt, b"random least lengths wrong", random[1]);
+    line(rt, b"random jobs that cannot be wired", random[2]);
 }
 
-fn main() {
-    vectors();
-    spoil(b"four");
-    spoil(b"job003");
-    spoil(b"K2/job05");
-    direct_exits();
-    least_lengths();
-    random();
+fn main(rt: HostRuntime) {
+    vectors(&rt);
+    spoil(&rt, b"four");
+    spoil(&rt, b"job003");
+    spoil(&rt, b"K2/job05");
+    direct_exits(&rt);
+    least_lengths(&rt);
+    random(&rt);
 }
