@@ -1,5 +1,7 @@
 // Loads that lead outward, in which no loop stands: beside them only a link along which wires go inward, or round, is fresh. The array is parted into four
 // sectors, one for each rim; within a tile the way to the rim of its sector leads outward.
+#![tactic(auto)]
+
 ghost use Rattle.std.specs.Prelude.{◌≡◌, true, false, ℕ, ◌+◌, ◌-◌, ◌*◌, ◌/◌, ◌≤◌, ◌<◌, ltb, length, get_or};
 ghost use Rattle.sums.specs.Counting.{when};
 ghost use Rattle.model.specs.Links.{compass_code};
