@@ -1,5 +1,7 @@
 // The tests of a record's cells, by the numbers of the cells: a cell's values, counts and own D, the bytes of its links, and the loads at its places. No test has a way out
 // and none divides, so that a loop over the cells can be made one of vectors. The test of the bytes that nothing uses stands beside them.
+#![tactic(auto)]
+
 mod grid; // the pins and the tiles by number
 mod links; // the bytes of a cell's links
 mod places; // the loads at a cell's places

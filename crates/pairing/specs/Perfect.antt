@@ -32,6 +32,7 @@ pub record Proper (w : ℕ → Bool) (n : ℕ) (p : Pair) : Type 0 where
 -- ---- entries of a list of pairs
 
 each_at : {P : ℕ → ℕ → Type 0} {p : Pair} {l : List Pair} → Each P l → Memᴰ p l → P p.fst p.snd
+each_at {P = P} {p = p} Rattle.pairing.specs.Rounds.no_more x3 = elim x3 [ ]
 each_at {P} {p} (one_more h r) (Memᴰ.head e) = subst (λ (q : Pair). P q.fst q.snd) (sym e) h
 each_at (one_more h r) (Memᴰ.tail m) = each_at r m
 
@@ -51,7 +52,7 @@ partner-paired i (p ∷ l) h = by (eqb i p.fst) refl (eqb i p.snd) refl (partner
     by true e b g ih = rw (partner-fst p l i e) (omega (arith, same_self p.snd))
     by false e true g ih = rw (partner-snd p l i e g) (omega (arith, same_self p.fst))
     by false e false g ih =
-        rw (partner-next p l i e g)
+        subst (λ (k : ℕ). 0 < paired k (p ∷ l)) (sym (partner-next p l i e g))
         (omega (arith, ih (omega (arith, ap (λ (b : Bool). when b 1) e, ap (λ (b : Bool). when b 1) g))))
 
 module _ (w : ℕ → Bool) (n : ℕ) where

@@ -1,6 +1,8 @@
 // The partner of a lane round a place. A place has at most five links, in clockwise order: slots 0 to 4. `arrive` and `depart` say how many lanes arrive
 // and depart on each, 0 where there is no link. The partner of an arriving lane is a departing one, by document 01's rounds: in the sequence of ends round
 // the place the first neighbouring arrival and departure are joined and struck out, until nothing is left. docs/PAIRING.md has the steps beside the paper's.
+#![tactic(auto)]
+
 ghost use Rattle.std.specs.Prelude.{◌≡◌, ◌++◌, ◌+◌, ◌*◌, ◌-◌, ◌≤◌, ◌<◌, length, take, get_or};
 ghost use Rattle.std.proofs.Math.Option.{none};
 ghost use Rattle.sums.specs.Counting.{sum};

@@ -1,0 +1,14 @@
+-- `links::side_room` meets its contract: what a side takes is small. Assumes nothing.
+use native.Mathlib.Omega.{arith}
+use Rattle.model.specs.Record.{job_of}
+use Rattle.channel.specs.Map.{row_of, column_of}
+use Rattle.channel.specs.Laid.{side-least}
+use Rattle.cell.specs.Cell.Tests.{caps-range}
+use Rattle.cell.proofs.links.side_room.Goals as goal
+
+pub returns : goal.returns
+returns c =
+    let s = c in
+    let J = job_of s.args.rec.now in
+    let (a, _) = caps-range J.O J.D J.E s.requires.4 in
+    (c.side_most.ensures.0, omega (arith, c.side_most.ensures.0, side-least J s.args.k (row_of s.args.x) (column_of s.args.x) s.requires.1))

@@ -1,0 +1,58 @@
+-- `pairing::lay_link` meets its contract. The loop's invariant: the first i ends of the link are laid, and no other. Assumes nothing.
+use mathlib.Core.Path.{◌≡◌, refl, ap, subst, ◌∙◌}
+use Prim.Native.Nat.{ℕ, ◌+◌, ◌-◌}
+use native.Mathlib.Omega.{arith}
+use native.Mathlib.Numerals.{add-one}
+use lib.ListN.{length-set}
+use Rattle.sums.specs.Counting.{sum}
+use Rattle.pairing.specs.Answer.{lanes}
+use Rattle.pairing.specs.Slots.{start, start-later}
+use Rattle.pairing.specs.Sequence.{Laid, link-end, lay-more}
+use Rattle.pairing.proofs.lay_link.Goals as goal
+
+pub loop-i-init : goal.loop-i-init
+loop-i-init c =
+    let a = c.args in
+    let e : a.from ≡ a.from + 0 = omega arith in
+    (omega arith, refl, subst (λ (k : ℕ). Laid (lanes a.arrive.now) (lanes a.depart.now) k a.ends.now) e c.requires.depart_bound.1)
+
+pub overflow_add-ends : goal.overflow_add-ends
+overflow_add-ends c =
+    let s = c in
+    omega (arith, start-later (lanes s.args.arrive.now) (lanes s.args.depart.now) s.args.slot 5 (omega arith))
+
+pub offset_bounds-ends-from : goal.offset_bounds-ends-from
+offset_bounds-ends-from c =
+    let s = c in
+    omega (arith, start-later (lanes s.args.arrive.now) (lanes s.args.depart.now) s.args.slot 5 (omega arith))
+
+pub bounds-ends-from : goal.bounds-ends-from
+bounds-ends-from c =
+    let s = c in
+    omega (arith, start-later (lanes s.args.arrive.now) (lanes s.args.depart.now) s.args.slot 5 (omega arith))
+
+pub loop-i-preserved : goal.loop-i-preserved
+loop-i-preserved c =
+    let s = c in
+    let l = c.loop-i in
+    let a = lanes s.args.arrive.now in
+    let d = lanes s.args.depart.now in
+    let k = s.args.slot in (
+      omega arith,
+      length-set l.ends (s.args.from + l.i) _ ∙ l.invariant.1,
+      lay-more a d (s.args.from + l.i) _ _ l.ends (omega arith) (omega (arith, start-later a d k 5 (omega arith))) l.invariant.2
+          (link-end a d k s.args.from c.lanes_at-come.result l.i _ (omega arith) (omega arith) (omega arith) (omega arith) (omega arith) (omega arith)
+          c.link_end.ensures),
+    )
+
+pub returns : goal.returns
+unfolding sum
+returns c =
+    let s = c in
+    let l = c.loop-i in
+    let a = lanes s.args.arrive.now in
+    let d = lanes s.args.depart.now in
+    let e : s.args.from + l.i ≡ s.args.from + (c.lanes_at-come.result + c.lanes_at.result) = omega arith in record {
+      value = omega (arith, ap (start a d) (add-one s.args.slot));
+      laid = subst (λ (k : ℕ). Laid a d k l.ends) e l.invariant.2;
+    }
