@@ -9,7 +9,8 @@ use Rattle.model.proofs.Added.{unset-fits}
 use Rattle.cell.specs.Cell.{values_fit, counts_fit, own_fits, links_fit, places_even}
 use Rattle.channel.specs.Map.{row_of, column_of}
 use Rattle.cell.specs.Cell.Grid.{by_number, by_row}
-use Rattle.cell.specs.Cell.Links.{LoadsFit, links-all, links-pass}
+use Rattle.cell.specs.Cell.Links.{LoadsFit}
+use Rattle.cell.proofs.LinksFit.{links-all, links-pass}
 use Rattle.cell.specs.Cell.Places.{LoadsEven, places-all, places-pass}
 use Rattle.cell.specs.Cell.Counts.{counts-pass, norths-all, wests-all}
 use Rattle.cell.specs.Cell.Own.{own-pass, owns-all}

@@ -1,5 +1,5 @@
 -- Cells that pass the test of their links have loads in range, within their limits and only where a wire may go, and the other way round: a link's byte
--- that passes has at most as many wires each way as there is room. Assumes nothing.
+-- that passes has at most as many wires each way as there is room. They rest on what a byte's test says, which `proofs/LinksFit` gives. Assumes nothing.
 use Rattle.std.specs.Prelude.{◌≡◌, ◌≢◌, Bool, not, ◌&&◌, ◌||◌, List, ℕ, zero, suc, ◌+◌, ◌≤◌, ◌<◌, eqb, ltb}
 use Rattle.std.proofs.Math.Path.{refl, ap}
 use Rattle.std.proofs.Common.{sym, subst, le→leb, ltb→lt, lt→ltb}
@@ -24,10 +24,13 @@ record Fits (b forth back : ℕ) : Type 0 where
   along : forth_part b ≤ forth
   against : back_part b ≤ back
 
-module _ (b forth back : ℕ) where
+-- what the test of a byte says
+abbrev pub FitsAre : Type 0
+FitsAre = (b forth back : ℕ) → fits b forth back ≡ (leb b forth || (ltb 32 b && leb b (32 + back)))
+
+module _ (law : FitsAre) (b forth back : ℕ) where
   fits-yes : forth ≤ 31 → back ≤ 31 → T (fits b forth back) → Fits b forth back
-  unfolding fits
-  fits-yes l m = or-by (leb b forth) (ltb 32 b && leb b (32 + back)) along against
+  fits-yes l m t = or-by (leb b forth) (ltb 32 b && leb b (32 + back)) along against (subst T (law b forth back) t)
     where
       along : T (leb b forth) → Fits b forth back
       along t =
@@ -41,8 +44,7 @@ module _ (b forth back : ℕ) where
           record { small = omega arith; split = λ e. omega arith; along = omega arith; against = omega arith }
 
   fits-so : Fits b forth back → T (fits b forth back)
-  unfolding fits
-  fits-so f = by (leb b forth) refl
+  fits-so f = subst T (sym (law b forth back)) (by (leb b forth) refl)
     where
       by : (t : Bool) → leb b forth ≡ t → T (t || (ltb 32 b && leb b (32 + back)))
       by true e = tt
@@ -119,7 +121,7 @@ module _ (rec : List ℕ) where
 
   -- ---- cells that pass
 
-  module _ (caps : T (caps_fit J.O J.D J.E)) (t : (r c : ℕ) → r < 40 → c < 40 → T (links_fit rec r c)) where
+  module _ (law : FitsAre) (caps : T (caps_fit J.O J.D J.E)) (t : (r c : ℕ) → r < 40 → c < 40 → T (links_fit rec r c)) where
     orthogonal-small : J.O ≤ 8
     orthogonal-small = (caps-range J.O J.D J.E caps).0
 
@@ -148,13 +150,13 @@ module _ (rec : List ℕ) where
       link-part direct = and_right (legs_fit rec r c) (link_fits rec direct r c) pin-part
 
     empty-link : (k : LinkKind) (r c : ℕ) → ltb r 40 && ltb c 40 ≡ false → T (link_fits rec k r c)
-    unfolding link_fits fits
-    empty-link k r c e = rw (off-grid rec (load_plane k) r c e, leb-zero) tt
+    unfolding link_fits
+    empty-link k r c e = subst T (sym (law _ _ _)) (rw (off-grid rec (load_plane k) r c e, leb-zero) tt)
 
     within : (k : LinkKind) (r c : ℕ) → Within k r c
     unfolding link_fits
     within k r c =
-        fits-yes _ _ _ (room_small J orthogonal-small (go k r c)) (room_small J orthogonal-small (come k r c))
+        fits-yes law _ _ _ (room_small J orthogonal-small (go k r c)) (room_small J orthogonal-small (come k r c))
         (on-grid (λ r c. T (link_fits rec k r c)) (λ r c a b. link-part r c a b k) (empty-link k) r c)
 
     way-room : (l : Link) (b : Bool) → load rec (record { link = l; forth = b }) ≤ room J (record { link = l; forth = b })
@@ -175,8 +177,8 @@ module _ (rec : List ℕ) where
         by zero f l = omega (arith, load-limit (turn s) k e)
         by (suc n) f l = omega (arith, f (omega arith))
 
-    pub links-all : LoadsFit
-    links-all =
+    pub links-all-by : LoadsFit
+    links-all-by =
         record {
           bytes = λ k r c. ((within k r c).small, (within k r c).split);
           one_way = λ s. way-one s.link s.forth;
@@ -187,7 +189,7 @@ module _ (rec : List ℕ) where
 
   -- ---- loads that fit
 
-  module _ (fit : LoadsFit) where
+  module _ (law : FitsAre) (fit : LoadsFit) where
     load-small : (l : Link) (b : Bool) → load rec (record { link = l; forth = b }) ≤ 31
     unfolding load
     load-small l true = omega (arith, (fit.bytes l.kind l.row l.column).0)
@@ -213,12 +215,12 @@ module _ (rec : List ℕ) where
     link-pass : (k : LinkKind) (r c : ℕ) → T (link_fits rec k r c)
     unfolding load link_fits
     link-pass k r c =
-        fits-so _ _ _
+        fits-so law _ _ _
         (record { small = (fit.bytes k r c).0; split = (fit.bytes k r c).1; along = has_room_lem (go k r c); against = has_room_lem (come k r c) })
 
-    pub links-pass : (r c : ℕ) → T (links_fit rec r c)
+    pub links-pass-by : (r c : ℕ) → T (links_fit rec r c)
     unfolding links_fit sides_fit corners_fit spokes_fit legs_fit
-    links-pass r c =
+    links-pass-by r c =
         and_both (sides_fit rec r c) (corners_fit rec r c && (spokes_fit rec r c && (legs_fit rec r c && link_fits rec direct r c)))
         (and_both (link_fits rec north_side r c) (link_fits rec west_side r c) (link-pass north_side r c) (link-pass west_side r c))
         (and_both (corners_fit rec r c) (spokes_fit rec r c && (legs_fit rec r c && link_fits rec direct r c)) (four-all (λ d. link_fits rec (corner d) r c) (λ d. link-pass (corner d) r c))

@@ -1,0 +1,2 @@
+-- the laws of the test of a cell's links
+pub mod LinksFit
