@@ -1,0 +1,2 @@
+-- the rule of the table
+pub mod TableExact
