@@ -15,6 +15,3 @@ pub mod Most
 pub mod Tight
 pub mod Complete
 pub mod LeastRecord
--- The service, and demand 3 of it.
-pub mod Served
-pub mod Demand

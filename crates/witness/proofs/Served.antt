@@ -1,25 +1,23 @@
 -- Document 01, "Record and operations": a service, by mathematics alone. Each call is answered by decisions: whether the record is legal, what the verdict
 -- of a text is, whether one wire more fits, and what the greatest number and the smallest near side are. Nothing of it is ever run; it shows that the
 -- promises of the operations can be kept together, so that a theorem about every service has something to speak of. Assumes nothing.
-use Rattle.std.specs.Prelude.{◌≡◌, refl, ◌⊎◌, Bool, true, false, List, [], ℕ, ◌-◌, ◌≤◌, ◌<◌, T, length}
-use Rattle.std.proofs.Common.{inl, inr, arith}
-use Rattle.std.proofs.Math.Decide.{dec_le, dec_lt}
-use Rattle.model.specs.Route.{chosen_count}
-use Rattle.model.specs.Record.{record_size, scratch_size, job_of, load, Legal, over}
+use Rattle.std.specs.Prelude.{◌≡◌, refl, Bool, true, false, List, [], ℕ, ◌≤◌, T, length}
+use Rattle.std.proofs.Common.{arith}
+use Rattle.std.proofs.Math.Decide.{dec_le}
+use Rattle.model.specs.Record.{record_size, job_of, Legal}
 use Rattle.model.specs.Text.{Verdict, Reading}
 use Rattle.model.specs.Calls.{Call, new, mark, close, lay, diagonal, step, shortfall, part, read_text, write_text, listing, trial, extra, sheet}
-use Rattle.model.specs.Calls.{Answer, refused, added, all_wired, short, lacks, After, after, cleared, sheet_is}
-use Rattle.model.specs.Calls.{newly, tried_on, marked_by, closed_by, laid_in, diagonal_in, listed, read_in, written, listed_out, OneMore, Stepped, adds, stays, lacking, wires_in, near_bytes, extra_in, sheet_left}
-use Rattle.model.specs.Calls.{Shown, none-short, side, On, Steps, Lacks, ReadIn, Did, OnSheet}
+use Rattle.model.specs.Calls.{refused, After, after}
+use Rattle.model.specs.Calls.{newly, tried_on, marked_by, closed_by, laid_in, diagonal_in, listed, read_in, written, listed_out, extra_in, sheet_left}
+use Rattle.model.specs.Calls.{On, Steps, Lacks, ReadIn, Did, OnSheet}
 use Rattle.model.specs.Sheet.{sheet_job, sheet_fits, SheetVerdict, carried, Judged}
 use Rattle.model.specs.Run.{Service}
 use Rattle.sheets.specs.Tests.{ready_of}
 use Rattle.sheets.specs.First.{judged-some}
 use Rattle.witness.specs.Damage.{legal?}
 use Rattle.witness.specs.Verdicts.{reading}
-use Rattle.witness.specs.Added.{Full, add-or-full}
-use Rattle.witness.specs.Most.{wires-chosen, Most, most}
-use Rattle.witness.specs.LeastRecord.{shortened}
+use Rattle.witness.proofs.Steps.{steps}
+use Rattle.witness.proofs.Lacked.{lacked}
 
 -- a call on a record is refused by 1 where it is damaged
 on : (rec scratch output : List ℕ) (Accepts : After → Type 0) → (Legal rec → (a : After) × Accepts a) → (a : After) × On rec scratch output a (Accepts a)
@@ -30,60 +28,6 @@ on rec scratch output Accepts f = by (legal? rec)
     by (no n) = (after (refused 1) rec scratch output, record { damaged = λ h. refl; legal = λ g. absurd (n g) })
 
 module _ (rec : List ℕ) where
-  -- ---- step
-
-  stepped : Legal rec → (w : Answer) × (rec' : List ℕ) × Stepped rec w rec'
-  stepped g = by (add-or-full rec g) (dec_lt (wires_in rec) (chosen_count (job_of rec)))
-    where
-      by : ((rec' : List ℕ) × OneMore rec rec') ⊎ Full rec g → Dec (wires_in rec < chosen_count (job_of rec)) → (w : Answer) × (rec' : List ℕ) × Stepped rec w rec'
-      by (inl (rec', A)) d = (added, rec', adds A)
-      by (inr F) (yes l) = (short, rec, lacking F.greatest l refl)
-      by (inr F) (no n) =
-          let e : wires_in rec ≡ chosen_count (job_of rec) = omega (arith, wires-chosen (job_of rec) (load rec)) in
-          let (rec', s) = shortened rec g e in
-          (all_wired, rec', stays e s)
-
-  steps : (scratch : List ℕ) → Legal rec → (a : After) × Steps scratch rec a
-  steps scratch g = by (dec_le scratch_size (length scratch)) (stepped g)
-    where
-      by : Dec (scratch_size ≤ length scratch) → (w : Answer) × (rec' : List ℕ) × Stepped rec w rec' → (a : After) × Steps scratch rec a
-      by (no n) s = (after (refused 8) rec scratch [], record { small = λ h. refl; enough = λ h. absurd (n h) })
-      by (yes l) (w, rec', s) = (after w rec' (cleared scratch) [], record { small = λ h. absurd (omega arith); enough = λ h. (s, refl, refl) })
-
-  -- ---- shortfall
-
-  shown : (output : List ℕ) (M : Most (job_of rec)) → (output' : List ℕ) × Shown (job_of rec) M.g output output'
-  shown output M = by (dec_lt M.g (chosen_count (job_of rec)))
-    where
-      by : Dec (M.g < chosen_count (job_of rec)) → (output' : List ℕ) × Shown (job_of rec) M.g output output'
-      by (yes l) = (over (near_bytes M.near) output, side l M.near M.smallest refl)
-      by (no n) = (output, none-short (omega (arith, M.le)) refl)
-
-  lacked : (scratch output : List ℕ) → Legal rec → (a : After) × Lacks scratch output rec a
-  lacked scratch output g = by (dec_le scratch_size (length scratch)) (dec_le record_size (length output)) (shown output M)
-    where
-      M : Most (job_of rec)
-      M = most rec g
-
-      by : Dec (scratch_size ≤ length scratch) → Dec (record_size ≤ length output) → (output' : List ℕ) × Shown (job_of rec) M.g output output'
-          → (a : After) × Lacks scratch output rec a
-      by (no n) d s = (
-        after (refused 8) rec scratch output,
-        record { small = λ h. refl; narrow = λ h. absurd (n h); enough = λ h. absurd (n h) },
-      )
-      by (yes l) (no n) s = (
-        after (refused 7) rec scratch output,
-        record { small = λ h. absurd (omega arith); narrow = λ h o. refl; enough = λ h o. absurd (n o) },
-      )
-      by (yes l) (yes m) (output', s) = (
-        after (lacks (chosen_count (job_of rec) - M.g)) rec (cleared scratch) output',
-        record {
-          small = λ h. absurd (omega arith);
-          narrow = λ h o. absurd (omega arith);
-          enough = λ h o. (M.g, M.greatest, refl, s, refl, refl);
-        },
-      )
-
   -- ---- read text
 
   read-in : (text : List ℕ) → (a : After) × ReadIn text rec a

@@ -11,7 +11,7 @@ use Rattle.run.specs.Demand3.{demand3}
 use Rattle.run.specs.Settled.{Answers, WholeAnswers}
 use Rattle.run.specs.Example.{plain, begun, mark_and_step, starts-new, follows-step, edits64, answers64, begun33, edits33, answers33, begun_shut, edits_shut, answers_shut}
 use Rattle.run.specs.WiredRun.{edits_earlier, steps_and_mark, chosen33, last33, wires-stay, demand-stepped}
-use Rattle.witness.specs.Served.{service}
+use Rattle.witness.proofs.Served.{service}
 
 -- the record after the run
 abbrev pub end : List ℕ
