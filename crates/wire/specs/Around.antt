@@ -23,6 +23,7 @@ module _ (J : Job) where
 
   leave-at : (x : Place) (l : List Step) (s : Step) → Leave x l → Memᴰ s l → tail J s ≡ x
   unfolding Leave
+  leave-at x [] s v x3 = elim x3 [ ]
   leave-at x (t ∷ l) s v (Memᴰ.head e) = ap (tail J) e ∙ v.0
   leave-at x (t ∷ l) s v (Memᴰ.tail m) = leave-at x l s v.1 m
 

@@ -117,6 +117,7 @@ module _ (J : Job) (f : Step → ℕ) (S : Sound J f) where
 
   pub strands-has : (x : Place) (l : List Place) → T (wired_pin x) → Memᴰ x l → Has x (strands l)
   unfolding strands strand_at
+  strands-has x [] w x3 = elim x3 [ ]
   strands-has x (y ∷ l) w (Memᴰ.head e) = by (wired_pin y) refl (subst (λ (z : Place). T (wired_pin z)) e w)
     where
       by : (b : Bool) (q : wired_pin y ≡ b) → T b → Has x (strand_at y b q ++ strands l)
@@ -148,6 +149,7 @@ module _ (J : Job) (f : Step → ℕ) (S : Sound J f) where
 
   hops-has : (ts : List (Strand J f)) (t : Strand J f) (h : Hop) → Memᴰ t ts → Memᴰ h (strand_hops t) → Memᴰ h (hops_of ts)
   unfolding hops_of
+  hops-has [] t h x'' m = elim x'' [ ]
   hops-has (u ∷ ts) t h (Memᴰ.head e) m = Memᴰ.append_left (hops_of ts) (subst (λ (w : Strand J f). Memᴰ h (strand_hops w)) e m)
   hops-has (u ∷ ts) t h (Memᴰ.tail n) m = Memᴰ.append_right (strand_hops u) (hops-has ts t h n m)
 

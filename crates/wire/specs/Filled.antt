@@ -27,6 +27,7 @@ use Rattle.wire.specs.Follow.{Long, longer, long-none, long-short}
 -- where only one lane leaves, it is the first loaded one
 first_alone : (f : Step → ℕ) (s : Step) (l : List Step) → total l f ≤ 1 → Memᴰ s l → 0 < f s → first_loaded f l ≡ some (record { step = s; lane = 0 })
 unfolding total first_loaded
+first_alone f s mathlib.Core.List.[] h x3 k = elim x3 [ ]
 first_alone f s (t ∷ l) h (mathlib.Core.List.Memᴰ.head e) k =
     rw (lt-ltb 0 (f t) (omega (arith, ap f e)), first_loaded) (ap (λ (u : Step). some (record { step = u; lane = 0 })) (sym e))
 first_alone f s (t ∷ l) h (mathlib.Core.List.Memᴰ.tail m) k =

@@ -89,10 +89,13 @@ module _ (J : Job) (f : Step → ℕ) (S : Sound J f) where
   goes-trail x h [] e l g = (e, omega arith, g)
   goes-trail x h (k ∷ hs) e l g = (e, omega arith, goes-trail (head J h.step) k hs g.1 g.0 g.3)
 
+  each-loaded : (k h : Hop) (hs : List Hop) → Loaded f h → Goes J f h hs → Memᴰ k (h ∷ hs) → Loaded f k
+  each-loaded k h hs l g (Memᴰ.head e) = subst (λ (u : Hop). Loaded f u) (sym e) l
+  each-loaded k h [] l g (Memᴰ.tail m) = absurd (Memᴰ.not-nil m)
+  each-loaded k h (u ∷ hs) l g (Memᴰ.tail m) = each-loaded k u hs g.0 g.3 m
+
   pub goes-loaded : (h : Hop) (hs : List Hop) → Loaded f h → Goes J f h hs → (k : Hop) → Memᴰ k (h ∷ hs) → Loaded f k
-  goes-loaded h hs l g k (Memᴰ.head e) = subst (λ (u : Hop). Loaded f u) (sym e) l
-  goes-loaded h [] l g k (Memᴰ.tail m) = absurd (Memᴰ.not-nil m)
-  goes-loaded h (u ∷ hs) l g k (Memᴰ.tail m) = goes-loaded u hs g.0 g.3 k m
+  goes-loaded h hs l g k m = each-loaded k h hs l g m
 
   -- its last hop comes to the outside
   pub goes-out : (h : Hop) (hs : List Hop) → Goes J f h hs → (n : ℕ) × (k : Hop) × (get_elem? (h ∷ hs) n ≡ some k) × (head J k.step ≡ the_outside)

@@ -33,6 +33,7 @@ images g P (a ∷ l) h b (Memᴰ.head e) = subst P (sym e) (h a)
 images g P (a ∷ l) h b (Memᴰ.tail m) = images g P l h b m
 
 image-of : {A B : Type 0} {a : A} (g : A → B) (l : List A) → Memᴰ a l → Memᴰ (g a) (map g l)
+image-of {A = A} {B = B} {a = a} g [] x' = elim x' [ ]
 image-of g (x ∷ l) (Memᴰ.head e) = Memᴰ.head (ap g e)
 image-of g (x ∷ l) (Memᴰ.tail m) = Memᴰ.tail (image-of g l m)
 

@@ -1,4 +1,6 @@
 // The wire of a pin, followed hop by hop: a hop is a dart along a link and the lane on it. Callers have audited the record.
+#![tactic(auto)]
+
 ghost use Rattle.std.specs.Prelude.{◌≡◌, T};
 ghost use Rattle.std.proofs.Math.Option.{some};
 ghost use Rattle.model.specs.Job.{is_chosen};

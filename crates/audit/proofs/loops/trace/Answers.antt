@@ -1,0 +1,12 @@
+-- `loops::trace` meets its contract: a load byte of 0 has no spot, and from that of any other the search goes on. Assumes nothing.
+use borrow.Author.Rules.{rules}
+use native.Mathlib.Omega.{arith}
+use Rattle.channel.specs.Map.Numbers.{spots-is}
+use Rattle.audit.specs.Loops.Turns.{trace-still}
+use Rattle.audit.proofs.loops.trace.Goals as goal
+
+pub returns-then-r-ge13128 : goal.returns-then-r-ge13128
+returns-then-r-ge13128 c = trace-still c.requires.0 (λ l. absurd (omega (arith, spots-is, c.if-r-ge13128.true, c.origin-r.ensures)))
+
+pub explore-requires : goal.explore-requires
+explore-requires c = search (rules, spots-is)

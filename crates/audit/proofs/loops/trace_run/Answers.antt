@@ -1,0 +1,29 @@
+-- `loops::trace_run` meets its contract: the spots of the fresh links passed are seen, and none is on the stack. Assumes nothing.
+use Prim.Native.Nat.{◌-◌}
+use mathlib.Core.Path.{refl}
+use native.Mathlib.Omega.{arith}
+use Rattle.audit.specs.Loops.Fresh.{fresh-over, fresh-ring, fresh-none}
+use Rattle.audit.specs.Loops.Stack.{seen_done}
+use Rattle.audit.specs.Loops.Turns.{was-ring}
+use Rattle.audit.proofs.loops.trace_run.Goals as goal
+
+pub returns-then-stale_run : goal.returns-then-stale_run
+returns-then-stale_run c = fresh-none _ _ c.requires.0 (c.stale_run.ensures.stale c.if-stale_run.true)
+
+pub trace_fresh-requires : goal.trace_fresh-requires
+trace_fresh-requires c =
+    let t = c in
+    let p = t.requires in
+    (t.loop-i.invariant.4, p.1, omega (arith, p.2, t.loop-i-test.true))
+
+pub returns-in-Ring : goal.returns-in-Ring
+returns-in-Ring c =
+    let t = c in
+    let l = t.loop-i.invariant in
+    let (r, s, k) = was-ring t.trace_fresh.ensures.search c.in-Ring.is in
+    fresh-ring _ _ r s (λ u lu h. k u lu (seen_done l.4 refl u lu (l.5 u (λ e. omega (arith, h, e)))))
+
+pub returns : goal.returns
+returns c =
+    let l = c.loop-i.invariant in
+    fresh-over _ _ l.4 l.5 (λ i a h. l.6 i a (omega (arith, c.loop-i-test.false)))

@@ -1,0 +1,33 @@
+-- `wire::part_for` meets its contract: the place or the rim side, by its spot. Assumes nothing.
+use borrow.Author.Rules.{rules}
+use mathlib.Core.Path.{sym, ◌∙◌}
+use Rattle.channel.specs.Map.Numbers.{darts-is}
+use Rattle.wire.specs.Walks.{part_out, place-grid, part-to}
+use Rattle.wire.proofs.part_for.Goals as goal
+
+pub head_of-v-requires : goal.head_of-v-requires
+head_of-v-requires c = search (rules, darts-is)
+
+pub returns-then-is_outside : goal.returns-then-is_outside
+returns-then-is_outside c =
+    let s = c in
+    part_out s.args.rec.now s.requires.0 s.args.dart s.args.lane s.requires.1 _ c.head_of-v.ensures.0
+    (sym c.is_outside.ensures ∙ c.if-is_outside.true)
+
+pub row_of-requires : goal.row_of-requires
+row_of-requires c =
+    let s = c in
+    place-grid s.args.rec.now s.requires.0 s.args.dart s.args.lane s.requires.1 _ c.head_of-v.ensures.0
+    (sym c.is_outside.ensures ∙ c.if-is_outside.false)
+
+pub column_of-requires : goal.column_of-requires
+column_of-requires c =
+    let s = c in
+    place-grid s.args.rec.now s.requires.0 s.args.dart s.args.lane s.requires.1 _ c.head_of-v.ensures.0
+    (sym c.is_outside.ensures ∙ c.if-is_outside.false)
+
+pub returns : goal.returns
+returns c =
+    let s = c in
+    part-to s.args.rec.now s.requires.0 s.args.dart s.args.lane s.requires.1 _ c.head_of-v.ensures.0
+    (sym c.is_outside.ensures ∙ c.if-is_outside.false) _ _ c.row_of.ensures c.column_of.ensures
