@@ -1,69 +1,58 @@
 // The program of document 02, K1: the capacities that four measures give. Its arguments are pitch, pad diameter, wire width and spacing, in micrometres.
-use libc::{STDERR_FILENO, STDOUT_FILENO};
+#![tactic(auto)]
+
 use rules::argument::{Argument, read_number};
 use rules::{Answer, Figures, refusal_of};
+use std::env::{Env, FillError};
+use std::io;
 
-// A word, and a number after it.
-fn number(word: &[u8], n: u64) {
-    io::write_all(STDOUT_FILENO, word);
-    io::print_decimal(STDOUT_FILENO, n);
+fn show_figures(rt: &HostRuntime, f: Figures) -> io::Result<()> {
+    print!(rt; "(rules (o {} {})", f.orthogonal, f.remainder)?;
+    print!(rt; " (k {} {})", f.count, f.left)?;
+    println!(rt; " (d {}))", f.diagonal)
 }
 
-fn show_figures(f: Figures) {
-    number(b"(rules (o ", f.orthogonal);
-    number(b" ", f.remainder);
-    number(b") (k ", f.count);
-    number(b" ", f.left);
-    number(b") (d ", f.diagonal);
-    io::write_all(STDOUT_FILENO, b"))\n");
-}
-
-fn show(answer: Answer) {
+fn show(rt: &HostRuntime, answer: Answer) -> io::Result<()> {
     let Answer::Gives(f) = answer else {
-        number(b"(refused ", refusal_of(answer));
-        io::write_all(STDOUT_FILENO, b")\n");
-        return;
+        return println!(rt; "(refused {})", refusal_of(answer));
     };
-    show_figures(f);
+    show_figures(rt, f)
 }
 
 // The number that argument i is.
-fn measure(i: usize) -> Argument {
-    let mut text = io::buffer();
-    let n = os::arg(i, &mut text);
-    if os::errno() != 0 {
-        return Argument::NoNumber;
+fn measure(rt: &HostRuntime, i: usize) -> Argument {
+    let mut text = [0u8; 4096];
+    match rt.arg(i, &mut text) {
+        Ok(n) => read_number(&text[..n]),
+        Err(_) => Argument::NoNumber,
     }
-    read_number(&text[..n])
 }
 
-fn usage() {
-    io::write_all(
-        STDERR_FILENO,
-        b"usage: design_rules PITCH PAD WIDTH SPACING, whole numbers of micrometres\n",
-    );
+// Whether there is an argument i, of any length.
+fn is_given(rt: &HostRuntime, i: usize) -> bool {
+    let mut text = [0u8; 4096];
+    !matches!(rt.arg(i, &mut text), Err(FillError::NotPresent))
 }
 
-fn main() {
-    if os::arg_count() != 5 {
-        usage();
-        return;
+fn usage(rt: &HostRuntime) -> io::Result<()> {
+    eprintln!(rt; "usage: design_rules PITCH PAD WIDTH SPACING, whole numbers of micrometres")
+}
+
+fn main(rt: HostRuntime) -> io::Result<()> {
+    if is_given(&rt, 5) {
+        return usage(&rt);
     }
-    let Argument::Number(p) = measure(1) else {
-        usage();
-        return;
+    let Argument::Number(p) = measure(&rt, 1) else {
+        return usage(&rt);
     };
-    let Argument::Number(d) = measure(2) else {
-        usage();
-        return;
+    let Argument::Number(d) = measure(&rt, 2) else {
+        return usage(&rt);
     };
-    let Argument::Number(w) = measure(3) else {
-        usage();
-        return;
+    let Argument::Number(w) = measure(&rt, 3) else {
+        return usage(&rt);
     };
-    let Argument::Number(s) = measure(4) else {
-        usage();
-        return;
+    let Argument::Number(s) = measure(&rt, 4) else {
+        return usage(&rt);
     };
-    show(rules::rules(p, d, w, s));
+    show(&rt, rules::rules(p, d, w, s))
 }

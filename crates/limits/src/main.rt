@@ -1,17 +1,15 @@
 // Prints the limits of the four-pin job of document 01: 2 by 2 pins, capacities 1 2 0.
-use libc::STDOUT_FILENO;
+#![tactic(auto)]
+
 use model::{Array, Capacities};
+use std::io;
 
 // One line: a word and a number.
-fn line(word: &[u8], n: usize) {
-    io::write_all(STDOUT_FILENO, b"(");
-    io::write_all(STDOUT_FILENO, word);
-    io::write_all(STDOUT_FILENO, b" ");
-    io::print_decimal(STDOUT_FILENO, n as u64);
-    io::write_all(STDOUT_FILENO, b")\n");
+fn line(rt: &HostRuntime, word: &str, n: usize) -> io::Result<()> {
+    println!(rt; "({word} {n})")
 }
 
-fn main() {
+fn main(rt: HostRuntime) -> io::Result<()> {
     let array = Array {
         rows: 2,
         columns: 2,
@@ -22,13 +20,13 @@ fn main() {
         extra: 0,
     };
     if !array.fits() {
-        return;
+        return Ok(());
     }
     if !caps.admitted() {
-        return;
+        return Ok(());
     }
-    line(b"side", caps.orthogonal);
-    line(b"corner", caps.orthogonal / 2);
-    line(b"centre", caps.centre_limit());
-    line(b"missing", caps.extra);
+    line(&rt, "side", caps.orthogonal)?;
+    line(&rt, "corner", caps.orthogonal / 2)?;
+    line(&rt, "centre", caps.centre_limit())?;
+    line(&rt, "missing", caps.extra)
 }

@@ -1,4 +1,6 @@
 // Document 02, K1: the capacities of an array from pitch p, pad diameter d, wire width w and spacing s, in micrometres.
+#![tactic(auto)]
+
 ghost use Rattle.std.specs.Prelude.{◌≡◌, ◌+◌, ◌≤◌, min, T, ltb};
 ghost use Rattle.model.specs.Job.{in_range};
 ghost use Rattle.rules.specs.Rules.{measured, refusal, Answered};

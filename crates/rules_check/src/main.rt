@@ -1,14 +1,18 @@
 // Runs `rules` on the vectors of document 02's K1, on random measures beside a second computation, and on arguments as the program `design_rules` takes them.
 // It writes the counts, with ok if nothing is wrong.
+#![tactic(auto)]
+
 mod draws; // measures at random
 mod plain; // the second computation
 mod vectors; // the vectors' lines
 
 use draws::draw;
-use libc::STDOUT_FILENO;
+use files::load;
 use plain::{Came, equal, plain, refused};
 use rules::argument::{Argument, read_number};
 use rules::{Answer, refusal_of};
+use std::io;
+use std::rt::Files;
 use vectors::{Line, blank, expected, fed};
 
 // What is counted.
@@ -74,16 +78,9 @@ fn lines(counts: &mut [u64; 6], text: &[u8]) {
 }
 
 // The vectors of the file.
-fn file(counts: &mut [u64; 6]) {
-    let name = b"rules.txt";
-    let fd = os::open_read(name);
-    if fd < 0 {
-        os::fail(name);
-        return;
-    }
-    let mut text = io::buffer();
-    let n = io::read_full(fd, &mut text);
-    libc::close(fd);
+fn file(rt: &(impl Files + Eprint), counts: &mut [u64; 6]) {
+    let mut text = [0u8; 4096];
+    let n = load(rt, b"rules.txt", &mut text);
     lines(counts, &text[..n]);
 }
 
@@ -144,25 +141,19 @@ fn randoms(counts: &mut [u64; 6]) {
     }
 }
 
-fn number(w: &[u8], n: u64) {
-    io::write_all(STDOUT_FILENO, w);
-    io::print_decimal(STDOUT_FILENO, n);
-}
-
-fn main() {
+fn main(rt: HostRuntime) -> io::Result<()> {
     let mut counts = [0u64; 6];
-    file(&mut counts);
+    file(&rt, &mut counts);
     arguments(&mut counts);
     randoms(&mut counts);
-    number(b"vectors ", counts[VECTORS]);
-    number(b" arguments ", counts[ARGUMENTS]);
-    number(b" accepted ", counts[ACCEPTED]);
-    number(b" refused 9 ", counts[REFUSED_9]);
-    number(b" refused 10 ", counts[REFUSED_10]);
+    print!(rt; "vectors {}", counts[VECTORS])?;
+    print!(rt; " arguments {}", counts[ARGUMENTS])?;
+    print!(rt; " accepted {}", counts[ACCEPTED])?;
+    print!(rt; " refused 9 {}", counts[REFUSED_9])?;
+    print!(rt; " refused 10 {}", counts[REFUSED_10])?;
     if counts[WRONG] == 0 {
-        io::write_all(STDOUT_FILENO, b" ok\n");
+        println!(rt; " ok")
     } else {
-        number(b" wrong ", counts[WRONG]);
-        io::write_all(STDOUT_FILENO, b"\n");
+        println!(rt; " wrong {}", counts[WRONG])
     }
 }

@@ -2,7 +2,7 @@
 ghost use Rattle.std.specs.Prelude.{◌<◌, ◌≤◌};
 
 // What a call came to: the refusal's number, or 0 and the five numbers.
-#[derive(Drop)]
+#[derive(Clone, Copy)]
 pub struct Came {
     pub code: u64,
     pub o: u64,

@@ -1,0 +1,4 @@
+use Rattle.rules_check.proofs.plain.taken.Given as goal
+
+abbrev pub decreases-loop-left : goal.decreases-loop-left
+decreases-loop-left l = l.left
