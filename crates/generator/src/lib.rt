@@ -1,5 +1,6 @@
-// The generator of document 02, K6: Marsaglia's xorshift on 32 bits, by value, and as a struct that is lent and advanced in place. `next` and `step` are proved
-// by walks of their code, by hand; whoever calls `draw` or `step` needs none.
+// The generator of document 02, K6: Marsaglia's xorshift on 32 bits, by value, and as a struct that is lent and advanced in place.
+#![tactic(auto)]
+
 ghost use Rattle.std.specs.Prelude.{◌≡◌};
 ghost use Rattle.model.specs.Trial.{draw as drawn};
 
