@@ -8,7 +8,6 @@ pub mod Stack
 pub mod Rings
 pub mod Turns
 pub mod Fresh
-pub mod Lighter
 pub mod Stands
 use Rattle.std.specs.Prelude.{◌≡◌, Bool, true, false, List, [], ◌∷◌, ℕ, zero, suc, ◌+◌, ◌-◌, ◌*◌, ◌≤◌, ◌<◌, T, length, get_or}
 use Rattle.flow.specs.Network.{Path}

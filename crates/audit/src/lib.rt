@@ -1,3 +1,5 @@
+#![tactic(auto)]
+
 mod header; // the five numbers
 mod cells; // the tests of all cells
 pub mod loops; // closed chains of loaded links

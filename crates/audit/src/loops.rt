@@ -1,22 +1,20 @@
 // Closed chains of loaded links. A depth-first search with its own stack, from the spots that the wires of fresh links leave, says that there is none behind
 // them, with an order along which loaded darts fall, or gives one. A link is fresh that has the first wire of a direction, beside old loads. The search works
 // on what is lent to it.
-ghost use Rattle.std.specs.Prelude.{ℕ, ◌+◌, ◌*◌, ◌≤◌, ◌<◌, length, get_or};
+ghost use Rattle.std.specs.Prelude.{ℕ, ◌+◌, ◌*◌, ◌≤◌, ◌<◌, length, get_or, set};
 ghost use Rattle.channel.specs.Map.{spots};
-ghost use Rattle.channel.specs.Map.Origins.{origin_of};
 ghost use Rattle.audit.specs.Loops.{Room, LoopStands};
 ghost use Rattle.audit.specs.Loops.Answers.{Answer};
-ghost use Rattle.audit.specs.Loops.Dfs.{Cleared, Rest, Picked, Placed, Bared, Forgotten, Dfs, Aimed, Entered, Turned, Resumed, Traced, FreshTraced, Passed};
+ghost use Rattle.audit.specs.Loops.Dfs.{Cleared, Rest, Picked, Placed, Bared, Forgotten, Dfs, Aimed, Entered, Turned, Resumed, Searched, Traced, FreshTraced};
 
 use channel::{columns, rows};
 use outward::lead_outward;
 
-// No closed chain; or the spots of one in st, and its slots in sl, from the first number to before the second, how many spots are done, and how many runs
-// of 16 load bytes were passed before that of the ring.
+// No closed chain; or the spots of one in st, and its slots in sl, from the first number to before the second, and how many spots are done.
 #[derive(Drop)]
 pub enum Found {
     Free,
-    Ring(usize, usize, usize, usize),
+    Ring(usize, usize, usize),
 }
 
 // What one turn leads to: a spot that is not seen; or another height of the stack, and how many spots are done; or a spot that is on the stack.
@@ -178,7 +176,7 @@ fn descend(
     m0: usize,
 ) -> Search
     requires { Aimed rec.now fin.old st.old sl.old 0 m0 r }
-    ensures { Traced rec.now r fin.old fin.new st.new sl.new result }
+    ensures { Searched rec.now (set fin.old r 1) fin.new st.new sl.new result }
 {
     let mut n = 0;
     let mut m = m0;
@@ -206,7 +204,7 @@ fn descend(
 // All that r leads to, with m done.
 fn explore(rec: &[u8], fin: &mut [u16], st: &mut [u16], sl: &mut [u8], r: usize, m: usize) -> Search
     requires { Dfs rec.now fin.old st.old sl.old 0 m × (r < spots) }
-    ensures { Traced rec.now r fin.old fin.new st.new sl.new result }
+    ensures { Searched rec.now (set fin.old r 1) fin.new st.new sl.new result }
 {
     if fin[r] != 0 {
         return Search::Over(m);
@@ -217,7 +215,7 @@ fn explore(rec: &[u8], fin: &mut [u16], st: &mut [u16], sl: &mut [u8], r: usize,
 // All that the wires of the i-th load byte lead to, with m done.
 fn trace(rec: &[u8], fin: &mut [u16], st: &mut [u16], sl: &mut [u8], i: usize, m: usize) -> Search
     requires { Dfs rec.now fin.old st.old sl.old 0 m × (i < 24000) }
-    ensures { Traced rec.now (origin_of rec.now i) fin.old fin.new st.new sl.new result }
+    ensures { Traced rec.now i fin.old fin.new st.new sl.new result }
 {
     let r = channel::origin(rec, i);
     if r >= 13128 {
@@ -276,28 +274,26 @@ fn trace_run(
 }
 
 // Says that no chain of loaded darts behind the fresh links is closed, with fin as the order along which they fall; or gives one. With no closed chain in
-// the old loads there is then none at all. As it begins k0 runs of 16 load bytes are passed and m0 spots are done. The last bytes come first: they are those
-// of the direct exits and the legs, so that whole wires are followed.
+// the old loads there is then none at all. m0 spots are done as it begins. The last bytes come first: they are those of the direct exits and the legs, so that whole wires are followed.
 pub fn find(
     rec: &[u8],
     old: &[u8],
     fin: &mut [u16],
     st: &mut [u16],
     sl: &mut [u8],
-    k0: usize,
     m0: usize,
 ) -> Found
-    requires { Dfs rec.now fin.old st.old sl.old 0 m0 × (32768 ≤ length old.now) × Passed old.now rec.now fin.old k0 }
+    requires { Dfs rec.now fin.old st.old sl.old 0 m0 × (32768 ≤ length old.now) }
     ensures { Answer old.now rec.now fin.new st.new sl.new result }
 {
     let mut m = m0;
-    for k in k0..1500 {
+    for k in 0..1500 {
         match trace_run(rec, old, fin, st, sl, 1499 - k, m) {
             Search::Over(a) => {
                 m = a;
             }
             Search::Ring(a, b, c) => {
-                return Found::Ring(a, b, c, k);
+                return Found::Ring(a, b, c);
             }
         }
     }
@@ -314,8 +310,8 @@ pub fn stands(rec: &[u8]) -> bool
     let mut fin = [0u16; 13128];
     let mut st = [0u16; 13128];
     let mut sl = [0u8; 13128];
-    match find(rec, &old, &mut fin, &mut st, &mut sl, 0, 0) {
+    match find(rec, &old, &mut fin, &mut st, &mut sl, 0) {
         Found::Free => false,
-        Found::Ring(_, _, _, _) => true,
+        Found::Ring(_, _, _) => true,
     }
 }

@@ -21,7 +21,7 @@ use Rattle.augment.specs.Laid.{laid_all, laid-last}
 use Rattle.search.specs.Unlooped.{Lighter, takes_out}
 use Rattle.audit.specs.Loops.{ring_darts, Closed, Settled}
 use Rattle.audit.specs.Loops.Answers.{Answer, free, ring}
-use Rattle.audit.specs.Loops.Dfs.{Dfs, Passed}
+use Rattle.audit.specs.Loops.Dfs.{Dfs}
 use Rattle.augment.specs.Pins.{Held}
 use Rattle.search.specs.Loose.{Loosened, Freed, Unlooped}
 use Rattle.audit.specs.declared.loops.Found.{Found}
@@ -144,8 +144,8 @@ module _ {old rec fin st sl : List ℕ} {a : Found} (r : Answer old rec fin st s
       by : Answer old rec fin st sl Free → Settled old rec fin
       by (free f) = f
 
-  pub found-ring : {j n m k : ℕ} → a ≡ Ring j n m k → Closed rec st sl j n × Dfs rec fin st sl 0 m × Passed old rec fin k
-  found-ring {j} {n} {m} {k} e = by (subst (λ (x : Found). Answer old rec fin st sl x) e r)
+  pub found-ring : {j n m : ℕ} → a ≡ Ring j n m → Closed rec st sl j n × Dfs rec fin st sl 0 m
+  found-ring {j} {n} {m} e = by (subst (λ (x : Found). Answer old rec fin st sl x) e r)
     where
-      by : Answer old rec fin st sl (Ring j n m k) → Closed rec st sl j n × Dfs rec fin st sl 0 m × Passed old rec fin k
-      by (ring c s p) = (c, s, p)
+      by : Answer old rec fin st sl (Ring j n m) → Closed rec st sl j n × Dfs rec fin st sl 0 m
+      by (ring c s) = (c, s)

@@ -35,8 +35,8 @@ fn unwired(job: &[u8], loads: &[u8]) -> usize
     ensures { result ≡ unwired_count (job_of job.now) loads.now }
 {
     let mut n: usize = 0;
-    for x in 0..1641 {
-        n += lacks(job, loads, 8 * x + 1);
+    for u in 0..13128 {
+        n += lacks(job, loads, u);
     }
     n
 }
@@ -83,7 +83,7 @@ pub fn fill_copy(rec: &[u8], loads: &mut [u8], near: &mut [u8]) -> usize
     let mut queue = [0u16; 13128];
     let mut parent = [0u16; 13128];
     let mut slot = [0u8; 13128];
-    let mut lists = [0u16; 28154];
+    let mut lists = [0u16; 26513];
     fill(
         rec,
         loads,

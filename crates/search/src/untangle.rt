@@ -1,7 +1,7 @@
 // Taking loops out: one move back along each dart of a closed path of loaded darts, until there is none. The paths are looked for behind the links that are
 // fresh, beside old loads that have none of the loops.
-ghost use Rattle.std.specs.Prelude.{◌≡◌, map, ◌-◌, ◌≤◌, length};
-ghost use Rattle.channel.specs.Map.{spots, rev};
+ghost use Rattle.std.specs.Prelude.{◌≡◌, map, ◌-◌, ◌≤◌};
+ghost use Rattle.channel.specs.Map.{rev};
 ghost use Rattle.augment.specs.Laid.{laid_all};
 ghost use Rattle.audit.specs.Loops.{ring_darts};
 ghost use Rattle.model.specs.Job.{Job};
@@ -26,46 +26,35 @@ fn take_out(loads: &mut [u8], st: &[u16], sl: &[u8], j: usize, n: usize)
     }
 }
 
-// No loop stands any more, if none that could be left is one of the old loads. It works on what is lent to it. Spots that are done stay so as loads are
-// taken out, and runs of load bytes that are passed stay so: the search goes on where the last ring was.
+// No loop stands any more, if none that could be left is one of the old loads. It works on what is lent to it. Spots that are done stay so as loads are taken out.
 pub fn untangle(old: &[u8], loads: &mut [u8], fin: &mut [u16], st: &mut [u16], sl: &mut [u8])
     requires { Tangled old.now loads.old fin.old st.old sl.old }
     ensures { Freed old.now loads.old loads.new }
 {
     clear(fin);
     let mut m = 0;
-    let mut from = 0;
     loop {
-        match find(loads, old, fin, st, sl, from, m) {
+        match find(loads, old, fin, st, sl, m) {
             Found::Free => {
                 return;
             }
-            Found::Ring(j, n, k, r) => {
+            Found::Ring(j, n, k) => {
                 take_out(loads, st, sl, j, n);
                 m = k;
-                from = r;
             }
         }
     }
 }
 
-// No loop stands any more. It works on what is lent to it. Beside loads that lead outward only the links are fresh along which wires go inward or round.
-pub fn unloop_on(loads: &mut [u8], fin: &mut [u16], st: &mut [u16], sl: &mut [u8])
-    requires { ((J : Job) × Held J loads.old) × (spots ≤ length fin.old) × (spots ≤ length st.old) × (spots ≤ length sl.old) }
-    ensures { Unlooped loads.old loads.new }
-{
-    let mut old = [0u8; 32768];
-    lead_outward(&mut old, rows(loads), columns(loads));
-    untangle(&old, loads, fin, st, sl);
-}
-
-// No loop stands any more.
+// No loop stands any more. Beside loads that lead outward only the links are fresh along which wires go inward or round.
 pub fn unloop(loads: &mut [u8])
     requires { (J : Job) × Held J loads.old }
     ensures { Unlooped loads.old loads.new }
 {
+    let mut old = [0u8; 32768];
+    lead_outward(&mut old, rows(loads), columns(loads));
     let mut fin = [0u16; 13128];
     let mut st = [0u16; 13128];
     let mut sl = [0u8; 13128];
-    unloop_on(loads, &mut fin, &mut st, &mut sl);
+    untangle(&old, loads, &mut fin, &mut st, &mut sl);
 }

@@ -1,21 +1,19 @@
--- First prices as a row of numbers, and how a program reads them: none outside, and else by the kind of the spot and the ring of its cell, so that a cell's
--- eight come from two rings. None is above 214, and they are prices of a record without wires. Assumes nothing.
-use Rattle.std.specs.Prelude.{◌≡◌, ◌≢◌, ◌⊎◌, Bool, not, ◌&&◌, ◌||◌, List, ℕ, suc, ◌+◌, ◌-◌, ◌*◌, ◌/◌, ◌%◌, ◌≤◌, ◌<◌, T, eqb, leb, ltb, length, get_or, set}
+-- First prices as a row of numbers, and how a program reads them: none outside, and else by the kind of the spot and the ring of its cell. None is above 214,
+-- and they are prices of a record without wires. Assumes nothing.
+use Rattle.std.specs.Prelude.{◌≡◌, ◌≢◌, ◌⊎◌, Bool, not, List, ℕ, suc, ◌+◌, ◌-◌, ◌*◌, ◌/◌, ◌%◌, ◌≤◌, ◌<◌, T, eqb, length, get_or, set}
 use Rattle.std.proofs.Math.Path.{refl}
-use Rattle.std.proofs.Common.{sym, ap, subst, ◌∙◌, ⊎_elim, eq-or-lt_of_le, add-zero, le-ltb, eq-eqb, ne_eqb, lit<, length-set, get_or-set_same, get_or-set_other}
+use Rattle.std.proofs.Common.{sym, ap, ◌∙◌, ⊎_elim, eq-or-lt_of_le, eq-eqb, ne_eqb, length-set, get_or-set_same, get_or-set_other}
 use Rattle.std.proofs.Math.Bool.{true, false}
 use native.Mathlib.Omega.{arith}
-use Rattle.std.proofs.lemmas.Bool.{lt-leb}
 use Rattle.sums.specs.Counting.{when}
 use Rattle.sums.specs.Tests.{below_or}
 use Rattle.sums.specs.Sums.{when-none, when-so}
 use Rattle.flow.specs.Network.{Net, head}
 use Rattle.price.specs.Priced.{Priced}
-use Rattle.model.specs.Job.{Job, array_fits, is_tile}
-use Rattle.channel.specs.Map.{spots, in_grid, row_of, column_of, is_start, want, outside}
+use Rattle.model.specs.Job.{Job, array_fits}
+use Rattle.channel.specs.Map.{spots, row_of, column_of, is_start, want, outside}
 use Rattle.channel.specs.Map.Entered.{row_is, column-is}
 use Rattle.channel.specs.Map.Starts.{want-start}
-use Rattle.channel.specs.Map.Laying.{not-outside, outside-is}
 use Rattle.channel.specs.Map.Lengths.{dart_length}
 use Rattle.channel.specs.Map.Network.{net, node-spot}
 use Rattle.augment.specs.Passing.{array_size}
@@ -91,7 +89,7 @@ last_or : (u n : ℕ) → u < n + 1 → (u ≡ n) ⊎ (u < n)
 last_or u n l = eq-or-lt_of_le (omega arith)
 
 -- one entry more
-row_more : {J : Job} {n p : ℕ} {prices prices' : List ℕ} → FirstRow J n prices prices' → n < length prices' → p ≡ first_price J n
+pub row_more : {J : Job} {n p : ℕ} {prices prices' : List ℕ} → FirstRow J n prices prices' → n < length prices' → p ≡ first_price J n
     → FirstRow J (n + 1) prices (set prices' n p)
 row_more {J} {n} {p} {prices} {prices'} R l e =
     record {
@@ -102,76 +100,6 @@ row_more {J} {n} {p} {prices} {prices'} R l e =
           (last_or u n h);
       rest = λ u h. get_or-set_other prices' n u p 0 (omega arith) ∙ R.rest u (omega arith);
     }
-
--- ---- the prices of a cell
-
--- the entries of the cell whose spots begin at u: a pin's entry and exit, four sides, the centre's entry and exit
-abbrev pub sides_set : List ℕ → ℕ → ℕ → List ℕ
-sides_set l u s = set (set (set (set l (u + 2) s) (u + 3) s) (u + 4) s) (u + 5) s
-
-abbrev pub cell_set : List ℕ → ℕ → ℕ → ℕ → ℕ → ℕ → List ℕ
-cell_set l u e p s q = set (set (sides_set (set (set l u e) (u + 1) p) u s) (u + 6) q) (u + 7) q
-
-module _ (J : Job) (x : ℕ) where
-  -- the cell's row and column
-  abbrev r : ℕ
-  r = (x - 41) / 40
-
-  abbrev c : ℕ
-  c = (x - 41) % 40
-
-  -- the spot of the kind k
-  kind_at : (k : ℕ) → k < 8 → first_price J (8 * x + k) ≡ when (not (outside J (8 * x + k))) (kind_price J k r c)
-  unfolding first_price
-  kind_at k l =
-      let a : (8 * x + k) % 8 ≡ k = omega arith in
-      let b : (8 * x + k) / 8 ≡ x = omega arith in
-      rw (a, b, row_is x, column-is x) refl
-
-  -- no exit of a pin is outside, nor a centre
-  inner-price : (k p : ℕ) → k < 8 → k ≢ 0 → (ltb k 2 || leb 6 k) ≡ true → p ≡ kind_price J k r c → p ≡ first_price J (8 * x + k)
-  inner-price k p l n t e =
-      let a : (8 * x + k) % 8 ≡ k = omega arith in
-      let o : false ≡ outside J (8 * x + k) = not-outside J (8 * x + k) (λ z. n (omega arith)) (rw a t) in
-      e ∙ (λ i. when (not (o i)) (kind_price J k r c)) ∙ sym (kind_at k l)
-
-  -- the four sides are outside together
-  sides-together : (k : ℕ) → 1 < k → k < 6 → not (in_grid x && is_tile J (row_of x) (column_of x)) ≡ outside J (8 * x + k)
-  sides-together k l m =
-      let a : (8 * x + k) % 8 ≡ k = omega arith in
-      let b : (8 * x + k) / 8 ≡ x = omega arith in
-      outside-is J (8 * x + k) (in_grid x && is_tile J (row_of x) (column_of x)) (rw (a, le-ltb k 2 l, lt-leb 6 k m) refl) (rw b refl)
-
-  side-price : (k s t : ℕ) → 1 < k → k < 6 → t ≡ tile_ring J r c → s ≡ when (not (outside J (8 * x + 2))) (10 * (t + 1)) → s ≡ first_price J (8 * x + k)
-  side-price k s t l m e q =
-      let o : outside J (8 * x + 2) ≡ outside J (8 * x + k) = sym (sides-together 2 (lit< tt) (lit< tt)) ∙ sides-together k l m in
-      q ∙ (λ i. when (not (o i)) (kind-tile J k r c t (omega arith) (omega arith) e i)) ∙ sym (kind_at k (omega arith))
-
-  entry-price : (e m : ℕ) → m ≡ pin_ring J r c → e ≡ when (not (outside J (8 * x))) (10 * m + 14) → e ≡ first_price J (8 * x)
-  entry-price e m p q =
-      q ∙ (λ i. when (not (outside J (8 * x))) (kind-entry J 0 r c m refl p i)) ∙ sym (rw (add-zero (8 * x)) at (kind_at 0 (lit< tt)))
-
-  -- one entry more, of the kind k
-  next : (k p : ℕ) {old prices : List ℕ} → FirstRow J (8 * x + k) old prices → 8 * x + k < length prices → p ≡ first_price J (8 * x + k)
-      → FirstRow J (8 * x + (k + 1)) old (set prices (8 * x + k) p)
-  next k p {old} {prices} R l e =
-      let n : 8 * x + k + 1 ≡ 8 * x + (k + 1) = omega arith in
-      subst (λ (m : ℕ). FirstRow J m old (set prices (8 * x + k) p)) n (row_more R l e)
-
-  -- eight entries more
-  pub row-cell : (e m s t : ℕ) {old prices : List ℕ} → FirstRow J (8 * x) old prices → 8 * x + 8 ≤ length prices
-      → m ≡ pin_ring J r c → t ≡ tile_ring J r c
-      → e ≡ when (not (outside J (8 * x))) (10 * m + 14) → s ≡ when (not (outside J (8 * x + 2))) (10 * (t + 1))
-      → FirstRow J (8 * x + 8) old (cell_set prices (8 * x) e (10 * m) s (10 * (t + 1)))
-  row-cell e m s t R l p q f g =
-      let a = row_more R (omega arith) (entry-price e m p f) in
-      let b = next 1 (10 * m) a (omega (arith, R.size, a.size)) (inner-price 1 (10 * m) (lit< tt) (omega arith) refl (kind-pin J 1 r c m refl p)) in
-      let n = next 2 s b (omega (arith, R.size, b.size)) (side-price 2 s t (lit< tt) (lit< tt) q g) in
-      let o = next 3 s n (omega (arith, R.size, n.size)) (side-price 3 s t (lit< tt) (lit< tt) q g) in
-      let h = next 4 s o (omega (arith, R.size, o.size)) (side-price 4 s t (lit< tt) (lit< tt) q g) in
-      let w = next 5 s h (omega (arith, R.size, h.size)) (side-price 5 s t (lit< tt) (lit< tt) q g) in
-      let y = next 6 (10 * (t + 1)) w (omega (arith, R.size, w.size)) (inner-price 6 (10 * (t + 1)) (lit< tt) (omega arith) refl (kind-tile J 6 r c t (omega arith) (omega arith) q)) in
-      next 7 (10 * (t + 1)) y (omega (arith, R.size, y.size)) (inner-price 7 (10 * (t + 1)) (lit< tt) (omega arith) refl (kind-tile J 7 r c t (omega arith) (omega arith) q))
 
 -- ---- prices of a record without wires
 

@@ -11,13 +11,11 @@ use Rattle.augment.specs.Spread.{Room, Spread}
 use Rattle.augment.specs.Steps.{Whole}
 use Rattle.search.specs.Fill.{Cleared}
 use Rattle.shortest.specs.Grow.{slack_of, tight_moves}
-use Rattle.shortest.specs.Wiring.{price_at, Wireable}
+use Rattle.shortest.specs.Wiring.{price_at}
 use Rattle.shortest.specs.declared.expand.Growth.{Growth}
 use Rattle.shortest.specs.declared.expand.Step.{Step}
 use Rattle.shortest.specs.declared.expand.Step.TheVariants.{Exit, More}
 use Rattle.shortest.specs.declared.grow.Way.{Way}
-use Rattle.shortest.specs.declared.grow.Search.{Search}
-use Rattle.shortest.specs.declared.grow.Search.TheVariants.{Open, Shut}
 
 -- what the move by slot k of u leaves, and the moves that leave nothing
 abbrev pub slack_by : List ℕ → List ℕ → ℕ → ℕ → ℕ
@@ -147,14 +145,8 @@ pub data Rounded (J : Job) (rec prices : List ℕ) (start : ℕ) (prices' t q f 
   higher : {g : Growth} → Growing J rec prices' start t q f w st rm g → Priced (net J) dart_length (view rec) (price_at prices') → Lifted start prices prices'
       → get_or prices start 0 < get_or prices' start 0 → Rounded J rec prices start prices' t q f w st rm (More g)
 
--- the search found a way out, its prices are prices of the loads, and that of its start is at most what any complete wiring costs
+-- the search found a way out, and its prices are prices of the loads
 pub record Opened (J : Job) (rec prices : List ℕ) (start : ℕ) (prices' t q f w : List ℕ) (y : Way) : Type 0 where
   pub out : Out J rec prices' start t q f w y.place y.slot y.n
   pub priced : Priced (net J) dart_length (view rec) (price_at prices')
   pub lifted : Lifted start prices prices'
-  pub most : get_or prices' start 0 ≤ 1417824
-
--- it did; or there is no complete wiring
-pub data Widened (J : Job) (rec prices : List ℕ) (start : ℕ) (prices' t q f w : List ℕ) : Search → Type 0 where
-  opens : {y : Way} → Opened J rec prices start prices' t q f w y → Widened J rec prices start prices' t q f w (Open y)
-  shuts : (Wireable J → ⊥) → Widened J rec prices start prices' t q f w Shut

@@ -6,13 +6,13 @@ use Rattle.sums.specs.Tests.{below_or, and_both}
 use Rattle.model.specs.Job.{Job}
 use Rattle.channel.specs.Map.{spots, rev, moves, outside}
 use Rattle.augment.specs.Marks.{unmarked, unmarked-le, after, mark-less, same_or}
+use Rattle.augment.specs.Slots.{goes_on, off-marked}
 use Rattle.augment.specs.Spread.{Room, Spread}
 use Rattle.augment.specs.Steps.{Fresh}
 use Rattle.augment.specs.Queue.{spread-start, spread-more}
 use Rattle.search.specs.Fill.{Cleared}
 use Rattle.channel.specs.Map.Lengths.{dart_length}
 use Rattle.shortest.specs.Grow.{slack_of, tight_moves}
-use Rattle.shortest.specs.Known.{move_bit, bit-none}
 use Rattle.shortest.specs.Wiring.{price_at}
 use Rattle.shortest.specs.Growing.{slack_by, tight, Tried, exit, old, far, new, Since, ShutTo, LookedTo, Place, waits, shut, edge, Kept, Growing, Taken, Out, Outcome, out, still}
 use Rattle.shortest.specs.declared.expand.Growth.{Growth}
@@ -28,8 +28,11 @@ tight-move J rec prices d may e z =
 
 -- ---- what more marks, and a smaller least, keep
 
-since-refl : (t : List ℕ) → Since t t
+pub since-refl : (t : List ℕ) → Since t t
 since-refl t = record { kept = λ x e. e }
+
+pub since-then : {t t' t'' : List ℕ} → Since t t' → Since t' t'' → Since t t''
+since-then a b = record { kept = λ x e. b.kept x (a.kept x e) }
 
 since-mark : (t : List ℕ) (v : ℕ) → v < length t → Since t (set t v 1)
 since-mark t v l = record { kept = λ x e. ⊎_elim (λ w. w.1) (λ w. w.1 ∙ e) (after t v 1 x l) }
@@ -274,10 +277,10 @@ module _ {J : Job} {rec prices : List ℕ} {start : ℕ} {t q f w st rm : List �
             (place-keep since (λ x y. (omega arith, below x y)) (λ x y. (y, refl)) (omega arith) p))) (H.all j l)
 
   more-taken : k < 8 → {t' q' f' w' st' : List ℕ} {b : Growth} → Tried J rec prices u k i (m + 1) t q f w st g t' q' f' w' st' (More b)
-      → Taken J rec prices start t' q' f' w' st' rm b i u (k + 1) m gap
-  more-taken lk (old e) = taken-old e
-  more-taken lk (far l p e) = taken-far l p e
-  more-taken lk (new v lv ev may inside unseen) = taken-new v lv ev may inside unseen lk
+      → Taken J rec prices start t' q' f' w' st' rm b i u (k + 1) m gap × Since t t'
+  more-taken lk (old e) = (taken-old e, since-refl t)
+  more-taken lk (far l p e) = (taken-far l p e, since-refl t)
+  more-taken lk (new v lv ev may inside unseen) = (taken-new v lv ev may inside unseen lk, since v lv ev may inside unseen lk)
 
   exit_out : k < 8 → {t' q' f' w' st' : List ℕ} {a b n : ℕ} → Tried J rec prices u k i (m + 1) t q f w st g t' q' f' w' st' (Exit a b n)
       → Out J rec prices start t' q' f' w' a b n
@@ -294,15 +297,16 @@ module _ {J : Job} {rec prices : List ℕ} {start : ℕ} {t q f w st rm : List �
       }
 
   module _ (lk : k < 8) {t' q' f' w' st' : List ℕ} {s : Step} (y : Tried J rec prices u k i (m + 1) t q f w st g t' q' f' w' st' s) where
-    pub taken_more : {b : Growth} → s ≡ More b → Taken J rec prices start t' q' f' w' st' rm b i u (k + 1) m gap
+    pub taken_more : {b : Growth} → s ≡ More b → Taken J rec prices start t' q' f' w' st' rm b i u (k + 1) m gap × Since t t'
     taken_more e = more-taken lk (subst (λ (x : Step). Tried J rec prices u k i (m + 1) t q f w st g t' q' f' w' st' x) e y)
 
     pub taken-exit : {a b n : ℕ} → s ≡ Exit a b n → Out J rec prices start t' q' f' w' a b n
     taken-exit e = exit_out lk (subst (λ (x : Step). Tried J rec prices u k i (m + 1) t q f w st g t' q' f' w' st' x) e y)
 
-  -- slots that are no moves are tried
-  pub taken-past : {k' : ℕ} → ((j : ℕ) → k ≤ j → j < k' → move_bit J rec u j ≡ 0) → Taken J rec prices start t q f w st rm g i u k' m gap
-  taken-past {k'} off =
+  -- slots by which the search does not go on are tried
+  pub taken-past : {t₀ : List ℕ} {k' : ℕ} → Since t₀ t → ((j : ℕ) → k ≤ j → j < k' → goes_on J rec t₀ u j ≡ 0)
+      → Taken J rec prices start t q f w st rm g i u k' m gap
+  taken-past {t₀} {k'} s off =
       record {
         kept = K;
         here = H.here;
@@ -317,7 +321,7 @@ module _ {J : Job} {rec prices : List ℕ} {start : ℕ} {t q f w st rm : List �
       }
     where
       past : (j : ℕ) → k ≤ j → j < k' → T (moves J rec (8 * u + j)) → get_or t (rev (8 * u + j) / 8) 0 ≡ 1
-      past j a b may = absurd (bit-none J rec u j (off j a b) may)
+      past j a b may = s.kept _ (off-marked J rec t₀ u j (off j a b) may)
 
 -- ---- and it is laid aside
 

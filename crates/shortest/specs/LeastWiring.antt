@@ -1,6 +1,6 @@
 -- The least wiring, from what was done to the copy: first prices are prices of the copy without its loads, the wires are laid along them, and loops are taken
 -- out, which takes no wire. So the wires have the least length. Assumes nothing.
-use Rattle.std.specs.Prelude.{◌≡◌, List, ℕ, zero, suc, ◌*◌, ◌≤◌, length, replicate}
+use Rattle.std.specs.Prelude.{◌≡◌, List, ℕ, zero, suc, ◌*◌, replicate}
 use Rattle.std.proofs.Common.{sym, subst, ◌∙◌, arith}
 use Rattle.price.specs.Priced.{Priced}
 use Rattle.model.specs.Job.{Job}
@@ -26,8 +26,6 @@ use Rattle.shortest.specs.Shortest.{shortest}
 use Rattle.shortest.specs.PricedLaid.{priced-less}
 use Rattle.shortest.specs.FirstPrices.{first-priced}
 use Rattle.shortest.specs.FirstRow.{FirstRow, row-priced, row-few}
-use Rattle.search.specs.Added.{zeros-cleared}
-use Rattle.shortest.specs.Known.{Known}
 use Rattle.shortest.specs.Wiring.{price_at, AtMost, Wireable, Complete, Least}
 use Rattle.shortest.specs.Lines.{Standing, same_then, Advanced, advanced-all}
 use Rattle.shortest.specs.Emptied.{emptied-none, emptied-kept, emptied-held}
@@ -38,10 +36,6 @@ zeros-most zero u = omega arith
 zeros-most (suc n) zero = omega arith
 zeros-most (suc n) (suc u) = zeros-most n u
 
--- nothing is known of any move
-pub known-none : (J : Job) (rec : List ℕ) (n : ℕ) → spots ≤ length {A = ℕ} (replicate n 0) → Known J rec (replicate n 0)
-known-none J rec n l = record { size = l; bits = λ u h m. absurd (omega (arith, (zeros-cleared n).all u h)) }
-
 module _ {rec : List ℕ} (legal : Legal rec) where
   abbrev J : Job
   J = job_of rec
@@ -51,9 +45,9 @@ module _ {rec : List ℕ} (legal : Legal rec) where
   own-wires all = record { loads = rec; held = legal-held legal; all = all }
 
   -- how the wiring stands when it begins
-  pub begun-standing : (n : ℕ) {loads loads' prices' marks known : List ℕ} → loads ≡ front rec → loads' ≡ unwired loads → FirstRow J spots (replicate n 0) prices'
-      → Cleared marks → Known J loads' known → Standing J loads' prices' marks known
-  begun-standing n {loads' = loads'} q e R C K =
+  pub begun-standing : (n : ℕ) {loads loads' prices' marks : List ℕ} → loads ≡ front rec → loads' ≡ unwired loads → FirstRow J spots (replicate n 0) prices'
+      → Cleared marks → Standing J loads' prices' marks
+  begun-standing n {loads' = loads'} q e R C =
       record {
         arranged = record {
           held = emptied-held legal q e;
@@ -61,12 +55,11 @@ module _ {rec : List ℕ} (legal : Legal rec) where
         };
         cleared = C;
         most = λ u. omega (arith, row-few R legal.values.array (zeros-most n) u);
-        knows = K;
       }
 
   -- and when it ends
-  pub all-wired : {loads loads₁ loads₂ prices marks known : List ℕ} → loads ≡ front rec → loads₁ ≡ unwired loads
-      → Advanced J (InRows J 0 (2 * J.rows)) loads₁ loads₂ prices marks known → Complete rec loads₂
+  pub all-wired : {loads loads₁ loads₂ prices marks : List ℕ} → loads ≡ front rec → loads₁ ≡ unwired loads
+      → Advanced J (InRows J 0 (2 * J.rows)) loads₁ loads₂ prices marks → Complete rec loads₂
   all-wired {prices = prices} q e A =
       record { prices = prices; arranged = A.standing.arranged; all = advanced-all A; kept = same_then (emptied-kept legal q e) A.more.kept }
 

@@ -13,9 +13,6 @@ pub mod FirstRow
 -- The search that raises prices as it goes.
 pub mod Grow
 pub mod Slacks
--- The moves of spots, remembered.
-pub mod Known
-pub mod KnownLaid
 -- What the code of the least wiring keeps and leaves.
 pub mod Wiring
 pub mod Growing

@@ -27,7 +27,6 @@ use Rattle.augment.specs.declared.next.Line.{Line}
 use Rattle.search.specs.Fill.{Cleared, More}
 use Rattle.search.specs.Filling.{held_more}
 use Rattle.search.specs.Routing.{wires-few, lacks-no-pin, lacks-no-wire}
-use Rattle.shortest.specs.Known.{Known}
 use Rattle.shortest.specs.Wiring.{AtMost, Arranged, Grew}
 
 -- ---- what is lent
@@ -87,15 +86,14 @@ module _ {rec π t q f w s m rec' π' t' q' f' w' s' m' : List ℕ} (a : Sizes r
 
 -- ---- how the wiring stands
 
-pub record Standing (J : Job) (rec prices marks known : List ℕ) : Type 0 where
+pub record Standing (J : Job) (rec prices marks : List ℕ) : Type 0 where
   pub arranged : Arranged J rec prices
   pub cleared : Cleared marks
   pub most : AtMost prices (214 + wire_count J (load rec) * 1417824)
-  pub knows : Known J rec known
 
 -- the pins of P are wired, and those that were still are
-pub record Advanced (J : Job) (P : ℕ → Type 0) (rec rec' prices' marks' known' : List ℕ) : Type 0 where
-  pub standing : Standing J rec' prices' marks' known'
+pub record Advanced (J : Job) (P : ℕ → Type 0) (rec rec' prices' marks' : List ℕ) : Type 0 where
+  pub standing : Standing J rec' prices' marks'
   pub more : More J rec rec'
   pub done : (u : ℕ) → u < spots → P u → want J u ≤ starts J rec' u
 
@@ -140,7 +138,7 @@ module _ (J : Job) (fits : T (array_fits J.rows J.columns)) where
       )
 
 -- so that no price is too high before any search
-pub standing-few : {J : Job} {rec prices marks known : List ℕ} → Standing J rec prices marks known → AtMost prices 2268518614
+pub standing-few : {J : Job} {rec prices marks : List ℕ} → Standing J rec prices marks → AtMost prices 2268518614
 standing-few {J} S u = let H = S.arranged.held in omega (arith, S.most u, wires-few H, chosen-few J H.fits)
 
 -- ---- other loads, and others again
@@ -159,30 +157,30 @@ same_then p q =
 
 -- ---- one pin
 
-module _ {J : Job} {rec prices marks known : List ℕ} (S : Standing J rec prices marks known) where
+module _ {J : Job} {rec prices marks : List ℕ} (S : Standing J rec prices marks) where
   -- the loads stay
   left-more : More J rec rec
   left-more = record { held = S.arranged.held; begun = λ x l. omega arith; kept = same_refl rec }
 
   -- no pin is passed
-  pub advanced-none : {P : ℕ → Type 0} → ((u : ℕ) → P u → ⊥) → Advanced J P rec rec prices marks known
+  pub advanced-none : {P : ℕ → Type 0} → ((u : ℕ) → P u → ⊥) → Advanced J P rec rec prices marks
   advanced-none n = record { standing = S; more = left-more; done = λ u l p. absurd (n u p) }
 
   -- no wire is wanted at u that is not there
-  advanced-still : {u : ℕ} → want J u ≤ starts J rec u → Advanced J (λ x. x ≡ u) rec rec prices marks known
+  advanced-still : {u : ℕ} → want J u ≤ starts J rec u → Advanced J (λ x. x ≡ u) rec rec prices marks
   advanced-still {u} h =
       record { standing = S; more = left-more; done = λ x l e. subst (λ (y : ℕ). want J y ≤ starts J rec y) (sym e) h }
 
   -- no wire is wanted at u; one starts there
-  pub advanced-no-pin : {u : ℕ} → (T (is_start J u) → ⊥) → Advanced J (λ x. x ≡ u) rec rec prices marks known
+  pub advanced-no-pin : {u : ℕ} → (T (is_start J u) → ⊥) → Advanced J (λ x. x ≡ u) rec rec prices marks
   advanced-no-pin {u} n = advanced-still (omega (arith, lacks-no-pin J rec u n))
 
-  pub advanced-wired : {u : ℕ} → starts J rec u ≢ 0 → Advanced J (λ x. x ≡ u) rec rec prices marks known
+  pub advanced-wired : {u : ℕ} → starts J rec u ≢ 0 → Advanced J (λ x. x ≡ u) rec rec prices marks
   advanced-wired {u} n = advanced-still (omega (arith, lacks-no-wire J rec u n))
 
   -- a wire more starts at u
-  pub advanced-grown : {u : ℕ} {rec' prices' marks' known' : List ℕ} → u < spots → Grew J rec prices u rec' prices' marks' known' → Advanced J (λ x. x ≡ u) rec rec' prices' marks' known'
-  advanced-grown {u} {rec'} {prices'} {marks'} {known'} l G =
+  pub advanced-grown : {u : ℕ} {rec' prices' marks' : List ℕ} → u < spots → Grew J rec prices u rec' prices' marks' → Advanced J (λ x. x ≡ u) rec rec' prices' marks'
+  advanced-grown {u} {rec'} {prices'} {marks'} l G =
       let H = S.arranged.held in
       let M = G.more in
       record {
@@ -190,7 +188,6 @@ module _ {J : Job} {rec prices marks known : List ℕ} (S : Standing J rec price
           arranged = record { held = held_more H l M; priced = G.priced };
           cleared = G.cleared;
           most = λ x. omega (arith, G.most (214 + wire_count J (load rec) * 1417824) S.most x, wires-more J H.fits rec H.feasible rec' u l M);
-          knows = G.known;
         };
         more = record { held = held_more H l M; begun = λ x k. omega (arith, M.begun x k); kept = M.kept };
         done = λ x k e.
@@ -199,8 +196,8 @@ module _ {J : Job} {rec prices marks known : List ℕ} (S : Standing J rec price
 
 -- ---- one after the other
 
-advanced-then : {J : Job} {P Q R : ℕ → Type 0} {rec rec₁ rec₂ prices₁ marks₁ known₁ prices₂ marks₂ known₂ : List ℕ} → Advanced J P rec rec₁ prices₁ marks₁ known₁
-    → Advanced J Q rec₁ rec₂ prices₂ marks₂ known₂ → ((u : ℕ) → R u → P u ⊎ Q u) → Advanced J R rec rec₂ prices₂ marks₂ known₂
+advanced-then : {J : Job} {P Q R : ℕ → Type 0} {rec rec₁ rec₂ prices₁ marks₁ prices₂ marks₂ : List ℕ} → Advanced J P rec rec₁ prices₁ marks₁
+    → Advanced J Q rec₁ rec₂ prices₂ marks₂ → ((u : ℕ) → R u → P u ⊎ Q u) → Advanced J R rec rec₂ prices₂ marks₂
 advanced-then A B f =
     record {
       standing = B.standing;
@@ -213,17 +210,17 @@ advanced-then A B f =
     }
 
 -- one pin more of a line
-pub advanced-line : {J : Job} {rec rec₁ rec₂ prices₁ marks₁ known₁ prices₂ marks₂ known₂ : List ℕ} {l : Line} {m u : ℕ} → Advanced J (OnLine l m) rec rec₁ prices₁ marks₁ known₁
-    → u ≡ spot_on l (inward m l.pins) → Advanced J (λ x. x ≡ u) rec₁ rec₂ prices₂ marks₂ known₂ → Advanced J (OnLine l (m + 1)) rec rec₂ prices₂ marks₂ known₂
+pub advanced-line : {J : Job} {rec rec₁ rec₂ prices₁ marks₁ prices₂ marks₂ : List ℕ} {l : Line} {m u : ℕ} → Advanced J (OnLine l m) rec rec₁ prices₁ marks₁
+    → u ≡ spot_on l (inward m l.pins) → Advanced J (λ x. x ≡ u) rec₁ rec₂ prices₂ marks₂ → Advanced J (OnLine l (m + 1)) rec rec₂ prices₂ marks₂
 advanced-line {l = l} {m = m} A q B = advanced-then A B (λ x w. line-last w q)
 
 -- one line more
-pub advanced-lines : {J : Job} {rec rec₁ rec₂ prices₁ marks₁ known₁ prices₂ marks₂ known₂ : List ℕ} {l : Line} {m : ℕ} → Advanced J (InRows J 0 m) rec rec₁ prices₁ marks₁ known₁
-    → Nth J m l → Advanced J (OnLine l l.pins) rec₁ rec₂ prices₂ marks₂ known₂ → Advanced J (InRows J 0 (m + 1)) rec rec₂ prices₂ marks₂ known₂
+pub advanced-lines : {J : Job} {rec rec₁ rec₂ prices₁ marks₁ prices₂ marks₂ : List ℕ} {l : Line} {m : ℕ} → Advanced J (InRows J 0 m) rec rec₁ prices₁ marks₁
+    → Nth J m l → Advanced J (OnLine l l.pins) rec₁ rec₂ prices₂ marks₂ → Advanced J (InRows J 0 (m + 1)) rec rec₂ prices₂ marks₂
 advanced-lines A n B = advanced-then A B (λ x w. rows_last n w)
 
 -- every line: each chosen pin is wired
-pub advanced-all : {J : Job} {rec rec' prices' marks' known' : List ℕ} → Advanced J (InRows J 0 (2 * J.rows)) rec rec' prices' marks' known'
+pub advanced-all : {J : Job} {rec rec' prices' marks' : List ℕ} → Advanced J (InRows J 0 (2 * J.rows)) rec rec' prices' marks'
     → wire_count J (load rec') ≡ chosen_count J
 advanced-all {J} {rec' = rec'} A =
     let H = A.more.held in

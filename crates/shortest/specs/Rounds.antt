@@ -24,15 +24,12 @@ use Rattle.shortest.specs.Slack.{raise, Leaves, raised-priced}
 use Rattle.shortest.specs.PricedLaid.{laid_one, priced-laid}
 use Rattle.shortest.specs.Ceiling.{unwired-most}
 use Rattle.shortest.specs.Grow.{tight_moves, tight-is, spread-raised, looked-leaves, queued}
-use Rattle.shortest.specs.Known.{Known}
 use Rattle.shortest.specs.Wiring.{price_at, AtMost, Arranged, Wireable, Grew}
-use Rattle.shortest.specs.Growing.{tight, LookedTo, Place, waits, shut, edge, Kept, Growing, Out, Lifted, Raised, Raisable, Rounded, out, higher, Opened, Widened, opens, shuts}
+use Rattle.shortest.specs.Growing.{tight, LookedTo, Place, waits, shut, edge, Kept, Growing, Out, Lifted, Raised, Raisable, Rounded, out, higher, Opened}
 use Rattle.shortest.specs.declared.expand.Growth.{Growth}
 use Rattle.shortest.specs.declared.expand.Step.{Step}
 use Rattle.shortest.specs.declared.expand.Step.TheVariants.{Exit, More}
 use Rattle.shortest.specs.declared.grow.Way.{Way}
-use Rattle.shortest.specs.declared.grow.Search.{Search}
-use Rattle.shortest.specs.declared.grow.Search.TheVariants.{Open, Shut}
 
 -- ---- prices raised one by one
 
@@ -74,6 +71,12 @@ module _ {J : Job} {rec prices : List ℕ} {start : ℕ} {t q f w st rm : List �
 
   blank : (x : ℕ) → x < spots → get_or G.kept.blank x 0 ≢ 1
   blank x l e = omega (arith, G.kept.cleared.all x l)
+
+  pub start-spot : start < spots
+  start-spot = omega (arith, s.first, s.spot 0 s.some)
+
+  pub growing-most : Held J rec → Wireable J → Priced (net J) dart_length (view rec) (price_at prices) → Unwired J rec start → get_or prices start 0 ≤ 1417824
+  growing-most H W P u = start-most prices H W P start-spot u
 
   pub growing-raisable : AtMost prices 4293467295 → Raisable q g.n g.least prices
   growing-raisable a =
@@ -183,32 +186,11 @@ module _ {J : Job} {rec prices : List ℕ} {start : ℕ} {prices' t q f w st rm 
       by : Rounded J rec prices start prices' t q f w st rm (Exit i k n) → (prices' ≡ prices) × Out J rec prices start t q f w i k n
       by (out e F) = (e, F)
 
--- a way out, as a program finds it
-pub found-open : {J : Job} {rec p prices : List ℕ} {s start : ℕ} {t q f w : List ℕ} {i k n : ℕ} → Out J rec prices s t q f w i k n → s ≡ start
-    → Priced (net J) dart_length (view rec) (price_at prices) → Lifted start p prices → get_or prices start 0 ≤ 1417824
-    → Widened J rec p start prices t q f w (Open (record { place = i; slot = k; n = n }))
-found-open {J} {rec} {prices = prices} {t = t} {q = q} {f = f} {w = w} {i = i} {k = k} {n = n} F e P L m =
-    opens (record { out = subst (λ (x : ℕ). Out J rec prices x t q f w i k n) e F; priced = P; lifted = L; most = m })
-
--- the search found a way out, or there is no complete wiring
-module _ {J : Job} {rec prices : List ℕ} {start : ℕ} {prices' t q f w : List ℕ} {s : Search} (h : Widened J rec prices start prices' t q f w s) where
-  pub was-open : {y : Way} → s ≡ Open y → Opened J rec prices start prices' t q f w y
-  was-open {y} e = by (subst (λ (x : Search). Widened J rec prices start prices' t q f w x) e h)
-    where
-      by : Widened J rec prices start prices' t q f w (Open y) → Opened J rec prices start prices' t q f w y
-      by (opens O) = O
-
-  pub was-shut : s ≡ Shut → Wireable J → ⊥
-  was-shut e = by (subst (λ (x : Search). Widened J rec prices start prices' t q f w x) e h)
-    where
-      by : Widened J rec prices start prices' t q f w Shut → Wireable J → ⊥
-      by (shuts n) = n
-
 -- ---- the way out is laid
 
 module _ {J : Job} {rec prices : List ℕ} {start : ℕ} {prices' t q f w : List ℕ} {y : Way} (O : Opened J rec prices start prices' t q f w y) (H : Held J rec)
-    (ls : start < spots) (u : Unwired J rec start) {rec' t' known' : List ℕ} (L : LaidTo q f w y.place y.slot 0 rec rec')
-    (U : Unmarked q y.n t t') (K : Known J rec' known') where
+    (W : Wireable J) (ls : start < spots) (u : Unwired J rec start) {rec' t' : List ℕ} (L : LaidTo q f w y.place y.slot 0 rec rec')
+    (U : Unmarked q y.n t t') where
   F : Out J rec prices' start t q f w y.place y.slot y.n
   F = O.out
 
@@ -224,7 +206,7 @@ module _ {J : Job} {rec prices : List ℕ} {start : ℕ} {prices' t q f w : List
       U.same x new ∙ F.spread.same x new ∙ F.cleared.all x l)
       (same_or (get_or t x 0) 1)
 
-  pub grown : Grew J rec prices start rec' prices' t' known'
+  pub grown : Grew J rec prices start rec' prices' t'
   grown =
       record {
         more = subst (λ (x : List ℕ). OneMore J rec x start) (sym L.laid)
@@ -232,6 +214,5 @@ module _ {J : Job} {rec prices : List ℕ} {start : ℕ} {prices' t q f w : List
         priced = subst (λ (x : List ℕ). Priced (net J) dart_length (view x) (price_at prices')) (sym L.laid)
             (priced-laid H O.priced (unstarted-at J ls u) path F.exit (reverse L.way) (times-reverse L.way));
         cleared = record { all = unmarked };
-        most = λ m a. lifted-most O.lifted O.most a;
-        known = K;
+        most = λ m a. lifted-most O.lifted (start-most prices' H W O.priced ls u) a;
       }

@@ -1,6 +1,6 @@
 -- What shortening did to a record, from the least wiring of its copy: nothing where that is no shorter, since the record's own wires are then of the least
 -- length; else its loads are copied back, and every chosen pin is wired as before. And what laying all wires did. Assumes nothing.
-use Rattle.std.specs.Prelude.{◌≡◌, refl, ◌≢◌, Bool, true, false, List, ◌++◌, ℕ, ◌*◌, ◌≤◌, ◌<◌, T, replicate, drop}
+use Rattle.std.specs.Prelude.{◌≡◌, refl, ◌≢◌, List, ◌++◌, ℕ, ◌*◌, ◌≤◌, ◌<◌, T, drop}
 use Rattle.std.proofs.Common.{sym, ap, subst, ◌∙◌, arith, take-append-drop}
 use Rattle.sums.specs.Counting.{sum}
 use Rattle.sums.specs.Tests.{both_ways}
@@ -11,7 +11,7 @@ use Rattle.model.specs.Route.{Route, chosen_count}
 use Rattle.model.specs.Length.{LeastLength, held_length}
 use Rattle.model.specs.Record.{record_size, job_of, load, Legal, over}
 use Rattle.model.specs.Wires.{is_wired, wire_count}
-use Rattle.model.specs.Calls.{wired_in, wires_in, Shown, none-short, side, Shortened}
+use Rattle.model.specs.Calls.{wired_in, wires_in, Shortened}
 use Rattle.channel.specs.Map.{spots, want, starts}
 use Rattle.channel.specs.Map.Starts.{pin-spot}
 use Rattle.channel.specs.Map.Network.Flows.{starts-wanted, starts-count, want-count}
@@ -22,14 +22,12 @@ use Rattle.wire.specs.Threads.{wired-chosen}
 use Rattle.augment.specs.Wired.{same-wired}
 use Rattle.augment.specs.Pins.{Held}
 use Rattle.search.specs.Loose.{Unlooped}
-use Rattle.search.specs.Added.{zeros-cleared}
 use Rattle.search.specs.Fill.{More}
-use Rattle.search.specs.Filling.{cleared-none, cleared-dead}
 use Rattle.search.specs.Copies.{front-held, new-length, new-job, new-legal, put-job, put-load, put-wired, put-legal}
 use Rattle.search.specs.Routing.{wires-few, legal-held, routed-as, routed-unlooped}
 use Rattle.search.specs.Outcome.{FilledCopy}
 use Rattle.shortest.specs.FirstPrices.{first_price, first-shortest}
-use Rattle.shortest.specs.Wiring.{Wireable, Least, RoutedLeast, WiredLeast, laid, same, FilledShort, short, none}
+use Rattle.shortest.specs.Wiring.{Wireable, Least, RoutedLeast}
 
 -- ---- with every chosen pin wired, a pin is wired exactly if it is chosen
 
@@ -135,78 +133,29 @@ module _ {rec : List ℕ} (legal : Legal rec) (all : wires_in rec ≡ chosen_cou
 
 module _ {rec : List ℕ} (legal : Legal rec) {loads near near' : List ℕ} {k : ℕ} (C : FilledCopy rec loads near near' k) where
   -- Some chosen pin stays unwired; loops are taken out.
-  pub filled-short : {loads' rec' : List ℕ} → k ≢ 0 → Unlooped loads loads' → rec' ≡ over (front loads') rec → FilledShort rec rec' near near' k
-  filled-short n U back = short n (routed-unlooped legal C U back)
+  pub routed-short : {loads' rec' : List ℕ} → k ≢ 0 → Unlooped loads loads' → rec' ≡ over (front loads') rec → RoutedLeast rec rec' near near' k
+  routed-short n U back = record { routed = routed-unlooped legal C U back; least = λ z. absurd (n z) }
 
-  -- None does: the wires that fill the copy say only that the least wiring is there.
-  pub filled_none : {k' : ℕ} → k' ≡ 0 → k ≡ 0 → FilledShort rec rec near near' k'
-  filled_none e z = none e refl (untouched C.shown) (record { loads = loads; held = C.filled.more.held; all = all-filled })
-    where
-      all-filled : wire_count (job_of rec) (load loads) ≡ chosen_count (job_of rec)
-      all-filled = omega (arith, C.lacks, wires-few C.filled.more.held)
+  module _ (z : k ≡ 0) where
+    all-filled : wire_count (job_of rec) (load loads) ≡ chosen_count (job_of rec)
+    all-filled = omega (arith, C.lacks, wires-few C.filled.more.held)
 
-      untouched : Shown (job_of rec) (wire_count (job_of rec) (load loads)) near near' → near' ≡ near
-      untouched (none-short e q) = q
-      untouched (side l S M q) = absurd (omega (arith, all-filled))
+    pub filled-wires : Wireable (job_of rec)
+    filled-wires = record { loads = loads; held = C.filled.more.held; all = all-filled }
 
-module _ {rec : List ℕ} (legal : Legal rec) {loads : List ℕ} (W : Least rec loads) where
-  H : Held (job_of rec) (front rec)
-  H = front-held rec legal
+    -- The least wiring is copied back: every chosen pin is wired, and so are those that were.
+    pub routed-least : {loads' rec' : List ℕ} → Least rec loads' → rec' ≡ over (front loads') rec → RoutedLeast rec rec' near near' k
+    routed-least {loads'} W back =
+        record { routed = routed-as legal C more W.sound (W.all ∙ sym all-filled) back; least = λ w. put-least legal W back }
+      where
+        H : Held (job_of rec) (front rec)
+        H = front-held rec legal
 
-  more : More (job_of rec) (front rec) loads
-  more =
-      record {
-        held = least-held legal W;
-        begun = λ x l. omega (arith, starts-wanted (job_of rec) H.fits (front rec) H.feasible x l, starts-all (least-held legal W) W.all x l);
-        kept = W.kept;
-      }
-
-  -- The least wiring fills the copy, and no spot is marked.
-  filled : (near : List ℕ) → FilledCopy rec loads near near 0
-  filled near =
-      record {
-        marks = replicate 0 0;
-        filled = record {
-          more = more;
-          full = record {
-            dead = cleared-dead (zeros-cleared 0);
-            unwired = λ u l h. absurd (omega (arith, starts-all (least-held legal W) W.all u l));
-            reached = λ x m. absurd (cleared-none (zeros-cleared 0) x m);
-          };
-        };
-        lacks = omega (arith, W.all);
-        shown = none-short (sym W.all) refl;
-      }
-
-  -- It is copied back: every chosen pin is wired, and so are those that were.
-  pub wired_least : {rec' : List ℕ} → rec' ≡ over (front loads) rec → WiredLeast rec rec' true
-  wired_least back =
-      laid (λ near. record { routed = routed-as legal (filled near) more W.sound refl back; least = λ w. put-least legal W back })
-
--- ---- what is likely is tried first
-
--- there is no complete wiring
-pub stays-so : {rec rec' : List ℕ} {b : Bool} → WiredLeast rec rec' b → b ≡ false → (rec' ≡ rec) × (Wireable (job_of rec) → ⊥)
-stays-so (laid R) e = absurd (subst T e tt)
-stays-so (same q n) e = (q, n)
-
-module _ {rec near : List ℕ} where
-  -- some chosen pin stays unwired
-  pub routed-short : {rec' near' : List ℕ} {k : ℕ} → FilledShort rec rec' near near' k → k ≢ 0 → RoutedLeast rec rec' near near' k
-  routed-short (short n R) m = record { routed = R; least = λ z. absurd (n z) }
-  routed-short (none z e q W) m = absurd (m z)
-
-  -- none does, and nothing is changed
-  pub left-same : {rec' near' : List ℕ} {k : ℕ} → FilledShort rec rec' near near' k → k ≡ 0 → (rec' ≡ rec) × (near' ≡ near)
-  left-same (short n R) z = absurd (n z)
-  left-same (none z e q W) m = (e, q)
-
-  -- the least wiring is laid
-  pub routed-least : {rec' : List ℕ} {b : Bool} → WiredLeast rec rec' b → b ≡ true → RoutedLeast rec rec' near near 0
-  routed-least (laid R) e = R near
-  routed-least (same q n) e = absurd (subst T (sym e) tt)
-
-  -- there is none, so that some chosen pin stays unwired
-  pub routed-fallen : {rec' near' : List ℕ} {k : ℕ} → (Wireable (job_of rec) → ⊥) → FilledShort rec rec' near near' k → RoutedLeast rec rec' near near' k
-  routed-fallen n (short m R) = record { routed = R; least = λ z. absurd (m z) }
-  routed-fallen n (none z e q W) = absurd (n W)
+        more : More (job_of rec) (front rec) loads'
+        more =
+            record {
+              held = least-held legal W;
+              begun = λ x l.
+                  omega (arith, starts-wanted (job_of rec) H.fits (front rec) H.feasible x l, starts-all (least-held legal W) W.all x l);
+              kept = W.kept;
+            }

@@ -1,7 +1,6 @@
 -- Request K8: what the search that raises prices and the least wiring keep and leave. Loads have prices throughout; a pin more is wired along tight moves, and
 -- when every chosen pin is, the wires have the least length. Assumes nothing.
-use Rattle.std.specs.Prelude.{◌≡◌, ◌≢◌, Bool, true, false, not, List, ℕ, ◌+◌, ◌≤◌, T, get_or}
-use Rattle.std.proofs.Common.{sym, subst}
+use Rattle.std.specs.Prelude.{◌≡◌, List, ℕ, ◌+◌, ◌≤◌, get_or}
 use Rattle.price.specs.Priced.{Priced}
 use Rattle.model.specs.Job.{Job}
 use Rattle.model.specs.Loads.{Sound}
@@ -18,7 +17,6 @@ use Rattle.augment.specs.OneMore.{OneMore}
 use Rattle.augment.specs.Pins.{Held}
 use Rattle.search.specs.Fill.{Cleared}
 use Rattle.search.specs.Outcome.{RoutedAll}
-use Rattle.shortest.specs.Known.{Known}
 
 -- the prices that a row of numbers holds
 abbrev pub price_at : List ℕ → ℕ → ℕ
@@ -39,37 +37,12 @@ pub record Wireable (J : Job) : Type 0 where
   pub held : Held J loads
   pub all : wire_count J (load loads) ≡ chosen_count J
 
--- It is done, and the answer is true; or no loads of the job have a wire for every chosen pin.
-pub data Managed (J : Job) (P : Type 0) : Bool → Type 0 where
-  did : P → Managed J P true
-  cannot : (Wireable J → ⊥) → Managed J P false
-
-module _ {J : Job} {P : Type 0} where
-  pub managed-did : {b : Bool} → Managed J P b → not b ≡ false → P
-  managed-did (did p) e = p
-  managed-did (cannot n) e = absurd (subst T e tt)
-
-  pub managed-cannot : {b : Bool} → Managed J P b → not b ≡ true → Wireable J → ⊥
-  managed-cannot (did p) e = absurd (subst T (sym e) tt)
-  managed-cannot (cannot n) e = n
-
-  -- where there is a complete wiring it is done
-  pub managed-can : {b : Bool} → Managed J P b → Wireable J → P
-  managed-can (did p) W = p
-  managed-can (cannot n) W = absurd (n W)
-
-  pub managed-map : {Q : Type 0} {b : Bool} → (P → Q) → Managed J P b → Managed J Q b
-  managed-map f (did p) = did (f p)
-  managed-map f (cannot n) = cannot n
-
--- One wire more starts, at u, the loads have prices still, no spot is marked, no price rose by more than any complete wiring costs, and what is remembered of
--- moves holds.
-pub record Grew (J : Job) (rec prices : List ℕ) (u : ℕ) (rec' prices' marks' known' : List ℕ) : Type 0 where
+-- One wire more starts, at u, the loads have prices still, no spot is marked, and no price rose by more than any complete wiring costs.
+pub record Grew (J : Job) (rec prices : List ℕ) (u : ℕ) (rec' prices' marks' : List ℕ) : Type 0 where
   pub more : OneMore J rec rec' u
   pub priced : Priced (net J) dart_length (view rec') (price_at prices')
   pub cleared : Cleared marks'
   pub most : (m : ℕ) → AtMost prices m → AtMost prices' (m + 1417824)
-  pub known : Known J rec' known'
 
 -- The loads have prices, and a wire for every chosen pin of the record's job; only load bytes differ from the record's.
 pub record Complete (rec loads : List ℕ) : Type 0 where
@@ -90,13 +63,3 @@ pub record Least (rec loads : List ℕ) : Type 0 where
 pub record RoutedLeast (rec rec' near near' : List ℕ) (k : ℕ) : Type 0 where
   pub routed : RoutedAll rec rec' near near' k
   pub least : k ≡ 0 → LeastLength (job_of rec) (held_length (job_of rec) (load rec'))
-
--- The least wiring is laid, whatever near side is lent; or the record is as it was, and there is no complete wiring.
-pub data WiredLeast (rec rec' : List ℕ) : Bool → Type 0 where
-  laid : ((near : List ℕ) → RoutedLeast rec rec' near near 0) → WiredLeast rec rec' true
-  same : rec' ≡ rec → (Wireable (job_of rec) → ⊥) → WiredLeast rec rec' false
-
--- Every wire that fits is laid, and some chosen pin stays unwired; or nothing is changed, and there is a complete wiring.
-pub data FilledShort (rec rec' near near' : List ℕ) (k : ℕ) : Type 0 where
-  short : k ≢ 0 → RoutedAll rec rec' near near' k → FilledShort rec rec' near near' k
-  none : k ≡ 0 → rec' ≡ rec → near' ≡ near → Wireable (job_of rec) → FilledShort rec rec' near near' k

@@ -3,12 +3,11 @@ ghost use Rattle.std.specs.Prelude.{◌≡◌, min, ◌+◌, ◌*◌, ◌<◌, T
 ghost use Rattle.model.specs.Record.{job_of};
 ghost use Rattle.channel.specs.Map.{moves};
 ghost use Rattle.augment.specs.Steps.{Whole};
-ghost use Rattle.shortest.specs.Known.{Known};
 ghost use Rattle.shortest.specs.Growing.{Trial, Tried, Growing, Outcome};
 
-use crate::known::moves_at;
 use crate::slack::slack;
-use channel::{is_outside, lowest, reverse};
+use augment::reach::onward;
+use channel::{head_of, is_outside, lowest};
 
 // So many spots are in the queue, on the stack and on the rim; the moves of those on the rim leave `least` or more.
 #[derive(Drop)]
@@ -56,12 +55,11 @@ fn attempt(
         marks.new queue.new parent.new slot.new stack.new result }
 {
     let d = 8 * u + k;
-    let e = reverse(d);
-    let v = e / 8;
+    let v = head_of(d);
     if marks[v] == 1 {
         return Step::More(g);
     }
-    let x = slack(loads, prices, d, e);
+    let x = slack(loads, prices, d);
     let n = g.n;
     let top = g.top;
     if x != 0 {
@@ -97,19 +95,16 @@ pub fn expand(
     queue: &mut [u16],
     parent: &mut [u16],
     slot: &mut [u8],
-    known: &mut [u8],
     stack: &mut [u16],
     rim: &mut [u16],
     g: Growth,
 ) -> Step
     requires { Whole job.now loads.now × (0 < g.top)
         × Growing (job_of job.now) loads.now prices.now (get_or queue.old 0 0)
-        marks.old queue.old parent.old slot.old stack.old rim.old g
-        × Known (job_of job.now) loads.now known.old }
+        marks.old queue.old parent.old slot.old stack.old rim.old g }
     ensures { Outcome (job_of job.now) loads.now prices.now (get_or queue.old 0 0)
         marks.new queue.new parent.new slot.new stack.new rim.new
-        (λ a. a.n + g.top ≡ a.top + g.n + 1) result
-        × Known (job_of job.now) loads.now known.new }
+        (λ a. a.n + g.top ≡ a.top + g.n + 1) result }
 {
     let top = g.top - 1;
     let m = g.rims;
@@ -123,7 +118,7 @@ pub fn expand(
         least: g.least,
     };
     let mut k = 0;
-    let mut left = moves_at(job, loads, known, u);
+    let mut left = onward(job, loads, marks, u);
     while left != 0 {
         let skip = lowest(left);
         k += skip;

@@ -1,11 +1,11 @@
 // First prices: 10 for each ring between a spot and the rim, and 14 more for the entry of a missing pin.
-ghost use Rattle.std.specs.Prelude.{◌≡◌, not, List, ℕ, ◌-◌, ◌+◌, ◌*◌, ◌≤◌, ◌<◌, min, length, set};
-ghost use Rattle.sums.specs.Counting.{when, sum};
+ghost use Rattle.std.specs.Prelude.{◌≡◌, ◌-◌, ◌+◌, ◌*◌, ◌≤◌, ◌<◌, min, length};
+ghost use Rattle.sums.specs.Counting.{sum};
 ghost use Rattle.model.specs.Record.{job_of};
-ghost use Rattle.channel.specs.Map.{spots, want, outside};
+ghost use Rattle.channel.specs.Map.{spots, want};
 ghost use Rattle.shortest.specs.Rings.{least4};
 ghost use Rattle.shortest.specs.FirstPrices.{kind_price, first_price};
-ghost use Rattle.shortest.specs.FirstRow.{FirstRow, sides_set, cell_set};
+ghost use Rattle.shortest.specs.FirstRow.{FirstRow};
 
 use crate::slack::beyond;
 use channel::{columns, is_outside, is_start, rows};
@@ -53,69 +53,13 @@ pub fn first_price(job: &[u8], u: usize) -> usize
     kind_price(job, u % 8, x / 40, x % 40)
 }
 
-// The price p, or 0 for a spot outside.
-fn price_inside(job: &[u8], u: usize, p: usize) -> usize
-    requires { (32768 ≤ length job.now) × (u < 13128) }
-    ensures { (result ≡ when (not (outside (job_of job.now) u)) p) × (result ≤ p) }
-{
-    if is_outside(job, u) {
-        return 0;
-    }
-    p
-}
-
-// The price p at u.
-fn put(prices: &mut [u32], u: usize, p: usize)
-    requires { (u < length prices.old) × (p < 4294967296) }
-    ensures { prices.new ≡ set prices.old u p }
-{
-    prices[u] = p as u32;
-}
-
-// The price of the four sides of the cell whose spots begin at u.
-fn put_sides(prices: &mut [u32], u: usize, p: usize)
-    requires { (u < 13128) × (u + 8 ≤ length prices.old) × (p < 4294967296) }
-    ensures { prices.new ≡ sides_set prices.old u p }
-{
-    put(prices, u + 2, p);
-    put(prices, u + 3, p);
-    put(prices, u + 4, p);
-    put(prices, u + 5, p);
-}
-
-// The prices of the cell whose spots begin at u: of the pin's entry, of its exit, of the four sides, and of the centre.
-fn put_cell(prices: &mut [u32], u: usize, entry: usize, pin: usize, side: usize, centre: usize)
-    requires { (u < 13128) × (u + 8 ≤ length prices.old) × (entry < 4294967296) × (pin < 4294967296) × (side < 4294967296) × (centre < 4294967296) }
-    ensures { prices.new ≡ cell_set prices.old u entry pin side centre }
-{
-    put(prices, u, entry);
-    put(prices, u + 1, pin);
-    put_sides(prices, u, side);
-    put(prices, u + 6, centre);
-    put(prices, u + 7, centre);
-}
-
-// The first prices of the eight spots of the cell x.
-fn cell_prices(job: &[u8], prices: &mut [u32], x: usize)
-    requires { (32768 ≤ length job.now) × (spots ≤ length prices.old) × (x < 1641) }
-    ensures { (old : List ℕ) → FirstRow (job_of job.now) (8 * x) old prices.old
-        → FirstRow (job_of job.now) (8 * x + 8) old prices.new }
-{
-    let y = beyond(41, x);
-    let p = 10 * ring(job, y / 40, y % 40, 1);
-    let q = 10 * (ring(job, y / 40, y % 40, 2) + 1);
-    let entry = price_inside(job, 8 * x, p + 14);
-    let side = price_inside(job, 8 * x + 2, q);
-    put_cell(prices, 8 * x, entry, p, side, q);
-}
-
 // Every spot gets its first price.
 pub fn first_prices(job: &[u8], prices: &mut [u32])
     requires { (32768 ≤ length job.now) × (spots ≤ length prices.old) }
     ensures { FirstRow (job_of job.now) spots prices.old prices.new }
 {
-    for x in 0..1641 {
-        cell_prices(job, prices, x);
+    for u in 0..13128 {
+        prices[u] = first_price(job, u) as u32;
     }
 }
 
@@ -136,8 +80,8 @@ pub fn first_total(job: &[u8]) -> usize
     ensures { result ≡ sum spots (λ u. first_price (job_of job.now) u * want (job_of job.now) u) }
 {
     let mut n: usize = 0;
-    for x in 0..1641 {
-        n += first_due(job, 8 * x + 1);
+    for u in 0..13128 {
+        n += first_due(job, u);
     }
     n
 }

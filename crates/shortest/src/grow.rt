@@ -6,19 +6,14 @@ ghost use Rattle.augment.specs.Spread.{Room};
 ghost use Rattle.augment.specs.Steps.{Whole};
 ghost use Rattle.augment.specs.Pins.{Unwired};
 ghost use Rattle.search.specs.Fill.{Cleared};
-ghost use Rattle.shortest.specs.Known.{Known};
-ghost use Rattle.shortest.specs.Wiring.{AtMost, Arranged, Managed, Grew};
-ghost use Rattle.shortest.specs.Growing.{Growing, Outcome, Raised, Raisable, Rounded, Widened};
+ghost use Rattle.shortest.specs.Wiring.{AtMost, Arranged, Wireable, Grew};
+ghost use Rattle.shortest.specs.Growing.{Growing, Outcome, Raised, Raisable, Rounded, Opened};
 
 use crate::expand::{Growth, Step, expand};
-use crate::known::lay_known;
-use augment::ways::unmark;
+use augment::ways::{lay_way, unmark};
 
-// More than any price of an unwired pin, where all can be wired.
+// More than any price of an unwired pin.
 const FAR: usize = 1500000;
-
-// No such price is greater.
-const MOST: u32 = 1417824;
 
 // The way out: slot `slot` of the spot at `place` in the queue of n.
 #[derive(Drop)]
@@ -26,13 +21,6 @@ pub struct Way {
     pub place: usize,
     pub slot: usize,
     pub n: usize,
-}
-
-// The way out; or there is no complete wiring.
-#[derive(Drop)]
-pub enum Search {
-    Open(Way),
-    Shut,
 }
 
 // Spot by spot until the stack is empty, or to a way out.
@@ -44,24 +32,21 @@ fn settle(
     queue: &mut [u16],
     parent: &mut [u16],
     slot: &mut [u8],
-    known: &mut [u8],
     stack: &mut [u16],
     rim: &mut [u16],
     g: Growth,
 ) -> Step
     requires { Whole job.now loads.now
         × Growing (job_of job.now) loads.now prices.now (get_or queue.old 0 0)
-        marks.old queue.old parent.old slot.old stack.old rim.old g
-        × Known (job_of job.now) loads.now known.old }
+        marks.old queue.old parent.old slot.old stack.old rim.old g }
     ensures { Outcome (job_of job.now) loads.now prices.now (get_or queue.old 0 0)
         marks.new queue.new parent.new slot.new stack.new rim.new
-        (λ a. a.top ≡ 0) result
-        × Known (job_of job.now) loads.now known.new }
+        (λ a. a.top ≡ 0) result }
 {
     let mut a = g;
     while a.top != 0 {
         match expand(
-            job, loads, prices, marks, queue, parent, slot, known, stack, rim, a,
+            job, loads, prices, marks, queue, parent, slot, stack, rim, a,
         ) {
             Step::Exit(i, k, n) => {
                 return Step::Exit(i, k, n);
@@ -112,21 +97,18 @@ fn round(
     queue: &mut [u16],
     parent: &mut [u16],
     slot: &mut [u8],
-    known: &mut [u8],
     stack: &mut [u16],
     rim: &mut [u16],
     g: Growth,
 ) -> Step
     requires { Whole job.now loads.now × Arranged (job_of job.now) loads.now prices.old × AtMost prices.old 4293467295
         × Growing (job_of job.now) loads.now prices.old (get_or queue.old 0 0)
-        marks.old queue.old parent.old slot.old stack.old rim.old g
-        × Known (job_of job.now) loads.now known.old }
+        marks.old queue.old parent.old slot.old stack.old rim.old g }
     ensures { Rounded (job_of job.now) loads.now prices.old (get_or queue.old 0 0)
-        prices.new marks.new queue.new parent.new slot.new stack.new rim.new result
-        × Known (job_of job.now) loads.now known.new }
+        prices.new marks.new queue.new parent.new slot.new stack.new rim.new result }
 {
     match settle(
-        job, loads, prices, marks, queue, parent, slot, known, stack, rim, g,
+        job, loads, prices, marks, queue, parent, slot, stack, rim, g,
     ) {
         Step::Exit(i, k, n) => Step::Exit(i, k, n),
         Step::More(a) => {
@@ -144,7 +126,7 @@ fn round(
     }
 }
 
-// Round by round to a way out; or the price of the pin is above what any complete wiring costs, so that there is none.
+// Round by round to a way out.
 fn widen(
     job: &[u8],
     loads: &[u8],
@@ -153,41 +135,37 @@ fn widen(
     queue: &mut [u16],
     parent: &mut [u16],
     slot: &mut [u8],
-    known: &mut [u8],
     stack: &mut [u16],
     rim: &mut [u16],
-    start: usize,
     g: Growth,
-) -> Search
+) -> Way
     requires { Whole job.now loads.now × Arranged (job_of job.now) loads.now prices.old × AtMost prices.old 2268518614
         × Growing (job_of job.now) loads.now prices.old (get_or queue.old 0 0)
         marks.old queue.old parent.old slot.old stack.old rim.old g
-        × Known (job_of job.now) loads.now known.old × (start ≡ get_or queue.old 0 0) × (start < spots) × Unwired (job_of job.now) loads.now start }
-    ensures { Widened (job_of job.now) loads.now prices.old start
-        prices.new marks.new queue.new parent.new slot.new result
-        × Known (job_of job.now) loads.now known.new }
+        × Wireable (job_of job.now) × Unwired (job_of job.now) loads.now (get_or queue.old 0 0) }
+    ensures { Opened (job_of job.now) loads.now prices.old (get_or queue.old 0 0)
+        prices.new marks.new queue.new parent.new slot.new result }
 {
     let mut a = g;
-    while prices[start] <= MOST {
+    loop {
         match round(
-            job, loads, prices, marks, queue, parent, slot, known, stack, rim, a,
+            job, loads, prices, marks, queue, parent, slot, stack, rim, a,
         ) {
             Step::Exit(i, k, n) => {
-                return Search::Open(Way {
+                return Way {
                     place: i,
                     slot: k,
                     n: n,
-                });
+                };
             }
             Step::More(b) => {
                 a = b;
             }
         }
     }
-    Search::Shut
 }
 
-// A wire more, from the unwired pin `start`, along tight moves; prices are raised until there is a way, or there is no complete wiring.
+// A wire more, from the unwired pin `start`, along tight moves; prices are raised until there is a way.
 pub fn grow(
     job: &[u8],
     loads: &mut [u8],
@@ -197,32 +175,36 @@ pub fn grow(
     queue: &mut [u16],
     parent: &mut [u16],
     slot: &mut [u8],
-    known: &mut [u8],
     stack: &mut [u16],
     rim: &mut [u16],
-) -> bool
+)
     requires { Whole job.now loads.old × Room marks.old queue.old parent.old slot.old
         × (spots ≤ length stack.old) × (spots ≤ length rim.old) × (spots ≤ length prices.old)
-        × Arranged (job_of job.now) loads.old prices.old × Known (job_of job.now) loads.old known.old × Cleared marks.old
+        × Arranged (job_of job.now) loads.old prices.old × Wireable (job_of job.now) × Cleared marks.old
         × (start < spots) × Unwired (job_of job.now) loads.old start × AtMost prices.old 2268518614 }
-    ensures { Managed (job_of job.now) (Grew (job_of job.now) loads.old prices.old start
-        loads.new prices.new marks.new known.new) result }
+    ensures { Grew (job_of job.now) loads.old prices.old start
+        loads.new prices.new marks.new }
 {
     marks[start] = 1;
     queue[0] = start as u16;
     stack[0] = 0;
-    let first = Growth {
-        n: 1,
-        top: 1,
-        rims: 0,
-        least: FAR,
-    };
-    let Search::Open(y) = widen(
-        job, loads, prices, marks, queue, parent, slot, known, stack, rim, start, first,
-    ) else {
-        return false;
-    };
-    lay_known(loads, known, queue, parent, slot, y.place, y.slot);
+    let y = widen(
+        job,
+        loads,
+        prices,
+        marks,
+        queue,
+        parent,
+        slot,
+        stack,
+        rim,
+        Growth {
+            n: 1,
+            top: 1,
+            rims: 0,
+            least: FAR,
+        },
+    );
+    lay_way(loads, queue, parent, slot, y.place, y.slot);
     unmark(marks, queue, y.n);
-    true
 }

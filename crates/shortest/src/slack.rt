@@ -1,11 +1,10 @@
 // What a move leaves: by how much the move and the price of its head cost more than the price of its tail.
 ghost use Rattle.std.specs.Prelude.{◌≡◌, ◌||◌, ◌-◌, ◌≤◌, ◌<◌, eqb, length, get_or};
-ghost use Rattle.channel.specs.Map.{rev};
 ghost use Rattle.channel.specs.Map.Lengths.{length_of, back_length_of, dart_length};
 ghost use Rattle.shortest.specs.Grow.{slack_of};
 
-use channel::carried;
 use channel::loads::bit;
+use channel::{carried, reverse};
 
 // Whether a dart of that row crosses a side.
 fn crosses(i: usize) -> bool
@@ -52,11 +51,12 @@ pub fn beyond(a: usize, b: usize) -> usize
     0
 }
 
-// What the move along d leaves, whose way back is e. Where neither way counts it does not matter whether a wire goes the other way.
-pub fn slack(loads: &[u8], prices: &[u32], d: usize, e: usize) -> usize
-    requires { (32768 ≤ length loads.now) × (13128 ≤ length prices.now) × (d < 105024) × (e < 105024) × (e ≡ rev d) }
+// What the move along d leaves. Where neither way counts it does not matter whether a wire goes the other way.
+pub fn slack(loads: &[u8], prices: &[u32], d: usize) -> usize
+    requires { (32768 ≤ length loads.now) × (13128 ≤ length prices.now) × (d < 105024) }
     ensures { result ≡ slack_of dart_length (λ u. get_or prices.now u 0) loads.now d }
 {
+    let e = reverse(d);
     let near = wide(prices[d / 8]);
     let far = wide(prices[e / 8]);
     if !counts(d % 64) {

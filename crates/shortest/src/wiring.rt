@@ -4,7 +4,7 @@ ghost use Rattle.std.specs.Prelude.{◌≡◌, ◌*◌, ◌≤◌, ◌<◌, leng
 ghost use Rattle.model.specs.Record.{record_size, job_of, Legal};
 ghost use Rattle.channel.specs.Map.{spots};
 ghost use Rattle.augment.specs.Pins.{OnLine, InRows};
-ghost use Rattle.shortest.specs.Wiring.{Managed, Complete, Least};
+ghost use Rattle.shortest.specs.Wiring.{Wireable, Complete, Least};
 ghost use Rattle.shortest.specs.Lines.{Lent, Standing, Advanced};
 
 use crate::first::first_prices;
@@ -12,7 +12,7 @@ use crate::grow::grow;
 use augment::next::{Line, inwards, nth_line, spot_on};
 use channel::copy::copy;
 use channel::{is_start, rows, unwire, wire_starts};
-use search::untangle::unloop_on;
+use search::untangle::unloop;
 
 // A wire from u, if one is wanted there and none starts.
 fn wire_pin(
@@ -24,24 +24,22 @@ fn wire_pin(
     queue: &mut [u16],
     parent: &mut [u16],
     slot: &mut [u8],
-    known: &mut [u8],
     stack: &mut [u16],
     rim: &mut [u16],
-) -> bool
+)
     requires { Lent job.now loads.old prices.old marks.old queue.old parent.old slot.old stack.old rim.old
-        × Standing (job_of job.now) loads.old prices.old marks.old known.old × (u < spots) }
-    ensures { Managed (job_of job.now) (Advanced (job_of job.now) (λ x. x ≡ u)
-        loads.old loads.new prices.new marks.new known.new) result }
+        × Standing (job_of job.now) loads.old prices.old marks.old × Wireable (job_of job.now) × (u < spots) }
+    ensures { Advanced (job_of job.now) (λ x. x ≡ u) loads.old loads.new prices.new marks.new }
 {
     if !is_start(job, u) {
-        return true;
+        return;
     }
     if wire_starts(job, loads, u) != 0 {
-        return true;
+        return;
     }
     grow(
-        job, loads, u, prices, marks, queue, parent, slot, known, stack, rim,
-    )
+        job, loads, u, prices, marks, queue, parent, slot, stack, rim,
+    );
 }
 
 // A wire from each chosen pin of a line, from its ends inwards. The pins passed are wired.
@@ -54,25 +52,20 @@ fn wire_line(
     queue: &mut [u16],
     parent: &mut [u16],
     slot: &mut [u8],
-    known: &mut [u8],
     stack: &mut [u16],
     rim: &mut [u16],
-) -> bool
+)
     requires { Lent job.now loads.old prices.old marks.old queue.old parent.old slot.old stack.old rim.old
-        × Standing (job_of job.now) loads.old prices.old marks.old known.old × (l.number < 40) × (l.pins ≤ 40) }
-    ensures { Managed (job_of job.now) (Advanced (job_of job.now) (OnLine l l.pins)
-        loads.old loads.new prices.new marks.new known.new) result }
+        × Standing (job_of job.now) loads.old prices.old marks.old × Wireable (job_of job.now) × (l.number < 40) × (l.pins ≤ 40) }
+    ensures { Advanced (job_of job.now) (OnLine l l.pins) loads.old loads.new prices.new marks.new }
 {
     let n = l.pins;
     for i in 0..n {
         let u = spot_on(l, inwards(i, n));
-        if !wire_pin(
-            job, loads, u, prices, marks, queue, parent, slot, known, stack, rim,
-        ) {
-            return false;
-        }
+        wire_pin(
+            job, loads, u, prices, marks, queue, parent, slot, stack, rim,
+        );
     }
-    true
 }
 
 // A wire from each chosen pin, line by line. The pins of the rows passed are wired.
@@ -84,45 +77,36 @@ fn wire_lines(
     queue: &mut [u16],
     parent: &mut [u16],
     slot: &mut [u8],
-    known: &mut [u8],
     stack: &mut [u16],
     rim: &mut [u16],
-) -> bool
+)
     requires { Lent job.now loads.old prices.old marks.old queue.old parent.old slot.old stack.old rim.old
-        × Standing (job_of job.now) loads.old prices.old marks.old known.old }
-    ensures { Managed (job_of job.now) (Advanced (job_of job.now) (InRows (job_of job.now) 0 (2 * (job_of job.now).rows))
-        loads.old loads.new prices.new marks.new known.new) result }
+        × Standing (job_of job.now) loads.old prices.old marks.old × Wireable (job_of job.now) }
+    ensures { Advanced (job_of job.now) (InRows (job_of job.now) 0 (2 * (job_of job.now).rows))
+        loads.old loads.new prices.new marks.new }
 {
     let n = 2 * rows(job);
     for i in 0..n {
         let l = nth_line(job, i);
-        if !wire_line(
-            job, loads, l, prices, marks, queue, parent, slot, known, stack, rim,
-        ) {
-            return false;
-        }
+        wire_line(
+            job, loads, l, prices, marks, queue, parent, slot, stack, rim,
+        );
     }
-    true
 }
 
 // A wire from each chosen pin, from nothing, on a copy of the record. Loops may stand.
-fn wire_all(
-    rec: &[u8],
-    loads: &mut [u8],
-    queue: &mut [u16],
-    parent: &mut [u16],
-    slot: &mut [u8],
-) -> bool
-    requires { Legal rec.now × (length loads.old ≡ record_size)
-        × (spots ≤ length queue.old) × (spots ≤ length parent.old) × (spots ≤ length slot.old) }
-    ensures { Managed (job_of rec.now) (Complete rec.now loads.new) result }
+fn wire_all(rec: &[u8], loads: &mut [u8])
+    requires { Legal rec.now × Wireable (job_of rec.now) × (length loads.old ≡ record_size) }
+    ensures { Complete rec.now loads.new }
 {
     copy(rec, loads);
     unwire(loads);
     let mut prices = [0u32; 13128];
     first_prices(rec, &mut prices);
     let mut marks = [0u8; 13128];
-    let mut known = [0u8; 13128];
+    let mut queue = [0u16; 13128];
+    let mut parent = [0u16; 13128];
+    let mut slot = [0u8; 13128];
     let mut stack = [0u16; 13128];
     let mut rim = [0u16; 13128];
     wire_lines(
@@ -130,27 +114,20 @@ fn wire_all(
         loads,
         &mut prices,
         &mut marks,
-        queue,
-        parent,
-        slot,
-        &mut known,
+        &mut queue,
+        &mut parent,
+        &mut slot,
         &mut stack,
         &mut rim,
-    )
+    );
 }
 
 // The loads of the least wiring, on a copy of a record in whose job every chosen pin can have a wire. What the wiring works on is not needed any more
 // as loops are taken out.
-pub fn least_wiring(rec: &[u8], loads: &mut [u8]) -> bool
-    requires { Legal rec.now × (length loads.old ≡ record_size) }
-    ensures { Managed (job_of rec.now) (Least rec.now loads.new) result }
+pub fn least_wiring(rec: &[u8], loads: &mut [u8])
+    requires { Legal rec.now × Wireable (job_of rec.now) × (length loads.old ≡ record_size) }
+    ensures { Least rec.now loads.new }
 {
-    let mut queue = [0u16; 13128];
-    let mut parent = [0u16; 13128];
-    let mut slot = [0u8; 13128];
-    if !wire_all(rec, loads, &mut queue, &mut parent, &mut slot) {
-        return false;
-    }
-    unloop_on(loads, &mut queue, &mut parent, &mut slot);
-    true
+    wire_all(rec, loads);
+    unloop(loads);
 }

@@ -79,14 +79,9 @@ pub record Dfs (rec fin st sl : List ℕ) (n m : ℕ) : Type 0 where
 abbrev pub Kept : List ℕ → List ℕ → Type 0
 Kept fin fin' = (u : ℕ) → get_or fin u 0 ≢ 0 → get_or fin' u 0 ≢ 0
 
--- what was done stays done
-abbrev pub Lasting : List ℕ → List ℕ → Type 0
-Lasting fin fin' = (u : ℕ) → u < spots → 2 ≤ get_or fin u 0 → 2 ≤ get_or fin' u 0
-
--- both, and no other is seen
+-- besides, no other is seen
 pub record Still (fin fin' : List ℕ) : Type 0 where
   pub kept : Kept fin fin'
-  pub lasting : Lasting fin fin'
   pub count : unseen fin' ≡ unseen fin
 
 -- v is not seen, and the top of n spots on the stack leads to it
@@ -106,7 +101,7 @@ pub record Entered (rec fin st sl : List ℕ) (n v : ℕ) (fin' st' sl' : List �
 pub data Turned (rec fin : List ℕ) (n m : ℕ) (fin' st' sl' : List ℕ) : Turn → Type 0 where
   new : {v : ℕ} → Aimed rec fin' st' sl' n m v → Still fin fin' → Turned rec fin n m fin' st' sl' (New v)
   more : {n' m' : ℕ} → Dfs rec fin' st' sl' n' m' → Still fin fin' → n' < n → Turned rec fin n m fin' st' sl' (More n' m')
-  hit : {v : ℕ} → Dfs rec fin' st' sl' n m → Edge rec (get_or st' (n - 1) 0) (get_or sl' (n - 1) 0 % 8) v → get_or fin' v 0 ≡ 1 → Lasting fin fin'
+  hit : {v : ℕ} → Dfs rec fin' st' sl' n m → Edge rec (get_or st' (n - 1) 0) (get_or sl' (n - 1) 0 % 8) v → get_or fin' v 0 ≡ 1
       → Turned rec fin n m fin' st' sl' (Hit v)
 
 -- the turns up to a new spot: the top leads to it; or nothing is left on the stack; or the top leads to v, which is on the stack
@@ -114,17 +109,17 @@ pub data Resumed (rec fin fin' st' sl' : List ℕ) : Way → Type 0 where
   down : {n' m' v : ℕ} → Aimed rec fin' st' sl' n' m' v → Still fin fin' → Resumed rec fin fin' st' sl' (Down n' m' v)
   up : {m' : ℕ} → Dfs rec fin' st' sl' 0 m' → Kept fin fin' → Resumed rec fin fin' st' sl' (Up m')
   back : {n' m' v : ℕ} → Dfs rec fin' st' sl' n' m' → Edge rec (get_or st' (n' - 1) 0) (get_or sl' (n' - 1) 0 % 8) v → get_or fin' v 0 ≡ 1
-      → Lasting fin fin' → Resumed rec fin fin' st' sl' (Back n' m' v)
+      → Resumed rec fin fin' st' sl' (Back n' m' v)
 
--- a search: all that was seen is done; or a ring stands, nothing is left on the stack, and what was done stays so
+-- the search from one spot: all that was seen is done; or a ring stands, and nothing is left on the stack
 pub data Searched (rec fin fin' st' sl' : List ℕ) : Search → Type 0 where
   over : {m' : ℕ} → Dfs rec fin' st' sl' 0 m' → Kept fin fin' → Searched rec fin fin' st' sl' (Over m')
-  ring : {j n m' : ℕ} → Closed rec st' sl' j n → Dfs rec fin' st' sl' 0 m' → Lasting fin fin' → Searched rec fin fin' st' sl' (Ring j n m')
+  ring : {j n m' : ℕ} → Closed rec st' sl' j n → Dfs rec fin' st' sl' 0 m' → Searched rec fin fin' st' sl' (Ring j n m')
 
--- the search from the spot r: it is seen, if it is one
-pub record Traced (rec : List ℕ) (r : ℕ) (fin fin' st' sl' : List ℕ) (s : Search) : Type 0 where
+-- the search from the spot of the i-th load byte: where there is one, it is seen
+pub record Traced (rec : List ℕ) (i : ℕ) (fin fin' st' sl' : List ℕ) (s : Search) : Type 0 where
   pub search : Searched rec fin fin' st' sl' s
-  pub seen : {m' : ℕ} → s ≡ Over m' → r < spots → get_or fin' r 0 ≢ 0
+  pub seen : {m' : ℕ} → s ≡ Over m' → origin_of rec i < spots → get_or fin' (origin_of rec i) 0 ≢ 0
 
 -- the spot of the i-th load byte is seen, if its link is fresh
 abbrev pub Begun : List ℕ → List ℕ → List ℕ → ℕ → Type 0
@@ -134,8 +129,3 @@ Begun old rec fin i = T (is_fresh old rec i) → origin_of rec i < spots → get
 pub record FreshTraced (old rec : List ℕ) (a b : ℕ) (fin fin' st' sl' : List ℕ) (s : Search) : Type 0 where
   pub search : Searched rec fin fin' st' sl' s
   pub seen : {m' : ℕ} → s ≡ Over m' → (i : ℕ) → a ≤ i → i < b → Begun old rec fin' i
-
--- the first k runs of 16 load bytes are passed, the last bytes first: the spots of their fresh links are seen
-pub record Passed (old rec fin : List ℕ) (k : ℕ) : Type 0 where
-  pub within : k ≤ 1500
-  pub begun : (i : ℕ) → 16 * (1500 - k) ≤ i → i < 24000 → Begun old rec fin i

@@ -6,7 +6,7 @@ use Rattle.std.proofs.Math.Numerals.{add-two}
 use Rattle.channel.specs.Map.{spots, darts, view}
 use Rattle.channel.specs.Map.Numbers.{slot-dart, head-spot}
 use Rattle.audit.specs.Loops.{Room}
-use Rattle.audit.specs.Loops.Dfs.{Edge, Cleared, Rest, unseen, Forgotten, Dfs, Lasting}
+use Rattle.audit.specs.Loops.Dfs.{Edge, Cleared, Rest, unseen, Forgotten, Dfs}
 use Rattle.audit.specs.Loops.Marks.{same_or, after, blanks-le, unseen-less, unseen_same}
 
 -- an edge leads to a spot
@@ -48,13 +48,6 @@ module _ {rec fin st sl : List ℕ} {n m : ℕ} (d : Dfs rec fin st sl n m) wher
   pub dfs-empty : n ≤ 0 → Dfs rec fin st sl 0 m
   dfs-empty l = let e : n ≡ 0 = omega arith in subst (λ (x : ℕ). Dfs rec fin st sl x m) e d
 
-  -- what is done is not on the stack
-  forget-still : {fin' : List ℕ} → Forgotten st n fin fin' → (v : ℕ) → 2 ≤ get_or fin v 0 → get_or fin' v 0 ≡ get_or fin v 0
-  forget-still f v h = f.same v (λ i l e. omega (arith, h, (d.on i l).1, ap (λ (x : ℕ). get_or fin x 0) e))
-
-  pub forget-lasting : {fin' : List ℕ} → Forgotten st n fin fin' → Lasting fin fin'
-  forget-lasting f u l h = omega (arith, h, forget-still f u h)
-
   -- what is on the stack is forgotten: what is done leads to what is done
   pub dfs-forget : {fin' sl' : List ℕ} → length fin' ≡ length fin → length sl' ≡ length sl → Forgotten st n fin fin' → Dfs rec fin' st sl' 0 m
   dfs-forget {fin'} {sl'} ef es f =
@@ -71,9 +64,12 @@ module _ {rec fin st sl : List ℕ} {n m : ℕ} (d : Dfs rec fin st sl n m) wher
         falls = λ u l h k v g.
             let eu : get_or fin' u 0 ≡ get_or fin u 0 = ⊎_elim (λ e. absurd (omega (arith, h, e))) (λ e. e) (f.each u) in
             let (a, b) = d.falls u l (omega (arith, h, eu)) k v g in
-            (omega (arith, a, forget-still f v a), omega (arith, b, eu, forget-still f v a));
+            (omega (arith, a, still v a), omega (arith, b, eu, still v a));
       }
     where
+      still : (v : ℕ) → 2 ≤ get_or fin v 0 → get_or fin' v 0 ≡ get_or fin v 0
+      still v h = f.same v (λ i l e. omega (arith, h, (d.on i l).1, ap (λ (x : ℕ). get_or fin x 0) e))
+
       none : (u : ℕ) → u < spots → get_or fin' u 0 ≡ 1 → ⊥
       none u l e = ⊎_elim
           (λ z. omega (arith, e, z))

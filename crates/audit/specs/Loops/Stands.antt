@@ -47,8 +47,8 @@ module _ {old rec fin st sl : List ℕ} {f : Found} (d : Answer old rec fin st s
       by zero l p = absurd (omega arith)
       by (suc k) l p = path-loop J fits rec feasible (get_or st j 0) (8 * get_or st j 0 + get_or sl j 0) (ring_darts st sl (suc j) k) p
 
-  pub a-loop : {j n m k : ℕ} → f ≡ Ring j n m k → LoopStands rec true
-  a-loop {j} {n} {m} {k} e = by (subst (λ (x : Found). Answer old rec fin st sl x) e d)
+  pub a-loop : {j n m : ℕ} → f ≡ Ring j n m → LoopStands rec true
+  a-loop {j} {n} {m} e = by (subst (λ (x : Found). Answer old rec fin st sl x) e d)
     where
-      by : Answer old rec fin st sl (Ring j n m k) → LoopStands rec true
-      by (ring c s p) = record { yes = λ p. ring-loop j n c; no = λ p. absurd (so-not p) }
+      by : Answer old rec fin st sl (Ring j n m) → LoopStands rec true
+      by (ring c s) = record { yes = λ p. ring-loop j n c; no = λ p. absurd (so-not p) }

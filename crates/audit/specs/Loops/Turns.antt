@@ -4,8 +4,9 @@ use Rattle.std.proofs.Common.{sym, ap, subst, ◌∙◌, ⊎_elim, arith, below_
 use Rattle.std.proofs.Math.Numerals.{add-two}
 use Rattle.channel.specs.Map.{spots, rev}
 use Rattle.channel.specs.Map.LoadedSlots.{loaded_from, from-half}
+use Rattle.channel.specs.Map.Origins.{origin_of}
 use Rattle.audit.specs.Loops.{Closed}
-use Rattle.audit.specs.Loops.Dfs.{Edge, Rest, Picked, unseen, Dfs, Kept, Lasting, Still, Aimed, Entered, Turned, new, more, hit, Resumed, down, up, back, Searched, over, ring, Traced}
+use Rattle.audit.specs.Loops.Dfs.{Edge, Rest, Picked, unseen, Dfs, Kept, Still, Aimed, Entered, Turned, new, more, hit, Resumed, down, up, back, Searched, over, ring, Traced}
 use Rattle.sums.specs.Tests.{below_or}
 use Rattle.audit.specs.Loops.Marks.{after, unseen-less, unseen_same, kept_set}
 use Rattle.audit.specs.Loops.Stack.{edge-node, Below, dfs-slot, dfs-push, dfs-pop}
@@ -23,10 +24,10 @@ all_left rec u r e = let z : 0 ≡ 8 * r % 8 = omega arith in let q : 8 * r / 8 
 -- ---- what was seen
 
 pub still-refl : (fin : List ℕ) → Still fin fin
-still-refl fin = record { kept = λ u h. h; lasting = λ u l h. h; count = refl }
+still-refl fin = record { kept = λ u h. h; count = refl }
 
 pub still-then : {a b c : List ℕ} → Still a b → Still b c → Still a c
-still-then p q = record { kept = λ u h. q.kept u (p.kept u h); lasting = λ u l h. q.lasting u l (p.lasting u l h); count = q.count ∙ p.count }
+still-then p q = record { kept = λ u h. q.kept u (p.kept u h); count = q.count ∙ p.count }
 
 -- ---- a spot goes on the stack
 
@@ -56,11 +57,6 @@ module _ {rec fin st sl : List ℕ} {n m v : ℕ} (a : Aimed rec fin st sl n m v
     pub entered-kept : Kept (set fin v 1) fin'
     entered-kept = subst (Kept (set fin v 1)) (sym e.marks) (λ u h. h)
 
-    pub entered-lasting : Lasting fin fin'
-    entered-lasting u l h =
-        rw e.marks
-        (⊎_elim (λ w. omega (arith, h, a.blank, ap (λ (x : ℕ). get_or fin x 0) w.0)) (λ w. omega (arith, h, w.1)) (after fin v 1 u marked))
-
 -- ---- a turn, after the slots of the top were scanned
 
 module _ {rec fin st sl : List ℕ} {n m s : ℕ} (d : Dfs rec fin st sl n m) (l0 : 0 < n) (p : Picked rec fin (get_or st (n - 1) 0) (get_or sl (n - 1) 0) s) where
@@ -74,8 +70,7 @@ module _ {rec fin st sl : List ℕ} {n m s : ℕ} (d : Dfs rec fin st sl n m) (l
       let lf : u < length fin = omega (arith, d.room.marks) in
       let z : unseen (set fin u (m + 2)) ≡ unseen fin = rw add-two (unseen_same fin u lu lf (suc m) eu) in
       let kept : Kept fin (set fin u (m + 2)) = rw add-two (kept_set fin u (suc m) lf) in
-      let lasting : Lasting fin (set fin u (m + 2)) = λ x l h. ⊎_elim (λ w. omega (arith, w.1)) (λ w. omega (arith, h, w.1)) (after fin u (m + 2) x lf) in
-      more (dfs-pop d (n - 1) (omega arith) (λ j v e. past j v (omega (arith, e.slot)) e)) (record { kept = kept; lasting = lasting; count = z }) (omega arith)
+      more (dfs-pop d (n - 1) (omega arith) (λ j v e. past j v (omega (arith, e.slot)) e)) (record { kept = kept; count = z }) (omega arith)
 
   -- the spot below has this one behind it, and stands at its next slot
   pub turn-next : 5 ≤ s % 8 → (i : ℕ) → n ≡ i + 2
@@ -118,7 +113,7 @@ module _ {rec fin st sl : List ℕ} {n m s : ℕ} (d : Dfs rec fin st sl n m) (l
         rw (get_or-set_same sl (n - 1) s 0 lk, ev) (p.found.edge l5)
 
     pub turn-hit : get_or fin v 0 ≡ 1 → Turned rec fin n m fin st (set sl (n - 1) s) (Hit v)
-    turn-hit e = hit aim aimed e (λ u l h. h)
+    turn-hit e = hit aim aimed e
 
     pub turn-new : get_or fin v 0 ≢ 1 → Turned rec fin n m fin st (set sl (n - 1) s) (New v)
     turn-new ne =
@@ -147,13 +142,12 @@ module _ {rec fin : List ℕ} {n m : ℕ} {fin' st' sl' : List ℕ} {t : Turn} (
       by : Turned rec fin n m fin' st' sl' (More n' m') → Dfs rec fin' st' sl' n' m' × Still fin fin' × (n' < n)
       by (more s k l) = (s, k, l)
 
-  pub took-hit : {v : ℕ} → t ≡ Hit v
-      → Dfs rec fin' st' sl' n m × Edge rec (get_or st' (n - 1) 0) (get_or sl' (n - 1) 0 % 8) v × (get_or fin' v 0 ≡ 1) × Lasting fin fin'
+  pub took-hit : {v : ℕ} → t ≡ Hit v → Dfs rec fin' st' sl' n m × Edge rec (get_or st' (n - 1) 0) (get_or sl' (n - 1) 0 % 8) v × (get_or fin' v 0 ≡ 1)
   took-hit {v} e = by (subst (λ (x : Turn). Turned rec fin n m fin' st' sl' x) e d)
     where
       by : Turned rec fin n m fin' st' sl' (Hit v)
-          → Dfs rec fin' st' sl' n m × Edge rec (get_or st' (n - 1) 0) (get_or sl' (n - 1) 0 % 8) v × (get_or fin' v 0 ≡ 1) × Lasting fin fin'
-      by (hit s a b k) = (s, a, b, k)
+          → Dfs rec fin' st' sl' n m × Edge rec (get_or st' (n - 1) 0) (get_or sl' (n - 1) 0 % 8) v × (get_or fin' v 0 ≡ 1)
+      by (hit s a b) = (s, a, b)
 
 module _ {rec fin fin' st' sl' : List ℕ} {y : Way} (d : Resumed rec fin fin' st' sl' y) where
   pub went_down : {n' m' v : ℕ} → y ≡ Down n' m' v → Aimed rec fin' st' sl' n' m' v × Still fin fin'
@@ -169,12 +163,12 @@ module _ {rec fin fin' st' sl' : List ℕ} {y : Way} (d : Resumed rec fin fin' s
       by (up s k) = (s, k)
 
   pub went_back : {n' m' v : ℕ} → y ≡ Back n' m' v
-      → Dfs rec fin' st' sl' n' m' × Edge rec (get_or st' (n' - 1) 0) (get_or sl' (n' - 1) 0 % 8) v × (get_or fin' v 0 ≡ 1) × Lasting fin fin'
+      → Dfs rec fin' st' sl' n' m' × Edge rec (get_or st' (n' - 1) 0) (get_or sl' (n' - 1) 0 % 8) v × (get_or fin' v 0 ≡ 1)
   went_back {n'} {m'} {v} e = by (subst (λ (x : Way). Resumed rec fin fin' st' sl' x) e d)
     where
       by : Resumed rec fin fin' st' sl' (Back n' m' v)
-          → Dfs rec fin' st' sl' n' m' × Edge rec (get_or st' (n' - 1) 0) (get_or sl' (n' - 1) 0 % 8) v × (get_or fin' v 0 ≡ 1) × Lasting fin fin'
-      by (back s a b k) = (s, a, b, k)
+          → Dfs rec fin' st' sl' n' m' × Edge rec (get_or st' (n' - 1) 0) (get_or sl' (n' - 1) 0 % 8) v × (get_or fin' v 0 ≡ 1)
+      by (back s a b) = (s, a, b)
 
 module _ {rec fin fin' st' sl' : List ℕ} {a : Search} (d : Searched rec fin fin' st' sl' a) where
   pub was-over : {m' : ℕ} → a ≡ Over m' → Dfs rec fin' st' sl' 0 m' × Kept fin fin'
@@ -183,24 +177,32 @@ module _ {rec fin fin' st' sl' : List ℕ} {a : Search} (d : Searched rec fin fi
       by : Searched rec fin fin' st' sl' (Over m') → Dfs rec fin' st' sl' 0 m' × Kept fin fin'
       by (over s k) = (s, k)
 
-  pub was-ring : {j n m' : ℕ} → a ≡ Ring j n m' → Closed rec st' sl' j n × Dfs rec fin' st' sl' 0 m' × Lasting fin fin'
+  pub was-ring : {j n m' : ℕ} → a ≡ Ring j n m' → Closed rec st' sl' j n × Dfs rec fin' st' sl' 0 m'
   was-ring {j} {n} {m'} e = by (subst (λ (x : Search). Searched rec fin fin' st' sl' x) e d)
     where
-      by : Searched rec fin fin' st' sl' (Ring j n m') → Closed rec st' sl' j n × Dfs rec fin' st' sl' 0 m' × Lasting fin fin'
-      by (ring c s k) = (c, s, k)
+      by : Searched rec fin fin' st' sl' (Ring j n m') → Closed rec st' sl' j n × Dfs rec fin' st' sl' 0 m'
+      by (ring c s) = (c, s)
 
 -- ---- the search from one spot
 
--- it is none, or seen already
-pub trace-still : {rec fin st sl : List ℕ} {r m : ℕ} → Dfs rec fin st sl 0 m → (r < spots → get_or fin r 0 ≢ 0) → Traced rec r fin fin st sl (Over m)
-trace-still d s = record { search = over d (λ u h. h); seen = λ e. s }
+module _ {rec fin st sl : List ℕ} {m : ℕ} (d : Dfs rec fin st sl 0 m) where
+  pub search-seen : (r : ℕ) → r < spots → get_or fin r 0 ≢ 0 → Searched rec (set fin r 1) fin st sl (Over m)
+  search-seen r l s =
+      let lf : r < length fin = omega (arith, d.room.marks) in
+      over d (λ u n. ⊎_elim (λ w. rw w.0 s) (λ w e. n (w.1 ∙ e)) (after fin r 1 u lf))
 
--- it goes on the stack, and is done; or a ring stands
-pub trace-over : {rec fin st sl fin' st' sl' : List ℕ} {n m r m' : ℕ} → Aimed rec fin st sl n m r → Dfs rec fin' st' sl' 0 m' → Kept (set fin r 1) fin'
-    → Traced rec r fin fin' st' sl' (Over m')
-trace-over {fin = fin} {r = r} a d k =
-    record { search = over d (λ u h. k u (aimed-kept a u h)); seen = λ e l. k r (λ z. omega (arith, z, get_or-set_same fin r 1 0 (marked a))) }
+  -- ---- the search from the spot of a load byte
 
-pub trace-ring : {rec fin fin' st' sl' : List ℕ} {r j n m' : ℕ} → Closed rec st' sl' j n → Dfs rec fin' st' sl' 0 m' → Lasting fin fin'
-    → Traced rec r fin fin' st' sl' (Ring j n m')
-trace-ring c s k = record { search = ring c s k; seen = λ e. absurd (let z : ◌≡◌ {A = ℕ} 0 1 = cc in omega arith) }
+  module _ (i : ℕ) where
+    pub trace-none : spots ≤ origin_of rec i → Traced rec i fin fin st sl (Over m)
+    trace-none l = record { search = over d (λ u h. h); seen = λ e h. absurd (omega arith) }
+
+    pub trace-from : {r : ℕ} {fin' st' sl' : List ℕ} {a : Search} → r ≡ origin_of rec i → r < spots → Searched rec (set fin r 1) fin' st' sl' a
+        → Traced rec i fin fin' st' sl' a
+    trace-from {r} e l (over s k) =
+        let lf : r < length fin = omega (arith, d.room.marks) in
+        record {
+          search = over s (λ u n. k u (kept_set fin r 0 lf u n));
+          seen = λ q h. rw (← e) (k r (λ z. omega (arith, get_or-set_same fin r 1 0 lf)));
+        }
+    trace-from e l (ring c s) = record { search = ring c s; seen = λ q h. absurd (let z : ◌≡◌ {A = ℕ} 0 1 = cc in omega arith) }

@@ -5,15 +5,15 @@ use Rattle.audit.proofs.cells.cell.Goals as goal
 
 pub own_fits-requires : goal.own_fits-requires
 own_fits-requires c = let s = c.requires in record {
-      in_bounds = (s.0.0, s.0.1, s.0.2, s.0.4);
-      t = caps-fit _ s.1;
-    }
+  in_bounds = (c.requires.in_bounds.0, c.requires.in_bounds.1, c.requires.in_bounds.2, c.requires.in_bounds.4);
+  t = caps-fit _ c.requires.t;
+}
 
 pub links_fit-requires : goal.links_fit-requires
 links_fit-requires c = let s = c.requires in record {
-      in_bounds = s.0;
-      t = caps-fit _ s.1;
-    }
+  in_bounds = c.requires.in_bounds;
+  t = caps-fit _ c.requires.t;
+}
 
 pub returns : goal.returns
 returns c = let s = c.args in cc (cell-is s.rec.now (row_of s.x) (column_of s.x))

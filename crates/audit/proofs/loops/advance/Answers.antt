@@ -8,9 +8,6 @@ use Rattle.channel.specs.Map.{spots}
 use Rattle.audit.specs.Loops.Turns.{turn-pop, turn-next, turn-hit, turn-new}
 use Rattle.audit.proofs.loops.advance.Goals as goal
 
-top : (c : tie.Start) → get_or c.args.st.now (c.args.n - 1) 0 < spots
-top c = (c.requires.0.on (c.args.n - 1) (omega arith)).0
-
 pub overflow_cast-fin : goal.overflow_cast-fin
 overflow_cast-fin c = search (rules, spots-is)
 
@@ -25,7 +22,7 @@ returns-then-s-ge5 c =
     turn-next s.requires.0 s.requires.1 c.scan-s.ensures c.if-s-ge5.true (s.args.n - 1 - 1) (omega arith)
 
 pub head_of-v-requires : goal.head_of-v-requires
-head_of-v-requires c = omega (arith, spots-is, top c, c.if-s-ge5.false)
+head_of-v-requires c = omega (arith, spots-is, (c.requires.0.on (c.args.n - 1) (omega arith)).0, c.if-s-ge5.false)
 
 pub bounds-fin-v : goal.bounds-fin-v
 bounds-fin-v c = search (rules, spots-is)

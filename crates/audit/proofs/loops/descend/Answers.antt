@@ -1,9 +1,10 @@
 -- `loops::descend` meets its contract: each spot that goes on the stack leaves one less that is not seen. Assumes nothing.
 use mathlib.Core.Path.{◌∙◌}
 use native.Mathlib.Omega.{arith}
+use Rattle.audit.specs.Loops.Dfs.{over, ring}
 use Rattle.audit.specs.Loops.Rings.{hit-closed}
-use Rattle.audit.specs.Loops.Stack.{forget-lasting, dfs-forget}
-use Rattle.audit.specs.Loops.Turns.{aimed-space, aimed-kept, entered-dfs, entered-less, entered-kept, entered-lasting, went_down, went_up, went_back, trace-over, trace-ring}
+use Rattle.audit.specs.Loops.Stack.{dfs-forget}
+use Rattle.audit.specs.Loops.Turns.{aimed-space, aimed-kept, entered-dfs, entered-less, entered-kept, went_down, went_up, went_back}
 use Rattle.audit.proofs.loops.descend.Goals as goal
 
 pub enter-requires : goal.enter-requires
@@ -24,15 +25,14 @@ loop-a-preserved c =
     let r = c in
     let e = r in
     let l = e.loop-a.invariant in
-    let k = e.enter.auto.1 in
-    let q = r.resume.auto.1 in
+    let k = e.enter.auto in
+    let q = r.resume.auto in
     let (a, s) = went_down r.resume.ensures c.in-Down.is in (
-      q.0 ∙ k.0 ∙ l.0,
-      q.1.0 ∙ k.1.0 ∙ l.1,
-      q.1.1.0 ∙ k.1.1.0 ∙ l.2,
+      q.fin ∙ k.fin ∙ l.0,
+      q.st ∙ k.st ∙ l.1,
+      q.sl ∙ k.sl ∙ l.2,
       a,
       λ u h. aimed-kept a u (s.kept u (entered-kept l.3 e.enter.ensures u (l.4 u h))),
-      λ u lu h. s.lasting u lu (entered-lasting l.3 e.enter.ensures u lu (l.5 u lu h)),
     )
 
 pub returns-in-Up : goal.returns-in-Up
@@ -41,23 +41,19 @@ returns-in-Up c =
     let e = r in
     let l = e.loop-a.invariant in
     let (d, k) = went_up r.resume.ensures c.in-Up.is in
-    trace-over e.requires d (λ u h. k u (entered-kept l.3 e.enter.ensures u (l.4 u h)))
+    over d (λ u h. k u (entered-kept l.3 e.enter.ensures u (l.4 u h)))
 
 pub forget-requires : goal.forget-requires
 forget-requires c =
-    let (s, e, h, q) = went_back c.resume.ensures c.in-Back.is in
+    let (s, e, h) = went_back c.resume.ensures c.in-Back.is in
     (s.room.marks, omega (arith, s.count, s.room.stack), λ i l. (s.on i l).0)
 
 pub place-requires : goal.place-requires
-place-requires c = let (s, e, h, q) = went_back c.resume.ensures c.in-Back.is in omega (arith, s.count, s.room.stack)
+place-requires c = let (s, e, h) = went_back c.resume.ensures c.in-Back.is in omega (arith, s.count, s.room.stack)
 
 pub returns-in-Back : goal.returns-in-Back
 returns-in-Back c =
     let f = c.forget in
     let b = c.bare in
-    let r = c in
-    let n = r in
-    let l = n.loop-a.invariant in
-    let (s, e, h, q) = went_back r.resume.ensures c.in-Back.is in
-    trace-ring (hit-closed s b.ensures e _ h c.place.ensures) (dfs-forget s f.auto.0 b.auto.0 f.ensures)
-    (λ u lu d. forget-lasting s f.ensures u lu (q u lu (entered-lasting l.3 n.enter.ensures u lu (l.5 u lu d))))
+    let (s, e, h) = went_back c.resume.ensures c.in-Back.is in
+    ring (hit-closed s b.ensures e _ h c.place.ensures) (dfs-forget s f.auto.fin b.auto.sl f.ensures)

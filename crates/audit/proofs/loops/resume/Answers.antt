@@ -15,15 +15,14 @@ pub loop-n-preserved : goal.loop-n-preserved
 loop-n-preserved c =
     let t = c in
     let l = t.loop-n.invariant in
-    let k = t.advance.auto.1 in
+    let k = t.advance.auto in
     let (s, still, less) = took_more t.advance.ensures c.in-More.is in
-    (k.0 ∙ l.0, k.1.0 ∙ l.1, k.1.1.0 ∙ l.2, s, still-then l.4 still)
+    (k.fin ∙ l.0, k.st ∙ l.1, k.sl ∙ l.2, s, still-then l.4 still)
 
 pub returns-in-Hit : goal.returns-in-Hit
 returns-in-Hit c =
-    let t = c in
-    let (s, e, h, k) = took-hit t.advance.ensures c.in-Hit.is in
-    back s e h (λ u l d. k u l (t.loop-n.invariant.4.lasting u l d))
+    let (s, e, h) = took-hit c.advance.ensures c.in-Hit.is in
+    back s e h
 
 pub returns : goal.returns
 returns c = up (dfs-empty c.loop-n.invariant.3 c.loop-n-test.false) c.loop-n.invariant.4.kept

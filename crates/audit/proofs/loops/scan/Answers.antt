@@ -9,15 +9,6 @@ use Rattle.channel.specs.Map.Numbers.{spots-is}
 use Rattle.audit.specs.Loops.Slots.{Scanning, scan-skip, scan-slot, scan-next, scan-found, scan-ends}
 use Rattle.audit.proofs.loops.scan.Goals as goal
 
-skipped : (c : tie.After-lowest invariant-loop decreases-loop)
-    → let s = c.before.before.before.before.before.args in
-    let l = c.before.before.loop in
-    Scanning s.rec.now s.fin.now s.u (s.s0 % 8) (l.left / 2 ^ c.lowest.result) (l.k + c.lowest.result)
-skipped c = scan-skip c.before.before.before.before.before.args.s0 c.before.before.loop.invariant c.lowest.ensures
-
-slot : (c : tie.After-lowest invariant-loop decreases-loop) → c.before.before.loop.k + c.lowest.result < 5
-slot c = scan-slot c.before.before.before.before.before.args.s0 (skipped c) c.lowest.ensures.here
-
 pub lowest-skip-requires : goal.lowest-skip-requires
 lowest-skip-requires c =
     let l = c.loop-left in
@@ -25,19 +16,19 @@ lowest-skip-requires c =
     omega (arith, c.loop-left-test.true, l.invariant.rest, from-small s.rec.now s.u l.k)
 
 pub overflow_add-k : goal.overflow_add-k
-overflow_add-k c = omega (arith, slot c)
+overflow_add-k c = omega (arith, scan-slot c.args.s0 (scan-skip c.args.s0 c.loop-left.invariant c.lowest-skip.ensures) c.lowest-skip.ensures.here)
 
 pub overflow_shr-left : goal.overflow_shr-left
-overflow_shr-left c = omega (arith, slot c)
+overflow_shr-left c = omega (arith, scan-slot c.args.s0 (scan-skip c.args.s0 c.loop-left.invariant c.lowest-skip.ensures) c.lowest-skip.ensures.here)
 
 pub overflow_mul-u : goal.overflow_mul-u
 overflow_mul-u c = search (rules, spots-is)
 
 pub overflow_add-u : goal.overflow_add-u
-overflow_add-u c = omega (arith, spots-is, c.requires.1, slot c)
+overflow_add-u c = omega (arith, spots-is, c.requires.1, scan-slot c.args.s0 (scan-skip c.args.s0 c.loop-left.invariant c.lowest-skip.ensures) c.lowest-skip.ensures.here)
 
 pub head_of-requires : goal.head_of-requires
-head_of-requires c = omega (arith, spots-is, c.requires.1, slot c)
+head_of-requires c = omega (arith, spots-is, c.requires.1, scan-slot c.args.s0 (scan-skip c.args.s0 c.loop-left.invariant c.lowest-skip.ensures) c.lowest-skip.ensures.here)
 
 pub bounds-fin-head_of : goal.bounds-fin-head_of
 bounds-fin-head_of c = search (rules, spots-is)
@@ -46,32 +37,32 @@ pub overflow_mul-result : goal.overflow_mul-result
 overflow_mul-result c =
     let w = c in
     let s = w.args in
-    omega (arith, (skipped w).rest, from-small s.rec.now s.u (w.loop-left.k + w.lowest-skip.result))
+    omega (arith, (scan-skip w.args.s0 w.loop-left.invariant w.lowest-skip.ensures).rest, from-small s.rec.now s.u (w.loop-left.k + w.lowest-skip.result))
 
 pub overflow_add-result : goal.overflow_add-result
 overflow_add-result c =
     let w = c in
     let s = w.args in
-    omega (arith, slot w, (skipped w).rest, from-small s.rec.now s.u (w.loop-left.k + w.lowest-skip.result))
+    omega (arith, scan-slot w.args.s0 (scan-skip w.args.s0 w.loop-left.invariant w.lowest-skip.ensures) w.lowest-skip.ensures.here, (scan-skip w.args.s0 w.loop-left.invariant w.lowest-skip.ensures).rest, from-small s.rec.now s.u (w.loop-left.k + w.lowest-skip.result))
 
 pub returns-then-fin-head_of-lt2 : goal.returns-then-fin-head_of-lt2
 returns-then-fin-head_of-lt2 c =
     let w = c in
     let s = w in
-    scan-found s.args.s0 (skipped w) w.lowest-skip.ensures.here s.requires.1
+    scan-found s.args.s0 (scan-skip w.args.s0 w.loop-left.invariant w.lowest-skip.ensures) w.lowest-skip.ensures.here s.requires.1
     (subst (λ (v : ℕ). get_or s.args.fin.now v 0 < 2) c.head_of.ensures.0 c.if-fin-head_of-lt2.true)
 
 pub overflow_add-k-in-loop-left : goal.overflow_add-k-in-loop-left
-overflow_add-k-in-loop-left c = omega (arith, slot c)
+overflow_add-k-in-loop-left c = omega (arith, scan-slot c.args.s0 (scan-skip c.args.s0 c.loop-left.invariant c.lowest-skip.ensures) c.lowest-skip.ensures.here)
 
 pub loop-left-smaller : goal.loop-left-smaller
-loop-left-smaller c = omega (arith, slot c)
+loop-left-smaller c = omega (arith, scan-slot c.args.s0 (scan-skip c.args.s0 c.loop-left.invariant c.lowest-skip.ensures) c.lowest-skip.ensures.here)
 
 pub loop-left-preserved : goal.loop-left-preserved
 loop-left-preserved c =
     let w = c in
     let s = w.args in
-    scan-next s.s0 (skipped w) w.lowest-skip.ensures.here (subst (λ (v : ℕ). 2 ≤ get_or s.fin.now v 0) c.head_of.ensures.0 c.if-fin-head_of-lt2.false)
+    scan-next s.s0 (scan-skip w.args.s0 w.loop-left.invariant w.lowest-skip.ensures) w.lowest-skip.ensures.here (subst (λ (v : ℕ). 2 ≤ get_or s.fin.now v 0) c.head_of.ensures.0 c.if-fin-head_of-lt2.false)
 
 pub returns : goal.returns
 returns c = scan-ends c.args.s0 c.loop-left.invariant c.loop-left-test.false

@@ -1,31 +1,24 @@
--- `route::unwired` meets its contract: n counts the cells passed at whose pin a wire is wanted and none starts. Assumes nothing.
+-- `route::unwired` meets its contract: n counts the spots passed at which a wire is wanted and none starts. Assumes nothing.
 use mathlib.Core.Path.{◌≡◌, refl, sym, ap, ◌∙◌}
-use Prim.Native.Nat.{ℕ, ◌+◌, ◌-◌, ◌*◌, ◌≤◌}
+use Prim.Native.Nat.{ℕ, ◌+◌, ◌-◌, ◌≤◌}
 use native.Mathlib.Omega.{arith}
 use Rattle.sums.specs.Counting.{sum}
 use Rattle.model.specs.Record.{job_of}
 use Rattle.channel.specs.Map.Numbers.{spots-is}
-use Rattle.channel.specs.Map.{want, starts}
-use Rattle.channel.specs.Map.PinSums.{sum-pins, want-none}
+use Rattle.channel.specs.Map.{spots, want, starts}
 use Rattle.search.specs.Routing.{sum-next}
 use Rattle.search.proofs.route.unwired.Statement.{statement}
 use Rattle.search.proofs.route.unwired.Tie as tie
 
 abbrev invariant-loop : tie.invariant-loop
-invariant-loop job loads n₀ x₀ n x = (x ≤ 1641) × (n ≤ x) × (n ≡ sum x (λ y. want (job_of job) (8 * y + 1) - starts (job_of job) loads (8 * y + 1)))
+invariant-loop job loads n₀ u₀ n u = (u ≤ spots) × (n ≤ u) × (n ≡ sum u (λ x. want (job_of job) x - starts (job_of job) loads x))
 
 abbrev decreases-loop : tie.decreases-loop
-decreases-loop job loads n₀ x₀ n x = 1641 - x
+decreases-loop job loads n₀ u₀ n u = spots - u
 
 loop-holds : tie.Need-loop-init invariant-loop decreases-loop
 unfolding sum
 loop-holds c = (omega arith, omega arith, refl)
-
-mul-lacks : tie.Need-overflow-mul-lacks invariant-loop decreases-loop
-mul-lacks c = omega arith
-
-add-lacks : tie.Need-overflow-add-lacks invariant-loop decreases-loop
-add-lacks c = omega arith
 
 lacks-requires : tie.Need-lacks-requires invariant-loop decreases-loop
 lacks-requires c κs =
@@ -35,29 +28,29 @@ lacks-requires c κs =
 add-n : tie.Need-overflow-add-n invariant-loop decreases-loop
 add-n c = omega (arith, c.lacks.ensures.1)
 
-add-x : tie.Need-overflow-add-x invariant-loop decreases-loop
-add-x c = omega arith
+add-u : tie.Need-overflow-add-u invariant-loop decreases-loop
+add-u c = omega arith
 
 loop-less : tie.Need-loop-smaller invariant-loop decreases-loop
-loop-less c = omega arith
+loop-less c = omega (arith, spots-is)
 
 loop-again : tie.Need-loop-preserved invariant-loop decreases-loop
 loop-again c =
     let l = c.before.before.loop in
     let r = c.lacks.ensures in
     let J = job_of c.before.before.before.before.before.args.job.now in
-    let f : ℕ → ℕ = λ x. want J (8 * x + 1) - starts J c.before.before.before.before.before.args.loads.now (8 * x + 1) in
-    (omega arith, omega (arith, r.1), (λ i. l.invariant.2 i + r.0 i) ∙ sym (sum-next l.x f))
+    let f : ℕ → ℕ = λ x. want J x - starts J c.before.before.before.before.before.args.loads.now x in
+    (omega (arith, spots-is), omega (arith, r.1), (λ i. l.invariant.2 i + r.0 i) ∙ sym (sum-next l.u f))
 
 returns : tie.Need-returns invariant-loop decreases-loop
 returns c =
     let l = c.before.loop in
     let J = job_of c.before.before.before.before.args.job.now in
-    let f : ℕ → ℕ = λ u. want J u - starts J c.before.before.before.before.args.loads.now u in
-    let e : l.x ≡ 1641 = omega arith in
-    l.invariant.2 ∙ ap (λ (m : ℕ). sum m (λ x. f (8 * x + 1))) e ∙ sym (sum-pins f (λ u n. omega (arith, want-none J u n)))
+    let f : ℕ → ℕ = λ x. want J x - starts J c.before.before.before.before.args.loads.now x in
+    let e : l.u ≡ spots = omega (arith, spots-is) in
+    l.invariant.2 ∙ ap (λ (m : ℕ). sum m f) e
 
 pub unwired-spec : {M : Type 1} → statement M
 unwired-spec =
     tie.close
-    (tie.spec invariant-loop decreases-loop loop-holds mul-lacks add-lacks lacks-requires add-n add-x loop-less loop-again returns)
+    (tie.spec invariant-loop decreases-loop loop-holds lacks-requires add-n add-u loop-less loop-again returns)

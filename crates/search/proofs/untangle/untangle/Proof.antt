@@ -6,9 +6,7 @@ use native.Mathlib.Omega.{arith}
 use lib.ListN.{length}
 use Rattle.model.specs.Job.{Job}
 use Rattle.search.specs.Unlooped.{total_load}
-use Rattle.audit.specs.Loops.Dfs.{Dfs, Passed}
-use Rattle.audit.specs.Loops.Fresh.{passed_none}
-use Rattle.audit.specs.Loops.Lighter.{passed-lighter}
+use Rattle.audit.specs.Loops.Dfs.{Dfs}
 use Rattle.audit.specs.Loops.Stack.{dfs-start, dfs-lighter}
 use Rattle.augment.specs.Pins.{Held}
 use Rattle.search.specs.Loose.{Loosened}
@@ -17,12 +15,12 @@ use Rattle.search.proofs.untangle.untangle.Statement.{statement}
 use Rattle.search.proofs.untangle.untangle.Tie as tie
 
 abbrev invariant-loop : tie.invariant-loop
-invariant-loop old loads₀ fin₀ st₀ sl₀ m₀ from₀ loads fin st sl m from =
+invariant-loop old loads₀ fin₀ st₀ sl₀ m₀ loads fin st sl m =
     (length loads ≡ length loads₀) × (length fin ≡ length fin₀) × (length st ≡ length st₀) × (length sl ≡ length sl₀)
-    × ((J : Job) → Held J loads₀ → Loosened J loads₀ loads) × Dfs loads fin st sl 0 m × Passed old loads fin from
+    × ((J : Job) → Held J loads₀ → Loosened J loads₀ loads) × Dfs loads fin st sl 0 m
 
 abbrev decreases-loop : tie.decreases-loop
-decreases-loop old loads₀ fin₀ st₀ sl₀ m₀ from₀ loads fin st sl m from = total_load loads
+decreases-loop old loads₀ fin₀ st₀ sl₀ m₀ loads fin st sl m = total_load loads
 
 clear-requires : tie.Need-clear-requires invariant-loop decreases-loop
 clear-requires c κs = search rules
@@ -31,10 +29,10 @@ loop-holds : tie.Need-loop-init invariant-loop decreases-loop
 loop-holds c =
     let r = c.before.before.before.before.before.before.before.before.before.requires.room in
     let k = c.before.before.clear in
-    (refl, refl, refl, refl, λ J H. loose_none H, dfs-start (record { whole = r.whole; marks = omega (arith, k.auto.0, r.marks); stack = r.stack; slots = r.slots }) k.ensures, passed_none _ _ _)
+    (refl, refl, refl, refl, λ J H. loose_none H, dfs-start (record { whole = r.whole; marks = omega (arith, k.auto.0, r.marks); stack = r.stack; slots = r.slots }) k.ensures)
 
 find-requires : tie.Need-find-requires invariant-loop decreases-loop
-find-requires c κs = let l = c.before.before.before.before.loop.invariant in (l.5, c.before.before.before.before.before.before.before.before.before.before.before.before.before.before.requires.before, l.6)
+find-requires c κs = (c.before.before.before.before.loop.invariant.5, c.before.before.before.before.before.before.before.before.before.before.before.before.before.before.requires.before)
 
 enum_told : tie.Need-enum-told invariant-loop decreases-loop
 enum_told c = search rules
@@ -61,7 +59,7 @@ take-out-requires : tie.Need-take-out-requires invariant-loop decreases-loop
 take-out-requires c κs =
     let f = c.before.before.before.before.before.before.before.before.before.before.before.before in
     let o = f.before.before.before.before.before in
-    let (C, D, P) = found-ring f.find.ensures c.before.before.before.before.j.given.1 in
+    let (C, D) = found-ring f.find.ensures c.before.before.before.before.j.given.1 in
     let l = o.loop.invariant in
     let k = f.find.auto.1.1.1 in
     let r = o.before.before.before.before.before.before.before.before.before.before.requires.room in (
@@ -79,7 +77,7 @@ loop-less c =
     let f = c.before.before.before.before.before.before.before.before.before.before.before.before.before.before.before in
     let o = f.before.before.before.before.before in
     let p = o.before.before.before.before.before.before.before.before.before.before.requires in
-    let (C, D, P) = found-ring f.find.ensures c.before.before.before.before.before.before.before.j.given.1 in
+    let (C, D) = found-ring f.find.ensures c.before.before.before.before.before.before.before.j.given.1 in
     (ring_out (loose-held p.held (o.loop.invariant.4 p.job p.held)) C c.before.before.take_out.ensures).falls
 
 loop-again : tie.Need-loop-preserved invariant-loop decreases-loop
@@ -90,7 +88,7 @@ loop-again c =
     let l = o.loop.invariant in
     let k = f.find.auto.1.1 in
     let t = c.before.before.take_out in
-    let (C, D, P) = found-ring f.find.ensures c.before.before.before.before.before.before.before.j.given.1 in
+    let (C, D) = found-ring f.find.ensures c.before.before.before.before.before.before.before.j.given.1 in
     let M = ring_out (loose-held p.held (l.4 p.job p.held)) C t.ensures in (
       t.auto.0 ∙ l.0,
       k.0 ∙ l.1,
@@ -98,7 +96,6 @@ loop-again c =
       k.1.1.0 ∙ l.3,
       λ J H. let L = l.4 J H in loose-more L (ring_out (loose-held H L) C t.ensures),
       dfs-lighter D (omega (arith, t.auto.0, l.0, p.room.whole)) M.less,
-      passed-lighter P M.less,
     )
 
 pub untangle-spec : {M : Type 1} → statement M

@@ -1,7 +1,6 @@
 -- `expand::attempt` meets its contract: a spot that is not marked leaves room in the queue and on the stack. Assumes nothing.
 use borrow.Author.Rules.{rules}
-use mathlib.Core.Path.{ap}
-use Prim.Native.Nat.{ℕ, ◌/◌, ◌<◌}
+use Prim.Native.Nat.{◌<◌}
 use native.Mathlib.Omega.{arith}
 use lib.ListN.{length}
 use Rattle.channel.specs.Map.{spots}
@@ -19,19 +18,19 @@ mul-d c = search rules
 add-d : tie.Need-overflow-add-d
 add-d c = search rules
 
-reverse-requires : tie.Need-reverse-requires
-reverse-requires c κs = omega (arith, spots-is, c.before.before.before.before.before.before.before.before.requires.0.spot, c.before.before.before.before.before.before.before.before.requires.1)
+head-of-requires : tie.Need-head-of-requires
+head-of-requires c κs = omega (arith, spots-is, c.before.before.before.before.before.before.before.before.requires.0.spot, c.before.before.before.before.before.before.before.before.requires.1)
 
 slice-read-if1 : tie.Need-slice-read-if1
-slice-read-if1 c = omega (arith, spots-is, c.before.reverse.ensures.1, c.before.before.before.before.before.before.before.before.before.before.requires.0.room.marks)
+slice-read-if1 c = omega (arith, spots-is, c.before.head_of.ensures.1, c.before.before.before.before.before.before.before.before.before.before.requires.0.room.marks)
 
 returns : tie.Need-returns
-returns c = old (rw (← c.before.before.reverse.ensures.0) c.if1.true)
+returns c = old (rw (← c.before.before.head_of.ensures.0) c.if1.true)
 
 slack-requires : tie.Need-slack-requires
 slack-requires c κs =
     let p = c.before.before.before.before.before.before.before.before.before.before.before.requires in
-    (p.0.whole.loads, omega (arith, spots-is, p.0.row), omega (arith, spots-is, p.0.spot, p.1), c.before.before.reverse.ensures.1, c.before.before.reverse.ensures.0)
+    (p.0.whole.loads, omega (arith, spots-is, p.0.row), omega (arith, spots-is, p.0.spot, p.1))
 
 smaller-requires : tie.Need-smaller-requires
 smaller-requires c κs = search rules
@@ -47,10 +46,10 @@ returns-3 : tie.Need-returns-3
 returns-3 c =
     let p = c.before.before.before.before.before.before.before.before.before.before.before.before.before.before.before.requires in
     exit (tight-move _ _ c.before.before.before.before.before.before.before.before.before.before.before.before.before.before.before.args.prices.now _ p.2 c.before.before.before.slack.ensures c.before.before.if2.false)
-    (rw (← c.before.before.before.before.before.before.reverse.ensures.0) (yes c.before.is_outside.ensures c.if3.true))
+    (rw (← c.before.before.before.before.before.before.head_of.ensures.0) (yes c.before.is_outside.ensures c.if3.true))
 
 slice-write-marks : tie.Need-slice-write-marks
-slice-write-marks c = omega (arith, spots-is, c.before.before.before.before.before.before.reverse.ensures.1, c.before.before.before.before.before.before.before.before.before.before.before.before.before.before.before.requires.0.room.marks)
+slice-write-marks c = omega (arith, spots-is, c.before.before.before.before.before.before.head_of.ensures.1, c.before.before.before.before.before.before.before.before.before.before.before.before.before.before.before.requires.0.room.marks)
 
 cast-queue : tie.Need-overflow-cast-queue
 cast-queue c = search rules
@@ -62,9 +61,9 @@ mul-queue c = search rules
 room : (c : tie.Else3) → c.before.before.before.before.before.before.before.before.before.before.before.before.before.before.before.args.g.n < spots
 room c =
     let s = c.before.before.before.before.before.before.before.before.before.before.before.before.before.before.before in
-    let v = c.before.before.before.before.before.before.reverse in
-    let l : v.result / 8 < length s.args.marks.now = omega (arith, spots-is, v.ensures.1, s.requires.0.room.marks) in
-    omega (arith, s.requires.0.count, mark-less s.args.marks.now (v.result / 8) (omega (arith, spots-is, v.ensures.1)) l c.before.before.before.before.if1.false)
+    let v = c.before.before.before.before.before.before.head_of in
+    let l : v.result < length s.args.marks.now = omega (arith, spots-is, v.ensures.1, s.requires.0.room.marks) in
+    omega (arith, s.requires.0.count, mark-less s.args.marks.now v.result (omega (arith, spots-is, v.ensures.1)) l c.before.before.before.before.if1.false)
 
 slice-write-queue : tie.Need-slice-write-queue
 slice-write-queue c = omega (arith, room c, c.before.before.before.before.before.before.before.before.before.before.before.before.before.before.before.requires.0.room.queue)
@@ -93,11 +92,11 @@ mul-stack c = search rules
 slice-write-stack : tie.Need-slice-write-stack
 slice-write-stack c = omega (arith, room c, c.before.before.before.before.before.before.before.before.before.before.before.before.before.before.before.requires.0.few, c.before.before.before.before.before.before.before.before.before.before.before.before.before.before.before.requires.0.stack)
 
-add-t20 : tie.Need-overflow-add-t20
-add-t20 c = search rules
+add-t19 : tie.Need-overflow-add-t19
+add-t19 c = search rules
 
-add-t33 : tie.Need-overflow-add-t33
-add-t33 c = search rules
+add-t32 : tie.Need-overflow-add-t32
+add-t32 c = search rules
 
 same_length : tie.Need-same-length
 same_length c = search rules
@@ -116,8 +115,8 @@ same-length-5 c = search rules
 
 returns-4 : tie.Need-returns-4
 returns-4 c =
-    let v = c.before.before.before.before.before.before.reverse in
-    new (v.result / 8) (omega (arith, spots-is, v.ensures.1)) (ap (λ (x : ℕ). x / 8) v.ensures.0)
+    let v = c.before.before.before.before.before.before.head_of in
+    new v.result (omega (arith, spots-is, v.ensures.1)) v.ensures.0
     (tight-move _ _ c.before.before.before.before.before.before.before.before.before.before.before.before.before.before.before.args.prices.now _ c.before.before.before.before.before.before.before.before.before.before.before.before.before.before.before.requires.2 c.before.before.before.slack.ensures c.before.before.if2.false) (no c.before.is_outside.ensures c.if3.false) c.before.before.before.before.if1.false
 
 pub attempt-spec : {M : Type 1} → statement M
@@ -126,7 +125,7 @@ attempt-spec =
     (tie.spec
     mul-d
     add-d
-    reverse-requires
+    head-of-requires
     slice-read-if1
     returns
     slack-requires
@@ -146,8 +145,8 @@ attempt-spec =
     cast-stack
     mul-stack
     slice-write-stack
-    add-t20
-    add-t33
+    add-t19
+    add-t32
     same_length
     same-length-2
     same-length-3

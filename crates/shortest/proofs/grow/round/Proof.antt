@@ -9,7 +9,7 @@ use Rattle.shortest.proofs.grow.round.Statement.{statement}
 use Rattle.shortest.proofs.grow.round.Tie as tie
 
 settle-requires : tie.Need-settle-requires
-settle-requires c κs = let p = c.before.before.before.before.before.before.before.before.before.before.before.before.before.before.before.before.before.before.requires in (p.0, p.3, p.4)
+settle-requires c κs = (c.before.before.before.before.before.before.before.before.before.before.before.before.before.before.before.before.requires.0, c.before.before.before.before.before.before.before.before.before.before.before.before.before.before.before.before.requires.3)
 
 enum-known-i : tie.Need-enum-known-i
 enum-known-i c = search rules
@@ -18,11 +18,11 @@ enum-known-a : tie.Need-enum-known-a
 enum-known-a c = search rules
 
 raise-requires : tie.Need-raise-requires
-raise-requires c κs = growing-raisable (was-still c.before.before.before.before.before.before.before.before.before.before.before.before.before.before.before.before.before.before.before.settle.ensures.0 c.before.before.before.a.given.1).0 c.before.before.before.before.before.before.before.before.before.before.before.before.before.before.before.before.before.before.before.before.before.before.before.before.before.before.before.before.before.before.before.before.before.before.before.before.before.before.requires.2
+raise-requires c κs = growing-raisable (was-still c.before.before.before.before.before.before.before.before.before.before.before.before.before.before.before.before.before.settle.ensures c.before.before.before.a.given.1).0 c.before.before.before.before.before.before.before.before.before.before.before.before.before.before.before.before.before.before.before.before.before.before.before.before.before.before.before.before.before.before.before.before.before.before.requires.2
 
 restack-requires : tie.Need-restack-requires
 restack-requires c κs =
-    let K = (was-still c.before.before.before.before.before.before.before.before.before.before.before.before.before.before.before.before.before.before.before.before.before.before.before.before.settle.ensures.0 c.before.before.before.before.before.before.before.before.a.given.1).0.kept in
+    let K = (was-still c.before.before.before.before.before.before.before.before.before.before.before.before.before.before.before.before.before.before.before.before.before.before.settle.ensures c.before.before.before.before.before.before.before.before.a.given.1).0.kept in
     (omega (arith, K.few, K.count, K.stack), omega (arith, K.few, K.count, K.rim))
 
 same_length : tie.Need-same-length
@@ -47,9 +47,7 @@ same-length-7 : tie.Need-same-length-7
 same-length-7 c = search rules
 
 returns : tie.Need-returns
-returns c =
-    let e = c.before.before.before.before.before.before.before.before.before.before.before.before.before.before.before.before.before.settle.ensures in
-    (out refl (was-out e.0 c.before.i.given.1), e.1)
+returns c = out refl (was-out c.before.before.before.before.before.before.before.before.before.before.before.before.before.before.before.settle.ensures c.before.i.given.1)
 
 same-length-8 : tie.Need-same-length-8
 same-length-8 c = search rules
@@ -74,14 +72,8 @@ same-length-14 c = search rules
 
 returns-2 : tie.Need-returns-2
 returns-2 c =
-    let (G, z) = was-still c.before.before.before.before.before.before.before.before.before.before.before.before.before.before.before.before.before.before.before.before.before.before.before.before.before.before.before.settle.ensures.0 c.before.before.before.before.before.before.before.before.before.before.before.a.given.1 in
-    (round-higher G z c.before.before.before.before.before.before.before.before.before.before.before.before.before.before.before.before.before.before.before.before.before.before.before.before.before.before.before.before.before.before.before.before.before.before.before.before.before.before.before.before.before.before.before.before.before.before.requires.1 c.before.before.before.before.before.before.before.raise.ensures c.before.before.before.before.before.before.before.raise.auto.0 c.before.before.restack.auto.0 c.before.before.restack.ensures, c.before.before.before.before.before.before.before.before.before.before.before.before.before.before.before.before.before.before.before.before.before.before.before.before.before.before.before.settle.ensures.1)
-
-same-length-15 : tie.Need-same-length-15
-same-length-15 c = search rules
-
-same-length-16 : tie.Need-same-length-16
-same-length-16 c = search rules
+    let (G, z) = was-still c.before.before.before.before.before.before.before.before.before.before.before.before.before.before.before.before.before.before.before.before.before.before.before.before.before.settle.ensures c.before.before.before.before.before.before.before.before.before.before.before.a.given.1 in
+    round-higher G z c.before.before.before.before.before.before.before.before.before.before.before.before.before.before.before.before.before.before.before.before.before.before.before.before.before.before.before.before.before.before.before.before.before.before.before.before.before.before.before.before.before.before.requires.1 c.before.before.before.before.before.before.before.raise.ensures c.before.before.before.before.before.before.before.raise.auto.0 c.before.before.restack.auto.0 c.before.before.restack.ensures
 
 pub round-spec : {M : Type 1} → statement M
 round-spec =
@@ -99,14 +91,12 @@ round-spec =
     same-length-5
     same-length-6
     same-length-7
-    same-length-8
     returns
+    same-length-8
     same-length-9
     same-length-10
     same-length-11
     same-length-12
     same-length-13
     same-length-14
-    same-length-15
-    same-length-16
     returns-2)

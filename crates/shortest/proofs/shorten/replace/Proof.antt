@@ -1,6 +1,5 @@
 -- `shorten::replace` meets its contract: the least wiring is copied back where it is shorter. Assumes nothing.
 use native.Mathlib.Omega.{arith}
-use Rattle.shortest.specs.Wiring.{managed-can}
 use Rattle.shortest.specs.LeastWiring.{own-wires}
 use Rattle.shortest.specs.Shortening.{copy-legal, shortened_same, shortened-copied}
 use borrow.Author.Rules.{rules}
@@ -11,13 +10,13 @@ slice-aggregate-least-wiring : tie.Need-slice-aggregate-least-wiring
 slice-aggregate-least-wiring c = search rules
 
 least-wiring-requires : tie.Need-least-wiring-requires
-least-wiring-requires c κs = let p = c.before.before.before.requires in (p.0, search rules)
+least-wiring-requires c κs = let p = c.before.before.before.requires in (p.0, own-wires p.0 p.1, search rules)
 
 slice-aggregate-total-length : tie.Need-slice-aggregate-total-length
 slice-aggregate-total-length c = search rules
 
 total-length-requires : tie.Need-total-length-requires
-total-length-requires c κs = let p = c.before.before.before.before.before.before.requires in copy-legal p.0 (managed-can c.before.before.least_wiring.ensures (own-wires p.0 p.1))
+total-length-requires c κs = let p = c.before.before.before.before.before.before.requires in copy-legal p.0 c.before.before.least_wiring.ensures
 
 slice-aggregate-copy : tie.Need-slice-aggregate-copy
 slice-aggregate-copy c = search rules
@@ -31,7 +30,7 @@ same_length c = search rules
 returns : tie.Need-returns
 returns c =
     let p = c.before.before.before.before.before.before.before.before.before.before.before.before.before.requires in
-    shortened-copied p.0 p.1 p.2 (managed-can c.before.before.before.before.before.before.before.before.before.least_wiring.ensures (own-wires p.0 p.1)) c.before.before.before.before.before.before.total_length.ensures.0 c.before.before.before.before.before.if1.true c.before.before.copy.ensures
+    shortened-copied p.0 p.1 p.2 c.before.before.before.before.before.before.before.before.before.least_wiring.ensures c.before.before.before.before.before.before.total_length.ensures.0 c.before.before.before.before.before.if1.true c.before.before.copy.ensures
 
 same-length-2 : tie.Need-same-length-2
 same-length-2 c = search rules
@@ -39,7 +38,7 @@ same-length-2 c = search rules
 returns-2 : tie.Need-returns-2
 returns-2 c =
     let p = c.before.before.before.before.before.before.before.before.requires in
-    shortened_same p.0 p.1 p.2 (managed-can c.before.before.before.before.least_wiring.ensures (own-wires p.0 p.1)) c.before.total_length.ensures.0 (omega (arith, c.if1.false))
+    shortened_same p.0 p.1 p.2 c.before.before.before.before.least_wiring.ensures c.before.total_length.ensures.0 (omega (arith, c.if1.false))
 
 pub replace_spec : {M : Type 1} → statement M
 replace_spec =

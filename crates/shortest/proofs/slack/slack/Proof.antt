@@ -11,6 +11,9 @@ use Rattle.shortest.specs.Slacks.{some-view, no-view, slack-plain, slack-takes, 
 use Rattle.shortest.proofs.slack.slack.Statement.{statement}
 use Rattle.shortest.proofs.slack.slack.Tie as tie
 
+reverse-requires : tie.Need-reverse-requires
+reverse-requires c κs = search rules
+
 mul_wide : tie.Need-overflow-mul-wide
 mul_wide c = search rules
 
@@ -37,10 +40,10 @@ beyond-requires c κs = search rules
 
 returns : tie.Need-returns
 returns c =
-    let s = c.before.before.before.before.before.before.before.before.before in
+    let s = c.before.before.before.before.before.before.before.before.before.before in
     c.beyond.ensures
     ∙ sym (slack-plain (λ (u : ℕ). get_or s.args.prices.now u 0) s.args.loads.now s.args.d (is-dart (omega arith))
-    (sym c.before.before.counts.ensures ∙ not-true _ c.before.if1.true) s.requires.4
+    (sym c.before.before.counts.ensures ∙ not-true _ c.before.if1.true) c.before.before.before.before.before.before.before.reverse.ensures.0
     c.before.before.before.before.before.wide.ensures.0 c.before.before.before.wide2.ensures.0)
 
 carried-requires : tie.Need-carried-requires
@@ -57,8 +60,8 @@ beyond-requires-2 c κs = search rules
 
 returns-2 : tie.Need-returns-2
 returns-2 c =
-    let s = c.before.before.before.before.before.before.before.before.before.before.before.before in
-    let e = s.requires.4 in
+    let s = c.before.before.before.before.before.before.before.before.before.before.before.before.before in
+    let e = c.before.before.before.before.before.before.before.before.before.before.reverse.ensures.0 in
     c.beyond2.ensures
     ∙ sym (slack-takes (λ (u : ℕ). get_or s.args.prices.now u 0) s.args.loads.now s.args.d (some-view s.args.loads.now s.args.d c.before.before.before.carried.ensures.0 e c.before.before.if2.true)
     (c.before.back_length_of.ensures.0 ∙ sym (back-length s.args.d (is-dart (omega arith)))) e
@@ -75,8 +78,8 @@ beyond-requires-3 c κs = search rules
 
 returns-3 : tie.Need-returns-3
 returns-3 c =
-    let s = c.before.before.before.before.before.before.before.before.before.before.before.before in
-    let e = s.requires.4 in
+    let s = c.before.before.before.before.before.before.before.before.before.before.before.before.before in
+    let e = c.before.before.before.before.before.before.before.before.before.before.reverse.ensures.0 in
     c.beyond3.ensures
     ∙ sym (slack-adds (λ (u : ℕ). get_or s.args.prices.now u 0) s.args.loads.now s.args.d (no-view s.args.loads.now s.args.d c.before.before.before.carried.ensures.0 e c.before.before.if2.false)
     c.before.length_of.ensures.0 e
@@ -86,6 +89,7 @@ pub slack-spec : {M : Type 1} → statement M
 slack-spec =
     tie.close
     (tie.spec
+    reverse-requires
     mul_wide
     shared-slice-read-wide
     wide-requires
