@@ -56,7 +56,7 @@ module _ (rec out out' : List ℕ) where
 
 one-job : (text buffer buffer' : List ℕ) (K : Job) (j : Judged) → Reading text (reads K) → ReadsInto text buffer buffer' j
     → (j ≡ Reads) × (buffer' ≡ over (unwired_record K) buffer)
-one-job text buffer buffer' K Reads h (L, k, e) = (refl, e ∙ ap (λ (J : Job). over (unwired_record J) buffer) (same-job L K (reads-unique k h)))
+one-job _ buffer buffer' K Reads h (L, k, e) = (refl, e ∙ ap (λ (J : Job). over (unwired_record J) buffer) (same-job L K (reads-unique k h)))
 one-job text buffer buffer' K (WrongAt o) h (k, e) = absurd (not-both text K o h k)
 
 -- ---- the theorem

@@ -99,7 +99,7 @@ fn names(
 }
 
 // The offset of the next line; the stage: 1 after the array, 2 to 6 in a group, 7 after the end; the least key that the group may still have.
-#[derive(Drop)]
+#[derive(Clone, Copy)]
 pub struct Cursor {
     pub at: usize,
     pub stage: usize,
