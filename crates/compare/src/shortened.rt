@@ -12,9 +12,9 @@ use verdict::record::{Record, holds_job, legal, wired_alike};
 // How often an "all wired" found the least length, and how often a greater one.
 pub type Found = [u64; 2];
 
-pub fn tell_found(found: &Found) {
-    line(b"all wired that find the least length", found[0]);
-    line(b"all wired that find a greater length", found[1]);
+pub fn tell_found(rt: &impl Print, found: &Found) {
+    line(rt, b"all wired that find the least length", found[0]);
+    line(rt, b"all wired that find a greater length", found[1]);
 }
 
 // What is no length: that of wires which are not legal, or not of every chosen pin.
@@ -40,12 +40,17 @@ fn is_same(a: &Record, b: &Record) -> bool {
 }
 
 // A step more says "all wired" and changes no byte.
-fn hold_again(tally: &mut Tally, rec: &Record) {
+fn hold_again(rt: &impl Print, tally: &mut Tally, rec: &Record) {
     let mut scratch = [7u8; 65536];
     let mut copy = *rec;
     let answer = step(&mut copy, &mut scratch);
-    hold(tally, is(answer, ALL_WIRED, 0), b"all wired again");
-    hold(tally, is_same(&copy, rec), b"all wired again moves nothing");
+    hold(rt, tally, is(answer, ALL_WIRED, 0), b"all wired again");
+    hold(
+        rt,
+        tally,
+        is_same(&copy, rec),
+        b"all wired again moves nothing",
+    );
 }
 
 fn note(found: &mut Found, greater: bool) {
@@ -57,20 +62,34 @@ fn note(found: &mut Found, greater: bool) {
 }
 
 // The record had wires of the length `was`, and the least is this: they move only where that is less.
-fn hold_still(tally: &mut Tally, before: &Record, rec: &Record, was: usize, least: usize) {
+fn hold_still(
+    rt: &impl Print,
+    tally: &mut Tally,
+    before: &Record,
+    rec: &Record,
+    was: usize,
+    least: usize,
+) {
     if was == least {
         hold(
+            rt,
             tally,
             same(before, rec),
             b"all wired at the least length moves nothing",
         );
     } else {
-        hold(tally, was > least, b"no wires are below the least length");
+        hold(
+            rt,
+            tally,
+            was > least,
+            b"no wires are below the least length",
+        );
     }
 }
 
 // The record after a step that says "all wired", of a job with this least length.
 pub fn hold_shortened(
+    rt: &impl Print,
     tally: &mut Tally,
     found: &mut Found,
     before: &Record,
@@ -80,20 +99,22 @@ pub fn hold_shortened(
     page: &mut Page,
 ) {
     let was = length_of(before, job, page);
-    hold(tally, holds_job(rec, job), b"all wired keeps the job");
-    hold(tally, legal(rec), b"all wired leaves a legal record");
+    hold(rt, tally, holds_job(rec, job), b"all wired keeps the job");
+    hold(rt, tally, legal(rec), b"all wired leaves a legal record");
     hold(
+        rt,
         tally,
         wired_alike(before, rec),
         b"all wired keeps pins wired",
     );
-    hold(tally, was != NO_LENGTH, b"the wires before all wired");
+    hold(rt, tally, was != NO_LENGTH, b"the wires before all wired");
     hold(
+        rt,
         tally,
         length_of(rec, job, page) == least,
         b"all wired leaves the least length",
     );
-    hold_still(tally, before, rec, was, least);
-    hold_again(tally, rec);
+    hold_still(rt, tally, before, rec, was, least);
+    hold_again(rt, tally, rec);
     note(found, was > least);
 }

@@ -26,7 +26,13 @@ fn pick(x: u32, least: usize, n: usize) -> usize {
     }
 }
 
-fn call_new(tally: &mut Tally, rec: &mut [u8], twin: &mut [u8], seed: u32) -> Answer {
+fn call_new(
+    rt: &impl Print,
+    tally: &mut Tally,
+    rec: &mut [u8],
+    twin: &mut [u8],
+    seed: u32,
+) -> Answer {
     let a = xorshift(seed);
     let b = xorshift(a);
     let c = xorshift(b);
@@ -45,12 +51,18 @@ fn call_new(tally: &mut Tally, rec: &mut [u8], twin: &mut [u8], seed: u32) -> An
         diagonal as u64,
         extra as u64,
     );
-    hold(tally, says(word, answer), b"the word of new");
+    hold(rt, tally, says(word, answer), b"the word of new");
     answer
 }
 
 // A text at random, now and then cut.
-fn call_read(tally: &mut Tally, rec: &mut [u8], twin: &mut [u8], seed: u32) -> Answer {
+fn call_read(
+    rt: &impl Print,
+    tally: &mut Tally,
+    rec: &mut [u8],
+    twin: &mut [u8],
+    seed: u32,
+) -> Answer {
     let mut sheet = [0u8; 262144];
     let mut job = blank();
     let x = random_job(seed, 10, &mut job);
@@ -62,11 +74,17 @@ fn call_read(tally: &mut Tally, rec: &mut [u8], twin: &mut [u8], seed: u32) -> A
     };
     let answer = service::read_text(rec, held(&sheet, n));
     let word = talusdish_read_text(twin, held(&sheet, n));
-    hold(tally, says(word, answer), b"the word of read text");
+    hold(rt, tally, says(word, answer), b"the word of read text");
     answer
 }
 
-fn call_mark(tally: &mut Tally, rec: &mut [u8], twin: &mut [u8], seed: u32) -> Answer {
+fn call_mark(
+    rt: &impl Print,
+    tally: &mut Tally,
+    rec: &mut [u8],
+    twin: &mut [u8],
+    seed: u32,
+) -> Answer {
     let a = xorshift(seed);
     let b = xorshift(a);
     let row = pick(seed, 0, 7);
@@ -74,11 +92,17 @@ fn call_mark(tally: &mut Tally, rec: &mut [u8], twin: &mut [u8], seed: u32) -> A
     let mark = pick(b, 0, 4);
     let answer = service::mark(rec, row, column, mark);
     let word = talusdish_mark(twin, row as u64, column as u64, mark as u64);
-    hold(tally, says(word, answer), b"the word of mark");
+    hold(rt, tally, says(word, answer), b"the word of mark");
     answer
 }
 
-fn call_close(tally: &mut Tally, rec: &mut [u8], twin: &mut [u8], seed: u32) -> Answer {
+fn call_close(
+    rt: &impl Print,
+    tally: &mut Tally,
+    rec: &mut [u8],
+    twin: &mut [u8],
+    seed: u32,
+) -> Answer {
     let a = xorshift(seed);
     let b = xorshift(a);
     let row = pick(seed, 0, 7);
@@ -86,11 +110,17 @@ fn call_close(tally: &mut Tally, rec: &mut [u8], twin: &mut [u8], seed: u32) -> 
     let state = pick(b, 0, 3);
     let answer = service::close(rec, row, column, state);
     let word = talusdish_close(twin, row as u64, column as u64, state as u64);
-    hold(tally, says(word, answer), b"the word of close");
+    hold(rt, tally, says(word, answer), b"the word of close");
     answer
 }
 
-fn call_lay(tally: &mut Tally, rec: &mut [u8], twin: &mut [u8], seed: u32) -> Answer {
+fn call_lay(
+    rt: &impl Print,
+    tally: &mut Tally,
+    rec: &mut [u8],
+    twin: &mut [u8],
+    seed: u32,
+) -> Answer {
     let a = xorshift(seed);
     let b = xorshift(a);
     let row = pick(seed, 0, 7);
@@ -99,11 +129,17 @@ fn call_lay(tally: &mut Tally, rec: &mut [u8], twin: &mut [u8], seed: u32) -> An
     let count = pick(xorshift(b), 0, 4);
     let answer = service::lay(rec, row, column, side, count);
     let word = talusdish_lay(twin, row as u64, column as u64, side as u64, count as u64);
-    hold(tally, says(word, answer), b"the word of lay");
+    hold(rt, tally, says(word, answer), b"the word of lay");
     answer
 }
 
-fn call_diagonal(tally: &mut Tally, rec: &mut [u8], twin: &mut [u8], seed: u32) -> Answer {
+fn call_diagonal(
+    rt: &impl Print,
+    tally: &mut Tally,
+    rec: &mut [u8],
+    twin: &mut [u8],
+    seed: u32,
+) -> Answer {
     let a = xorshift(seed);
     let b = xorshift(a);
     let row = pick(seed, 0, 7);
@@ -111,11 +147,12 @@ fn call_diagonal(tally: &mut Tally, rec: &mut [u8], twin: &mut [u8], seed: u32) 
     let d = pick(b, 0, 9);
     let answer = service::diagonal(rec, row, column, d);
     let word = talusdish_diagonal(twin, row as u64, column as u64, d as u64);
-    hold(tally, says(word, answer), b"the word of diagonal");
+    hold(rt, tally, says(word, answer), b"the word of diagonal");
     answer
 }
 
 fn step_both(
+    rt: &impl Print,
     tally: &mut Tally,
     rec: &mut [u8],
     twin: &mut [u8],
@@ -124,24 +161,31 @@ fn step_both(
 ) -> Answer {
     let answer = service::step(rec, scratch);
     let word = talusdish_step(twin, other);
-    hold(tally, says(word, answer), b"the word of step");
-    hold(tally, same(scratch, other), b"the scratch of step");
+    hold(rt, tally, says(word, answer), b"the word of step");
+    hold(rt, tally, same(scratch, other), b"the scratch of step");
     answer
 }
 
 // Now and then the scratch is a byte too short.
-fn call_step(tally: &mut Tally, rec: &mut [u8], twin: &mut [u8], seed: u32) -> Answer {
+fn call_step(
+    rt: &impl Print,
+    tally: &mut Tally,
+    rec: &mut [u8],
+    twin: &mut [u8],
+    seed: u32,
+) -> Answer {
     if below(seed, 16) == 0 {
         let mut scratch = [201u8; 65535];
         let mut other = [201u8; 65535];
-        return step_both(tally, rec, twin, &mut scratch, &mut other);
+        return step_both(rt, tally, rec, twin, &mut scratch, &mut other);
     }
     let mut scratch = [201u8; 65600];
     let mut other = [201u8; 65600];
-    step_both(tally, rec, twin, &mut scratch, &mut other)
+    step_both(rt, tally, rec, twin, &mut scratch, &mut other)
 }
 
 fn shortfall_both(
+    rt: &impl Print,
     tally: &mut Tally,
     rec: &[u8],
     twin: &[u8],
@@ -152,14 +196,20 @@ fn shortfall_both(
 ) -> Answer {
     let answer = service::shortfall(rec, scratch, output);
     let word = talusdish_shortfall(twin, other, target);
-    hold(tally, says(word, answer), b"the word of shortfall");
-    hold(tally, same(scratch, other), b"the scratch of shortfall");
-    hold(tally, same(output, target), b"the output of shortfall");
+    hold(rt, tally, says(word, answer), b"the word of shortfall");
+    hold(rt, tally, same(scratch, other), b"the scratch of shortfall");
+    hold(rt, tally, same(output, target), b"the output of shortfall");
     answer
 }
 
 // Now and then the scratch is a byte too short, or the output.
-fn call_shortfall(tally: &mut Tally, rec: &[u8], twin: &[u8], seed: u32) -> Answer {
+fn call_shortfall(
+    rt: &impl Print,
+    tally: &mut Tally,
+    rec: &[u8],
+    twin: &[u8],
+    seed: u32,
+) -> Answer {
     let mut scratch = [201u8; 65600];
     let mut other = [201u8; 65600];
     let mut output = [90u8; 32800];
@@ -168,6 +218,7 @@ fn call_shortfall(tally: &mut Tally, rec: &[u8], twin: &[u8], seed: u32) -> Answ
     let mut brief = [90u8; 32767];
     match below(seed, 8) {
         0 => shortfall_both(
+            rt,
             tally,
             rec,
             twin,
@@ -177,6 +228,7 @@ fn call_shortfall(tally: &mut Tally, rec: &[u8], twin: &[u8], seed: u32) -> Answ
             &mut target,
         ),
         1 => shortfall_both(
+            rt,
             tally,
             rec,
             twin,
@@ -186,6 +238,7 @@ fn call_shortfall(tally: &mut Tally, rec: &[u8], twin: &[u8], seed: u32) -> Answ
             &mut brief,
         ),
         _ => shortfall_both(
+            rt,
             tally,
             rec,
             twin,
@@ -197,7 +250,7 @@ fn call_shortfall(tally: &mut Tally, rec: &[u8], twin: &[u8], seed: u32) -> Answ
     }
 }
 
-fn call_part(tally: &mut Tally, rec: &[u8], twin: &[u8], seed: u32) -> Answer {
+fn call_part(rt: &impl Print, tally: &mut Tally, rec: &[u8], twin: &[u8], seed: u32) -> Answer {
     let a = xorshift(seed);
     let b = xorshift(a);
     let row = pick(seed, 0, 9);
@@ -205,11 +258,12 @@ fn call_part(tally: &mut Tally, rec: &[u8], twin: &[u8], seed: u32) -> Answer {
     let index = pick(b, 0, 8);
     let answer = service::part(rec, row, column, index);
     let word = talusdish_part(twin, row as u64, column as u64, index as u64);
-    hold(tally, says(word, answer), b"the word of part");
+    hold(rt, tally, says(word, answer), b"the word of part");
     answer
 }
 
 fn write_both(
+    rt: &impl Print,
     tally: &mut Tally,
     rec: &[u8],
     twin: &[u8],
@@ -218,21 +272,21 @@ fn write_both(
 ) -> Answer {
     let answer = service::write_text(rec, output);
     let word = talusdish_write_text(twin, target);
-    hold(tally, says(word, answer), b"the word of write text");
-    hold(tally, same(output, target), b"the output of write text");
+    hold(rt, tally, says(word, answer), b"the word of write text");
+    hold(rt, tally, same(output, target), b"the output of write text");
     answer
 }
 
 // Now and then the output is shorter than most texts.
-fn call_write(tally: &mut Tally, rec: &[u8], twin: &[u8], seed: u32) -> Answer {
+fn call_write(rt: &impl Print, tally: &mut Tally, rec: &[u8], twin: &[u8], seed: u32) -> Answer {
     if below(seed, 4) == 0 {
         let mut output = [90u8; 100];
         let mut target = [90u8; 100];
-        return write_both(tally, rec, twin, &mut output, &mut target);
+        return write_both(rt, tally, rec, twin, &mut output, &mut target);
     }
     let mut output = [90u8; 50000];
     let mut target = [90u8; 50000];
-    write_both(tally, rec, twin, &mut output, &mut target)
+    write_both(rt, tally, rec, twin, &mut output, &mut target)
 }
 
 // The exported function on the first `m` bytes of the output.
@@ -253,7 +307,7 @@ fn listing_length(rec: &[u8]) -> usize {
 }
 
 // The output is empty, as long as the listing, a byte shorter, a byte longer, or all.
-fn call_listing(tally: &mut Tally, rec: &[u8], twin: &[u8], seed: u32) -> Answer {
+fn call_listing(rt: &impl Print, tally: &mut Tally, rec: &[u8], twin: &[u8], seed: u32) -> Answer {
     let mut output = [90u8; 50000];
     let mut target = [90u8; 50000];
     let n = listing_length(rec);
@@ -266,12 +320,18 @@ fn call_listing(tally: &mut Tally, rec: &[u8], twin: &[u8], seed: u32) -> Answer
     };
     let answer = list_on(rec, &mut output, m);
     let word = listing_on(twin, &mut target, m);
-    hold(tally, says(word, answer), b"the word of listing");
-    hold(tally, same(&output, &target), b"the output of listing");
+    hold(rt, tally, says(word, answer), b"the word of listing");
+    hold(rt, tally, same(&output, &target), b"the output of listing");
     answer
 }
 
-fn call_trial(tally: &mut Tally, rec: &mut [u8], twin: &mut [u8], seed: u32) -> Answer {
+fn call_trial(
+    rt: &impl Print,
+    tally: &mut Tally,
+    rec: &mut [u8],
+    twin: &mut [u8],
+    seed: u32,
+) -> Answer {
     let a = xorshift(seed);
     let rows = pick(seed, 2, 7);
     let columns = pick(a, 2, 7);
@@ -291,46 +351,67 @@ fn call_trial(tally: &mut Tally, rec: &mut [u8], twin: &mut [u8], seed: u32) -> 
         30,
         closed as u64,
     );
-    hold(tally, says(word, answer), b"the word of trial");
+    hold(rt, tally, says(word, answer), b"the word of trial");
     answer
 }
 
 // A call of this kind.
-fn call_extra(tally: &mut Tally, rec: &mut [u8], twin: &mut [u8], seed: u32) -> Answer {
+fn call_extra(
+    rt: &impl Print,
+    tally: &mut Tally,
+    rec: &mut [u8],
+    twin: &mut [u8],
+    seed: u32,
+) -> Answer {
     let e = pick(seed, 0, 4);
     let answer = service::extra(rec, e);
     let word = talusdish_extra(twin, e as u64);
-    hold(tally, says(word, answer), b"the word of extra");
+    hold(rt, tally, says(word, answer), b"the word of extra");
     answer
 }
 
-fn call(tally: &mut Tally, rec: &mut [u8], twin: &mut [u8], seed: u32, kind: usize) -> Answer {
+fn call(
+    rt: &impl Print,
+    tally: &mut Tally,
+    rec: &mut [u8],
+    twin: &mut [u8],
+    seed: u32,
+    kind: usize,
+) -> Answer {
     match kind {
-        0 => call_new(tally, rec, twin, seed),
-        1 => call_read(tally, rec, twin, seed),
-        2 => call_mark(tally, rec, twin, seed),
-        3 => call_close(tally, rec, twin, seed),
-        4 => call_step(tally, rec, twin, seed),
-        5 => call_shortfall(tally, rec, twin, seed),
-        6 => call_part(tally, rec, twin, seed),
-        7 => call_write(tally, rec, twin, seed),
-        9 => call_lay(tally, rec, twin, seed),
-        10 => call_trial(tally, rec, twin, seed),
-        11 => call_diagonal(tally, rec, twin, seed),
-        12 => call_extra(tally, rec, twin, seed),
-        _ => call_listing(tally, rec, twin, seed),
+        0 => call_new(rt, tally, rec, twin, seed),
+        1 => call_read(rt, tally, rec, twin, seed),
+        2 => call_mark(rt, tally, rec, twin, seed),
+        3 => call_close(rt, tally, rec, twin, seed),
+        4 => call_step(rt, tally, rec, twin, seed),
+        5 => call_shortfall(rt, tally, rec, twin, seed),
+        6 => call_part(rt, tally, rec, twin, seed),
+        7 => call_write(rt, tally, rec, twin, seed),
+        9 => call_lay(rt, tally, rec, twin, seed),
+        10 => call_trial(rt, tally, rec, twin, seed),
+        11 => call_diagonal(rt, tally, rec, twin, seed),
+        12 => call_extra(rt, tally, rec, twin, seed),
+        _ => call_listing(rt, tally, rec, twin, seed),
     }
 }
 
 // The call, and the records are equal afterwards.
-fn call_both(tally: &mut Tally, rec: &mut [u8], twin: &mut [u8], seed: u32, kind: usize) -> Answer {
-    let answer = call(tally, rec, twin, seed, kind);
-    hold(tally, same(rec, twin), b"the record");
+fn call_both(
+    rt: &impl Print,
+    tally: &mut Tally,
+    rec: &mut [u8],
+    twin: &mut [u8],
+    seed: u32,
+    kind: usize,
+) -> Answer {
+    let answer = call(rt, tally, rec, twin, seed, kind);
+    hold(rt, tally, same(rec, twin), b"the record");
     answer
 }
 
 // The call on the two records; now and then on two that are a byte too short, or damaged.
 fn call_on(
+    rt: &impl Print,
     tally: &mut Tally,
     rec: &mut Record,
     twin: &mut Record,
@@ -341,14 +422,14 @@ fn call_on(
     if x == 0 {
         let mut one = [7u8; 32767];
         let mut two = [7u8; 32767];
-        return call_both(tally, &mut one, &mut two, seed, kind);
+        return call_both(rt, tally, &mut one, &mut two, seed, kind);
     }
     if x == 1 {
         let mut one = [7u8; 32768];
         let mut two = [7u8; 32768];
-        return call_both(tally, &mut one, &mut two, seed, kind);
+        return call_both(rt, tally, &mut one, &mut two, seed, kind);
     }
-    call_both(tally, rec, twin, seed, kind)
+    call_both(rt, tally, rec, twin, seed, kind)
 }
 
 // A kind at random: a new job, or an edit of it.
@@ -402,6 +483,7 @@ fn kind_of(n: usize, k: usize) -> usize {
 
 // The k-th call; gives the generator's number afterwards.
 fn draw(
+    rt: &impl Print,
     tally: &mut Tally,
     counts: &mut Counts,
     rec: &mut Record,
@@ -415,20 +497,20 @@ fn draw(
     let kind = kind_of(below(a, 32), k);
     count(
         counts,
-        call_on(tally, rec, twin, b, kind, below(a / 32, 32)),
+        call_on(rt, tally, rec, twin, b, kind, below(a / 32, 32)),
     );
     if tally[1] != wrong {
-        line(b"in the random call", k as u64);
+        line(rt, b"in the random call", k as u64);
     }
     xorshift(xorshift(xorshift(xorshift(xorshift(b)))))
 }
 
 // A list of calls, from a job at random on. `counts` has how often each kind of answer occurs.
-pub fn calls(tally: &mut Tally, counts: &mut Counts) {
+pub fn calls(rt: &impl Print, tally: &mut Tally, counts: &mut Counts) {
     let mut rec = [BEYOND; 32800];
     let mut twin = [BEYOND; 32800];
     let mut seed = 362436069;
     for k in 0..16000 {
-        seed = draw(tally, counts, &mut rec, &mut twin, seed, k);
+        seed = draw(rt, tally, counts, &mut rec, &mut twin, seed, k);
     }
 }

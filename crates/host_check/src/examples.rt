@@ -33,26 +33,35 @@ const EAST: [u8; 181] =
     *b"(array (pins 5 4) (caps 1 2 0))\n(chosen 1 1)\n(chosen 2 1)\n(chosen 2 2)\n(closed 0 0)\n(closed 1 0)\n(closed 2 0)\n(closed 2 1)\n(closed 2 2)\n(closed 3 0)\n(closed 3 1)\n(closed 3 2)\n(end)\n";
 
 // New gives the word.
-fn news(tally: &mut Tally, rows: u64, columns: u64, o: u64, d: u64, e: u64, expected: u64) {
+fn news(
+    rt: &impl Print,
+    tally: &mut Tally,
+    rows: u64,
+    columns: u64,
+    o: u64,
+    d: u64,
+    e: u64,
+    expected: u64,
+) {
     let mut rec = [7u8; 32768];
     let word = talusdish_new(&mut rec, rows, columns, o, d, e);
-    hold(tally, word == expected, b"an example of new");
+    hold(rt, tally, word == expected, b"an example of new");
 }
 
 // The least and the greatest, and what is past them; where two numbers fit, the first.
-fn ranges(tally: &mut Tally) {
-    news(tally, 40, 40, 1, 1, 0, 0);
-    news(tally, 2, 2, 8, 16, 16, 0);
-    news(tally, 1, 2, 1, 1, 0, 2);
-    news(tally, 2, 41, 1, 1, 0, 2);
-    news(tally, 4294967298, 2, 1, 1, 0, 2);
-    news(tally, 2, 2, 2, 5, 0, 3);
-    news(tally, 2, 2, 1, 1, 17, 3);
-    news(tally, 1, 2, 2, 5, 0, 2);
+fn ranges(rt: &impl Print, tally: &mut Tally) {
+    news(rt, tally, 40, 40, 1, 1, 0, 0);
+    news(rt, tally, 2, 2, 8, 16, 16, 0);
+    news(rt, tally, 1, 2, 1, 1, 0, 2);
+    news(rt, tally, 2, 41, 1, 1, 0, 2);
+    news(rt, tally, 4294967298, 2, 1, 1, 0, 2);
+    news(rt, tally, 2, 2, 2, 5, 0, 3);
+    news(rt, tally, 2, 2, 1, 1, 17, 3);
+    news(rt, tally, 1, 2, 2, 5, 0, 2);
     let mut short = [7u8; 32767];
     let word = talusdish_new(&mut short, 1, 2, 2, 5, 0);
-    hold(tally, word == 1, b"new on a short record");
-    hold(tally, same(&short, &[7u8; 32767]), b"a refused new");
+    hold(rt, tally, word == 1, b"new on a short record");
+    hold(rt, tally, same(&short, &[7u8; 32767]), b"a refused new");
 }
 
 // All four pins chosen, and the listing of their wires.
@@ -67,104 +76,137 @@ const ROUND: [u8; 135] =
     *b"(array (pins 3 4) (caps 1 2 1))\n(chosen 1 1)\n(closed 0 0)\n(closed 1 0)\n(closed 1 1)\n(laid 0 1 n 1)\n(laid 0 2 n 1)\n(laid 0 2 e 1)\n(end)\n";
 
 // Read text gives the word; the text stands for what came out wrong.
-fn reads(tally: &mut Tally, rec: &mut Bytes, text: &[u8], expected: u64) {
+fn reads(rt: &impl Print, tally: &mut Tally, rec: &mut Bytes, text: &[u8], expected: u64) {
     let word = talusdish_read_text(rec, text);
-    hold(tally, word == expected, text);
+    hold(rt, tally, word == expected, text);
 }
 
 // No byte is changed.
-fn untouched(tally: &mut Tally, rec: &Bytes) {
-    hold(tally, same(rec, &[7u8; 32768]), b"a refused text");
+fn untouched(rt: &impl Print, tally: &mut Tally, rec: &Bytes) {
+    hold(rt, tally, same(rec, &[7u8; 32768]), b"a refused text");
 }
 
-fn texts(tally: &mut Tally) {
+fn texts(rt: &impl Print, tally: &mut Tally) {
     let mut rec = [7u8; 32768];
-    reads(tally, &mut rec, &EXCHANGED, 256 * 45 + 6);
-    reads(tally, &mut rec, b"", 6);
-    reads(tally, &mut rec, &AFTER, 256 * 64 + 6);
-    untouched(tally, &rec);
-    reads(tally, &mut rec, &SIXTY_FOUR, 0);
+    reads(rt, tally, &mut rec, &EXCHANGED, 256 * 45 + 6);
+    reads(rt, tally, &mut rec, b"", 6);
+    reads(rt, tally, &mut rec, &AFTER, 256 * 64 + 6);
+    untouched(rt, tally, &rec);
+    reads(rt, tally, &mut rec, &SIXTY_FOUR, 0);
     let mut short = [7u8; 32767];
     let word = talusdish_read_text(&mut short, &EXCHANGED);
-    hold(tally, word == 1, b"a text on a short record");
+    hold(rt, tally, word == 1, b"a text on a short record");
 }
 
-fn writes(tally: &mut Tally, rec: &Bytes, output: &mut [u8], expected: u64) {
+fn writes(rt: &impl Print, tally: &mut Tally, rec: &Bytes, output: &mut [u8], expected: u64) {
     let word = talusdish_write_text(rec, output);
-    hold(tally, word == expected, b"an example of write text");
+    hold(rt, tally, word == expected, b"an example of write text");
 }
 
 // The 64 bytes are written, and nothing where a byte is wanting.
-fn written(tally: &mut Tally) {
+fn written(rt: &impl Print, tally: &mut Tally) {
     let mut rec = [7u8; 32768];
     let mut output = [9u8; 64];
     let mut short = [9u8; 63];
-    writes(tally, &rec, &mut output, 1);
-    reads(tally, &mut rec, &SIXTY_FOUR, 0);
-    writes(tally, &rec, &mut short, 7);
-    writes(tally, &rec, &mut output, 256 * 64);
-    hold(tally, same(&short, &[9u8; 63]), b"a refused output");
-    hold(tally, same(&output, &SIXTY_FOUR), b"the 64 bytes");
+    writes(rt, tally, &rec, &mut output, 1);
+    reads(rt, tally, &mut rec, &SIXTY_FOUR, 0);
+    writes(rt, tally, &rec, &mut short, 7);
+    writes(rt, tally, &rec, &mut output, 256 * 64);
+    hold(rt, tally, same(&short, &[9u8; 63]), b"a refused output");
+    hold(rt, tally, same(&output, &SIXTY_FOUR), b"the 64 bytes");
 }
 
-fn marks(tally: &mut Tally, rec: &mut Bytes, row: u64, column: u64, mark: u64, expected: u64) {
+fn marks(
+    rt: &impl Print,
+    tally: &mut Tally,
+    rec: &mut Bytes,
+    row: u64,
+    column: u64,
+    mark: u64,
+    expected: u64,
+) {
     let word = talusdish_mark(rec, row, column, mark);
-    hold(tally, word == expected, b"an example of mark");
+    hold(rt, tally, word == expected, b"an example of mark");
 }
 
-fn closes(tally: &mut Tally, rec: &mut Bytes, row: u64, column: u64, state: u64, expected: u64) {
+fn closes(
+    rt: &impl Print,
+    tally: &mut Tally,
+    rec: &mut Bytes,
+    row: u64,
+    column: u64,
+    state: u64,
+    expected: u64,
+) {
     let word = talusdish_close(rec, row, column, state);
-    hold(tally, word == expected, b"an example of close");
+    hold(rt, tally, word == expected, b"an example of close");
 }
 
-fn gives(tally: &mut Tally, rec: &mut Bytes, row: u64, column: u64, d: u64, expected: u64) {
+fn gives(
+    rt: &impl Print,
+    tally: &mut Tally,
+    rec: &mut Bytes,
+    row: u64,
+    column: u64,
+    d: u64,
+    expected: u64,
+) {
     let word = talusdish_diagonal(rec, row, column, d);
-    hold(tally, word == expected, b"an example of diagonal");
+    hold(rt, tally, word == expected, b"an example of diagonal");
 }
 
 // The north side of tile 1 1.
-fn lays(tally: &mut Tally, rec: &mut Bytes, count: u64, expected: u64) {
+fn lays(rt: &impl Print, tally: &mut Tally, rec: &mut Bytes, count: u64, expected: u64) {
     let word = talusdish_lay(rec, 1, 1, 0, count);
-    hold(tally, word == expected, b"an example of lay");
+    hold(rt, tally, word == expected, b"an example of lay");
 }
 
-fn edits(tally: &mut Tally) {
+fn edits(rt: &impl Print, tally: &mut Tally) {
     let mut rec = [7u8; 32768];
-    marks(tally, &mut rec, 2, 0, 3, 1);
-    closes(tally, &mut rec, 1, 0, 2, 1);
-    reads(tally, &mut rec, &SIXTY_FOUR, 0);
-    marks(tally, &mut rec, 2, 0, 3, 4);
-    marks(tally, &mut rec, 0, 2, 1, 4);
-    marks(tally, &mut rec, 0, 1, 3, 5);
-    marks(tally, &mut rec, 0, 1, 2, 0);
-    closes(tally, &mut rec, 1, 0, 2, 4);
-    closes(tally, &mut rec, 0, 1, 1, 4);
-    closes(tally, &mut rec, 0, 0, 2, 5);
-    closes(tally, &mut rec, 0, 0, 0, 0);
-    gives(tally, &mut rec, 1, 0, 3, 4);
-    gives(tally, &mut rec, 0, 0, 3, 3);
-    gives(tally, &mut rec, 0, 0, 0, 3);
-    gives(tally, &mut rec, 0, 0, 1, 0);
-    gives(tally, &mut rec, 0, 0, 2, 0);
+    marks(rt, tally, &mut rec, 2, 0, 3, 1);
+    closes(rt, tally, &mut rec, 1, 0, 2, 1);
+    reads(rt, tally, &mut rec, &SIXTY_FOUR, 0);
+    marks(rt, tally, &mut rec, 2, 0, 3, 4);
+    marks(rt, tally, &mut rec, 0, 2, 1, 4);
+    marks(rt, tally, &mut rec, 0, 1, 3, 5);
+    marks(rt, tally, &mut rec, 0, 1, 2, 0);
+    closes(rt, tally, &mut rec, 1, 0, 2, 4);
+    closes(rt, tally, &mut rec, 0, 1, 1, 4);
+    closes(rt, tally, &mut rec, 0, 0, 2, 5);
+    closes(rt, tally, &mut rec, 0, 0, 0, 0);
+    gives(rt, tally, &mut rec, 1, 0, 3, 4);
+    gives(rt, tally, &mut rec, 0, 0, 3, 3);
+    gives(rt, tally, &mut rec, 0, 0, 0, 3);
+    gives(rt, tally, &mut rec, 0, 0, 1, 0);
+    gives(rt, tally, &mut rec, 0, 0, 2, 0);
 }
 
-fn steps(tally: &mut Tally, rec: &mut Bytes, expected: u64) {
+fn steps(rt: &impl Print, tally: &mut Tally, rec: &mut Bytes, expected: u64) {
     let mut scratch = [1u8; 65536];
     let word = talusdish_step(rec, &mut scratch);
-    hold(tally, word == expected, b"an example of step");
+    hold(rt, tally, word == expected, b"an example of step");
 }
 
-fn lacks(tally: &mut Tally, rec: &Bytes, expected: u64) {
+fn lacks(rt: &impl Print, tally: &mut Tally, rec: &Bytes, expected: u64) {
     let mut scratch = [1u8; 65536];
     let mut output = [2u8; 32768];
     let word = talusdish_shortfall(rec, &mut scratch, &mut output);
-    hold(tally, word == expected, b"an example of shortfall");
+    hold(rt, tally, word == expected, b"an example of shortfall");
 }
 
 // What Part lists at the index, as a value.
-fn lists(tally: &mut Tally, rec: &Bytes, row: u64, column: u64, index: u64, value: u64) {
+fn lists(
+    rt: &impl Print,
+    tally: &mut Tally,
+    rec: &Bytes,
+    row: u64,
+    column: u64,
+    index: u64,
+    value: u64,
+) {
     let word = talusdish_part(rec, row, column, index);
     hold(
+        rt,
         tally,
         word / 256 == value && word % 256 == 0,
         b"an example of part",
@@ -172,122 +214,134 @@ fn lists(tally: &mut Tally, rec: &Bytes, row: u64, column: u64, index: u64, valu
 }
 
 // Part knows no such pin, or it is not chosen.
-fn unlisted(tally: &mut Tally, rec: &Bytes, row: u64, column: u64) {
+fn unlisted(rt: &impl Print, tally: &mut Tally, rec: &Bytes, row: u64, column: u64) {
     let word = talusdish_part(rec, row, column, 0);
-    hold(tally, word == 4, b"no part");
+    hold(rt, tally, word == 4, b"no part");
 }
 
 // The 64 bytes: unwired, added, all wired; the pin leaves directly, and no other is chosen.
-fn sixty_four(tally: &mut Tally) {
+fn sixty_four(rt: &impl Print, tally: &mut Tally) {
     let mut rec = [7u8; 32768];
-    steps(tally, &mut rec, 1);
-    lacks(tally, &rec, 1);
-    reads(tally, &mut rec, &SIXTY_FOUR, 0);
-    lists(tally, &rec, 0, 0, 0, 0);
-    steps(tally, &mut rec, 0);
-    steps(tally, &mut rec, 256);
-    lacks(tally, &rec, 0);
-    lists(tally, &rec, 0, 0, 0, 3 + 4 * 6);
-    lists(tally, &rec, 0, 0, 1, 1);
-    lists(tally, &rec, 0, 0, 18446744073709551615, 1);
-    unlisted(tally, &rec, 0, 1);
-    unlisted(tally, &rec, 2, 0);
+    steps(rt, tally, &mut rec, 1);
+    lacks(rt, tally, &rec, 1);
+    reads(rt, tally, &mut rec, &SIXTY_FOUR, 0);
+    lists(rt, tally, &rec, 0, 0, 0, 0);
+    steps(rt, tally, &mut rec, 0);
+    steps(rt, tally, &mut rec, 256);
+    lacks(rt, tally, &rec, 0);
+    lists(rt, tally, &rec, 0, 0, 0, 3 + 4 * 6);
+    lists(rt, tally, &rec, 0, 0, 1, 1);
+    lists(rt, tally, &rec, 0, 0, 18446744073709551615, 1);
+    unlisted(rt, tally, &rec, 0, 1);
+    unlisted(rt, tally, &rec, 2, 0);
 }
 
 // Scratch and output a byte too short; the scratch is named first.
-fn too_short(tally: &mut Tally, rec: &mut Bytes) {
+fn too_short(rt: &impl Print, tally: &mut Tally, rec: &mut Bytes) {
     let mut scratch = [1u8; 65536];
     let mut short = [1u8; 65535];
     let mut output = [2u8; 32767];
     let a = talusdish_shortfall(rec, &mut short, &mut output);
     let b = talusdish_shortfall(rec, &mut scratch, &mut output);
     let c = talusdish_step(rec, &mut short);
-    hold(tally, a == 8, b"a shortfall with short scratch");
-    hold(tally, b == 7, b"a shortfall with a short output");
-    hold(tally, c == 8, b"a step with short scratch");
+    hold(rt, tally, a == 8, b"a shortfall with short scratch");
+    hold(rt, tally, b == 7, b"a shortfall with a short output");
+    hold(rt, tally, c == 8, b"a step with short scratch");
 }
 
 // Every tile closed: no wire fits, and one is lacking.
-fn shut(tally: &mut Tally) {
+fn shut(rt: &impl Print, tally: &mut Tally) {
     let mut rec = [7u8; 32768];
-    reads(tally, &mut rec, &SHUT, 0);
-    steps(tally, &mut rec, 512);
-    lacks(tally, &rec, 256);
-    too_short(tally, &mut rec);
+    reads(rt, tally, &mut rec, &SHUT, 0);
+    steps(rt, tally, &mut rec, 512);
+    lacks(rt, tally, &rec, 256);
+    too_short(rt, tally, &mut rec);
 }
 
 // The wires of pins 2 1 and 2 2, place by place: w, c, n, r, s, and the second wire of a side.
-fn shared(tally: &mut Tally) {
+fn shared(rt: &impl Print, tally: &mut Tally) {
     let mut rec = [7u8; 32768];
-    reads(tally, &mut rec, &SHARED, 0);
-    steps(tally, &mut rec, 0);
-    steps(tally, &mut rec, 0);
-    steps(tally, &mut rec, 256);
-    lists(tally, &rec, 2, 1, 0, 2 + 4 * 3 + 1024 + 65536);
-    lists(tally, &rec, 2, 1, 1, 2 + 4 * 4 + 1024 + 65536);
-    lists(tally, &rec, 2, 1, 2, 2 + 1024 + 65536);
-    lists(tally, &rec, 2, 1, 3, 2 + 4 * 5 + 1024 + 65536);
-    lists(tally, &rec, 2, 1, 4, 2 + 4 * 2);
-    lists(tally, &rec, 2, 1, 7, 3);
-    lists(tally, &rec, 2, 1, 8, 1);
-    lists(tally, &rec, 2, 2, 2, 2 + 32 + 1024 + 65536);
+    reads(rt, tally, &mut rec, &SHARED, 0);
+    steps(rt, tally, &mut rec, 0);
+    steps(rt, tally, &mut rec, 0);
+    steps(rt, tally, &mut rec, 256);
+    lists(rt, tally, &rec, 2, 1, 0, 2 + 4 * 3 + 1024 + 65536);
+    lists(rt, tally, &rec, 2, 1, 1, 2 + 4 * 4 + 1024 + 65536);
+    lists(rt, tally, &rec, 2, 1, 2, 2 + 1024 + 65536);
+    lists(rt, tally, &rec, 2, 1, 3, 2 + 4 * 5 + 1024 + 65536);
+    lists(rt, tally, &rec, 2, 1, 4, 2 + 4 * 2);
+    lists(rt, tally, &rec, 2, 1, 7, 3);
+    lists(rt, tally, &rec, 2, 1, 8, 1);
+    lists(rt, tally, &rec, 2, 2, 2, 2 + 32 + 1024 + 65536);
 }
 
 // Edits of these wires. An idle pin that is chosen leaves both; without the wire of pin 2 1 the other has lane 0 of its way to n of tile 1 1; a tile that it
 // does not meet leaves it, and a count on the north side of tile 1 1 takes it out.
-fn kept(tally: &mut Tally) {
+fn kept(rt: &impl Print, tally: &mut Tally) {
     let mut rec = [7u8; 32768];
-    reads(tally, &mut rec, &SHARED, 0);
-    steps(tally, &mut rec, 0);
-    steps(tally, &mut rec, 0);
-    marks(tally, &mut rec, 0, 0, 1, 0);
-    lists(tally, &rec, 2, 1, 3, 2 + 4 * 5 + 1024 + 65536);
-    lists(tally, &rec, 2, 2, 2, 2 + 32 + 1024 + 65536);
-    marks(tally, &mut rec, 2, 1, 0, 0);
-    unlisted(tally, &rec, 2, 1);
-    lists(tally, &rec, 2, 2, 2, 2 + 1024 + 65536);
-    closes(tally, &mut rec, 0, 0, 1, 0);
-    lists(tally, &rec, 2, 2, 3, 2 + 4 * 2 + 65536);
-    lays(tally, &mut rec, 2, 11);
-    lays(tally, &mut rec, 1, 0);
-    lists(tally, &rec, 2, 2, 0, 0);
+    reads(rt, tally, &mut rec, &SHARED, 0);
+    steps(rt, tally, &mut rec, 0);
+    steps(rt, tally, &mut rec, 0);
+    marks(rt, tally, &mut rec, 0, 0, 1, 0);
+    lists(rt, tally, &rec, 2, 1, 3, 2 + 4 * 5 + 1024 + 65536);
+    lists(rt, tally, &rec, 2, 2, 2, 2 + 32 + 1024 + 65536);
+    marks(rt, tally, &mut rec, 2, 1, 0, 0);
+    unlisted(rt, tally, &rec, 2, 1);
+    lists(rt, tally, &rec, 2, 2, 2, 2 + 1024 + 65536);
+    closes(rt, tally, &mut rec, 0, 0, 1, 0);
+    lists(rt, tally, &rec, 2, 2, 3, 2 + 4 * 2 + 65536);
+    lays(rt, tally, &mut rec, 2, 11);
+    lays(rt, tally, &mut rec, 1, 0);
+    lists(rt, tally, &rec, 2, 2, 0, 0);
 }
 
 // The wire of pin 2 2: w, c and e of tile 1 2, and out to the east.
-fn east(tally: &mut Tally) {
+fn east(rt: &impl Print, tally: &mut Tally) {
     let mut rec = [7u8; 32768];
-    reads(tally, &mut rec, &EAST, 0);
-    steps(tally, &mut rec, 0);
-    steps(tally, &mut rec, 0);
-    steps(tally, &mut rec, 0);
-    steps(tally, &mut rec, 256);
-    lists(tally, &rec, 2, 2, 0, 2 + 4 * 3 + 1024 + 65536 * 2);
-    lists(tally, &rec, 2, 2, 1, 2 + 4 * 4 + 1024 + 65536 * 2);
-    lists(tally, &rec, 2, 2, 2, 2 + 4 + 1024 + 65536 * 2);
-    lists(tally, &rec, 2, 2, 3, 3 + 4);
-    lists(tally, &rec, 2, 2, 4, 1);
+    reads(rt, tally, &mut rec, &EAST, 0);
+    steps(rt, tally, &mut rec, 0);
+    steps(rt, tally, &mut rec, 0);
+    steps(rt, tally, &mut rec, 0);
+    steps(rt, tally, &mut rec, 256);
+    lists(rt, tally, &rec, 2, 2, 0, 2 + 4 * 3 + 1024 + 65536 * 2);
+    lists(rt, tally, &rec, 2, 2, 1, 2 + 4 * 4 + 1024 + 65536 * 2);
+    lists(rt, tally, &rec, 2, 2, 2, 2 + 4 + 1024 + 65536 * 2);
+    lists(rt, tally, &rec, 2, 2, 3, 3 + 4);
+    lists(rt, tally, &rec, 2, 2, 4, 1);
 }
 
 // The listing gives the word, and the output begins so.
-fn listed(tally: &mut Tally, rec: &Bytes, output: &mut [u8], expected: u64, begins: &[u8]) {
+fn listed(
+    rt: &impl Print,
+    tally: &mut Tally,
+    rec: &Bytes,
+    output: &mut [u8],
+    expected: u64,
+    begins: &[u8],
+) {
     let word = talusdish_listing(rec, output);
-    hold(tally, word == expected, b"an example of listing");
-    hold(tally, same(span(output, 0, begins.len()), begins), begins);
+    hold(rt, tally, word == expected, b"an example of listing");
+    hold(
+        rt,
+        tally,
+        same(span(output, 0, begins.len()), begins),
+        begins,
+    );
 }
 
 // The listing of four direct exits, and nothing where a byte is wanting.
-fn four(tally: &mut Tally) {
+fn four(rt: &impl Print, tally: &mut Tally) {
     let mut rec = [7u8; 32768];
     let mut output = [9u8; 200];
     let mut short = [9u8; 139];
-    reads(tally, &mut rec, &FOUR, 0);
-    steps(tally, &mut rec, 0);
-    steps(tally, &mut rec, 0);
-    steps(tally, &mut rec, 0);
-    steps(tally, &mut rec, 0);
-    steps(tally, &mut rec, 256);
-    listed(tally, &rec, &mut short, 7, &[9u8; 139]);
-    listed(tally, &rec, &mut output, 256 * 140, &FOUR_LISTED);
+    reads(rt, tally, &mut rec, &FOUR, 0);
+    steps(rt, tally, &mut rec, 0);
+    steps(rt, tally, &mut rec, 0);
+    steps(rt, tally, &mut rec, 0);
+    steps(rt, tally, &mut rec, 0);
+    steps(rt, tally, &mut rec, 256);
+    listed(rt, tally, &rec, &mut short, 7, &[9u8; 139]);
+    listed(rt, tally, &rec, &mut output, 256 * 140, &FOUR_LISTED);
 }
 
 fn is_same(a: &Bytes, b: &Bytes) -> bool {
@@ -295,40 +349,40 @@ fn is_same(a: &Bytes, b: &Bytes) -> bool {
 }
 
 // The last lines of the listing are these.
-fn ends_with(tally: &mut Tally, rec: &Bytes, last: &[u8]) {
+fn ends_with(rt: &impl Print, tally: &mut Tally, rec: &Bytes, last: &[u8]) {
     let mut output = [9u8; 1000];
     let word = talusdish_listing(rec, &mut output);
     let from = std::num::wrapping_sub_usize((word / 256) as usize, last.len());
-    hold(tally, word % 256 == 0, b"an example of listing");
-    hold(tally, same(span(&output, from, last.len()), last), last);
+    hold(rt, tally, word % 256 == 0, b"an example of listing");
+    hold(rt, tally, same(span(&output, from, last.len()), last), last);
 }
 
 // The wire of a pin goes round the pin to its east; once that is missing, an "all wired" leads it past, 14 for two sides, and the next moves nothing.
-fn shorter(tally: &mut Tally) {
+fn shorter(rt: &impl Print, tally: &mut Tally) {
     let mut rec = [7u8; 32768];
-    reads(tally, &mut rec, &ROUND, 0);
-    steps(tally, &mut rec, 0);
-    steps(tally, &mut rec, 256);
-    ends_with(tally, &rec, b"(length 30)\n(mean 30 0)\n");
-    marks(tally, &mut rec, 1, 2, 2, 0);
-    ends_with(tally, &rec, b"(length 30)\n(mean 30 0)\n");
-    steps(tally, &mut rec, 256);
-    ends_with(tally, &rec, b"(length 24)\n(mean 24 0)\n");
+    reads(rt, tally, &mut rec, &ROUND, 0);
+    steps(rt, tally, &mut rec, 0);
+    steps(rt, tally, &mut rec, 256);
+    ends_with(rt, tally, &rec, b"(length 30)\n(mean 30 0)\n");
+    marks(rt, tally, &mut rec, 1, 2, 2, 0);
+    ends_with(rt, tally, &rec, b"(length 30)\n(mean 30 0)\n");
+    steps(rt, tally, &mut rec, 256);
+    ends_with(rt, tally, &rec, b"(length 24)\n(mean 24 0)\n");
     let before = rec;
-    steps(tally, &mut rec, 256);
-    hold(tally, is_same(&rec, &before), b"the next all wired");
+    steps(rt, tally, &mut rec, 256);
+    hold(rt, tally, is_same(&rec, &before), b"the next all wired");
 }
 
-pub fn examples(tally: &mut Tally) {
-    ranges(tally);
-    texts(tally);
-    written(tally);
-    edits(tally);
-    sixty_four(tally);
-    shut(tally);
-    shared(tally);
-    kept(tally);
-    east(tally);
-    four(tally);
-    shorter(tally);
+pub fn examples(rt: &impl Print, tally: &mut Tally) {
+    ranges(rt, tally);
+    texts(rt, tally);
+    written(rt, tally);
+    edits(rt, tally);
+    sixty_four(rt, tally);
+    shut(rt, tally);
+    shared(rt, tally);
+    kept(rt, tally);
+    east(rt, tally);
+    four(rt, tally);
+    shorter(rt, tally);
 }

@@ -121,26 +121,26 @@ pub fn count(counts: &mut Counts, answer: Answer) {
     }
 }
 
-pub fn tell_counts(counts: &Counts) {
-    line(b"refused 1", counts[1]);
-    line(b"refused 2", counts[2]);
-    line(b"refused 3", counts[3]);
-    line(b"refused 4", counts[4]);
-    line(b"refused 5", counts[5]);
-    line(b"refused 6", counts[6]);
-    line(b"refused 7", counts[7]);
-    line(b"refused 8", counts[8]);
-    line(b"done", counts[9]);
-    line(b"added", counts[10]);
-    line(b"all wired", counts[11]);
-    line(b"short", counts[12]);
-    line(b"shortfall", counts[13]);
-    line(b"unwired", counts[14]);
-    line(b"past the end", counts[15]);
-    line(b"to in lane 0", counts[16]);
-    line(b"to in another lane", counts[17]);
-    line(b"out in lane 0", counts[18]);
-    line(b"out in another lane", counts[19]);
-    line(b"text written", counts[20]);
-    line(b"refused 9 and above", counts[21]);
+pub fn tell_counts(rt: &impl Print, counts: &Counts) {
+    line(rt, b"refused 1", counts[1]);
+    line(rt, b"refused 2", counts[2]);
+    line(rt, b"refused 3", counts[3]);
+    line(rt, b"refused 4", counts[4]);
+    line(rt, b"refused 5", counts[5]);
+    line(rt, b"refused 6", counts[6]);
+    line(rt, b"refused 7", counts[7]);
+    line(rt, b"refused 8", counts[8]);
+    line(rt, b"done", counts[9]);
+    line(rt, b"added", counts[10]);
+    line(rt, b"all wired", counts[11]);
+    line(rt, b"short", counts[12]);
+    line(rt, b"shortfall", counts[13]);
+    line(rt, b"unwired", counts[14]);
+    line(rt, b"past the end", counts[15]);
+    line(rt, b"to in lane 0", counts[16]);
+    line(rt, b"to in another lane", counts[17]);
+    line(rt, b"out in lane 0", counts[18]);
+    line(rt, b"out in another lane", counts[19]);
+    line(rt, b"text written", counts[20]);
+    line(rt, b"refused 9 and above", counts[21]);
 }

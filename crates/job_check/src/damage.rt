@@ -194,8 +194,13 @@ fn refuses(answer: Answer, sound: bool) -> bool {
     is(answer, REFUSED, 1) != sound
 }
 
-fn hold_kept(tally: &mut Tally, rec: &Record, copy: &Record, sound: bool) {
-    hold(tally, sound || same(rec, copy), b"a damaged record is kept");
+fn hold_kept(rt: &impl Print, tally: &mut Tally, rec: &Record, copy: &Record, sound: bool) {
+    hold(
+        rt,
+        tally,
+        sound || same(rec, copy),
+        b"a damaged record is kept",
+    );
 }
 
 fn mark_pin(rec: &mut Record) -> Answer {
@@ -214,75 +219,94 @@ fn step(rec: &mut Record, scratch: &mut [u8; 65536]) -> Answer {
     service::step(rec, scratch)
 }
 
-fn ask_edits(tally: &mut Tally, rec: &Record, sound: bool) {
+fn ask_edits(rt: &impl Print, tally: &mut Tally, rec: &Record, sound: bool) {
     let mut copy = *rec;
     hold(
+        rt,
         tally,
         refuses(mark_pin(&mut copy), sound),
         b"mark on damage",
     );
-    hold_kept(tally, rec, &copy, sound);
+    hold_kept(rt, tally, rec, &copy, sound);
     let mut other = *rec;
     hold(
+        rt,
         tally,
         refuses(close_tile(&mut other), sound),
         b"close on damage",
     );
-    hold_kept(tally, rec, &other, sound);
+    hold_kept(rt, tally, rec, &other, sound);
     let mut third = *rec;
-    hold(tally, refuses(lay_one(&mut third), sound), b"lay on damage");
-    hold_kept(tally, rec, &third, sound);
+    hold(
+        rt,
+        tally,
+        refuses(lay_one(&mut third), sound),
+        b"lay on damage",
+    );
+    hold_kept(rt, tally, rec, &third, sound);
 }
 
 fn is_kept(scratch: &[u8; 65536], sound: bool) -> bool {
     sound || all(scratch, 201)
 }
 
-fn ask_step(tally: &mut Tally, rec: &Record, sound: bool) {
+fn ask_step(rt: &impl Print, tally: &mut Tally, rec: &Record, sound: bool) {
     let mut copy = *rec;
     let mut scratch = [201u8; 65536];
     hold(
+        rt,
         tally,
         refuses(step(&mut copy, &mut scratch), sound),
         b"step on damage",
     );
-    hold(tally, is_kept(&scratch, sound), b"step's scratch on damage");
-    hold_kept(tally, rec, &copy, sound);
+    hold(
+        rt,
+        tally,
+        is_kept(&scratch, sound),
+        b"step's scratch on damage",
+    );
+    hold_kept(rt, tally, rec, &copy, sound);
 }
 
-fn ask_shortfall(tally: &mut Tally, rec: &Record, sound: bool) {
+fn ask_shortfall(rt: &impl Print, tally: &mut Tally, rec: &Record, sound: bool) {
     let mut scratch = [201u8; 65536];
     let mut output = [90u8; 32768];
     hold(
+        rt,
         tally,
         refuses(service::shortfall(rec, &mut scratch, &mut output), sound),
         b"shortfall on damage",
     );
     hold(
+        rt,
         tally,
         is_kept(&scratch, sound),
         b"shortfall's scratch on damage",
     );
     hold(
+        rt,
         tally,
         sound || all(&output, 90),
         b"shortfall's output on damage",
     );
 }
 
-fn ask_views(tally: &mut Tally, rec: &Record, sound: bool) {
+fn ask_views(rt: &impl Print, tally: &mut Tally, rec: &Record, sound: bool) {
     let mut output = [90u8; 66000];
     hold(
+        rt,
         tally,
         refuses(service::part(rec, 0, 0, 0), sound),
         b"part on damage",
     );
     hold(
+        rt,
         tally,
         refuses(service::write_text(rec, &mut output), sound),
         b"write text on damage",
     );
     hold(
+        rt,
         tally,
         sound || all(&output, 90),
         b"write text's output on damage",
@@ -298,30 +322,30 @@ fn count(kept: &mut Tally, sound: bool) {
 }
 
 // Spoils the record once, and counts whether it is still legal.
-fn ask(tally: &mut Tally, kept: &mut Tally, rec: &Record, x: u32, y: u32, z: u32) {
+fn ask(rt: &impl Print, tally: &mut Tally, kept: &mut Tally, rec: &Record, x: u32, y: u32, z: u32) {
     let mut copy = *rec;
     spoil(&mut copy, x, y, z);
     let sound = legal(&copy);
     count(kept, sound);
-    ask_edits(tally, &copy, sound);
-    ask_step(tally, &copy, sound);
-    ask_shortfall(tally, &copy, sound);
-    ask_views(tally, &copy, sound);
+    ask_edits(rt, tally, &copy, sound);
+    ask_step(rt, tally, &copy, sound);
+    ask_shortfall(rt, tally, &copy, sound);
+    ask_views(rt, tally, &copy, sound);
 }
 
 // Spoils the record in several ways; gives the generator's number afterwards.
-fn ask_ways(tally: &mut Tally, kept: &mut Tally, rec: &Record, seed: u32) -> u32 {
+fn ask_ways(rt: &impl Print, tally: &mut Tally, kept: &mut Tally, rec: &Record, seed: u32) -> u32 {
     let mut x = seed;
     for k in 0..12usize {
         let y = xorshift(x);
         let z = xorshift(y);
         x = xorshift(z);
-        ask(tally, kept, rec, x, y, z);
+        ask(rt, tally, kept, rec, x, y, z);
     }
     x
 }
 
-fn draw(tally: &mut Tally, kept: &mut Tally, seed: u32) -> u32 {
+fn draw(rt: &impl Print, tally: &mut Tally, kept: &mut Tally, seed: u32) -> u32 {
     let mut job = blank();
     let mut sheet = [0u8; 262144];
     let mut near = [0u8; 32768];
@@ -333,18 +357,18 @@ fn draw(tally: &mut Tally, kept: &mut Tally, seed: u32) -> u32 {
     let n = write_text(&job, &mut sheet);
     service::read_text(&mut rec, held(&sheet, n));
     routed(&mut rec, &mut near);
-    hold(tally, legal(&rec), b"the record before");
-    let next = ask_ways(tally, kept, &rec, x);
+    hold(rt, tally, legal(&rec), b"the record before");
+    let next = ask_ways(rt, tally, kept, &rec, x);
     if tally[1] != wrong {
-        line(b"in the damaged job", seed as u64);
+        line(rt, b"in the damaged job", seed as u64);
     }
     next
 }
 
 // Damage to random jobs. `kept` counts the changes that left a legal record, and the others.
-pub fn damage(tally: &mut Tally, kept: &mut Tally) {
+pub fn damage(rt: &impl Print, tally: &mut Tally, kept: &mut Tally) {
     let mut seed = 521288629;
     for k in 0..400usize {
-        seed = draw(tally, kept, seed);
+        seed = draw(rt, tally, kept, seed);
     }
 }

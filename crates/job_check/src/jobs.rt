@@ -27,14 +27,16 @@ struct Asked {
 }
 
 // One step, of which the answer has to be this.
-fn step(tally: &mut Tally, rec: &mut Record, expected: usize) {
+fn step(rt: &impl Print, tally: &mut Tally, rec: &mut Record, expected: usize) {
     let mut scratch = [9u8; 65540];
     hold(
+        rt,
         tally,
         is(service::step(rec, &mut scratch), expected, 0),
         b"step answers",
     );
     hold(
+        rt,
         tally,
         split_at(&scratch, 65536, 0, 9),
         b"step clears the scratch",
@@ -42,10 +44,10 @@ fn step(tally: &mut Tally, rec: &mut Record, expected: usize) {
 }
 
 // A step that adds a wire.
-fn step_more(tally: &mut Tally, rec: &mut Record, job: &Job) {
+fn step_more(rt: &impl Print, tally: &mut Tally, rec: &mut Record, job: &Job) {
     let before = *rec;
-    step(tally, rec, ADDED);
-    hold_added(tally, &before, rec, job);
+    step(rt, tally, rec, ADDED);
+    hold_added(rt, tally, &before, rec, job);
 }
 
 fn is_same(a: &Record, b: &Record) -> bool {
@@ -54,6 +56,7 @@ fn is_same(a: &Record, b: &Record) -> bool {
 
 // The step after which no other changes anything: "all wired", which leaves the least length, or "short".
 fn step_last(
+    rt: &impl Print,
     tally: &mut Tally,
     found: &mut Found,
     rec: &mut Record,
@@ -63,11 +66,12 @@ fn step_last(
 ) {
     let before = *rec;
     if asked.missed == 0 {
-        step(tally, rec, ALL_WIRED);
-        hold_shortened(tally, found, &before, rec, job, asked.least, page);
+        step(rt, tally, rec, ALL_WIRED);
+        hold_shortened(rt, tally, found, &before, rec, job, asked.least, page);
     } else {
-        step(tally, rec, SHORT);
+        step(rt, tally, rec, SHORT);
         hold(
+            rt,
             tally,
             is_same(&before, rec),
             b"a short step changes nothing",
@@ -76,10 +80,17 @@ fn step_last(
 }
 
 // Shortfall says what the oracle says.
-fn ask_shortfall(tally: &mut Tally, rec: &Record, missed: usize, near: &[u8; 32768]) {
+fn ask_shortfall(
+    rt: &impl Print,
+    tally: &mut Tally,
+    rec: &Record,
+    missed: usize,
+    near: &[u8; 32768],
+) {
     let mut scratch = [9u8; 65540];
     let mut output = [5u8; 32772];
     hold(
+        rt,
         tally,
         is(
             service::shortfall(rec, &mut scratch, &mut output),
@@ -89,14 +100,16 @@ fn ask_shortfall(tally: &mut Tally, rec: &Record, missed: usize, near: &[u8; 327
         b"shortfall answers",
     );
     hold(
+        rt,
         tally,
         split_at(&scratch, 65536, 0, 9),
         b"shortfall clears the scratch",
     );
     if missed == 0 {
-        hold(tally, all(&output, 5), b"shortfall leaves the output");
+        hold(rt, tally, all(&output, 5), b"shortfall leaves the output");
     } else {
         hold(
+            rt,
             tally,
             begins(&output, near, 5),
             b"shortfall gives the near side",
@@ -105,16 +118,22 @@ fn ask_shortfall(tally: &mut Tally, rec: &Record, missed: usize, near: &[u8; 327
 }
 
 // The wires of the record are legal, in the job whose other pins are idle; the listing is that which Part gives piece by piece.
-fn ask_listing(tally: &mut Tally, rec: &Record, job: &Job, page: &mut Page) -> usize {
+fn ask_listing(
+    rt: &impl Print,
+    tally: &mut Tally,
+    rec: &Record,
+    job: &Job,
+    page: &mut Page,
+) -> usize {
     let n = listed(rec, page);
     let w = check_listing(&only_wired(rec, job), shown(page, n));
-    hold(tally, w.fault == LEGAL, b"the listing is legal");
+    hold(rt, tally, w.fault == LEGAL, b"the listing is legal");
     n
 }
 
-fn steps(tally: &mut Tally, rec: &mut Record, job: &Job, n: usize) {
+fn steps(rt: &impl Print, tally: &mut Tally, rec: &mut Record, job: &Job, n: usize) {
     for k in 0..n {
-        step_more(tally, rec, job);
+        step_more(rt, tally, rec, job);
     }
 }
 
@@ -128,10 +147,22 @@ fn near_is(mine: &[u8; 32768], missed: usize, near: &[u8; 32768]) -> bool {
 }
 
 // The search lays all wires that fit at once, and says what the oracle says.
-fn ask_route(tally: &mut Tally, rec: &mut Record, missed: usize, near: &[u8; 32768]) {
+fn ask_route(
+    rt: &impl Print,
+    tally: &mut Tally,
+    rec: &mut Record,
+    missed: usize,
+    near: &[u8; 32768],
+) {
     let mut mine = [5u8; 32768];
-    hold(tally, routed(rec, &mut mine) == missed, b"the route lacks");
     hold(
+        rt,
+        tally,
+        routed(rec, &mut mine) == missed,
+        b"the route lacks",
+    );
+    hold(
+        rt,
         tally,
         near_is(&mine, missed, near),
         b"the route's near side",
@@ -139,9 +170,17 @@ fn ask_route(tally: &mut Tally, rec: &mut Record, missed: usize, near: &[u8; 327
 }
 
 // The wires laid at once have the least length, where every chosen pin has one.
-fn ask_least(tally: &mut Tally, rec: &Record, job: &Job, asked: Asked, page: &mut Page) {
+fn ask_least(
+    rt: &impl Print,
+    tally: &mut Tally,
+    rec: &Record,
+    job: &Job,
+    asked: Asked,
+    page: &mut Page,
+) {
     if asked.missed == 0 {
         hold(
+            rt,
             tally,
             length_of(rec, job, page) == asked.least,
             b"the route has the least length",
@@ -151,6 +190,7 @@ fn ask_least(tally: &mut Tally, rec: &Record, job: &Job, asked: Asked, page: &mu
 
 // A copy of the record with all wires laid at once.
 fn ask_copy(
+    rt: &impl Print,
     tally: &mut Tally,
     rec: &Record,
     job: &Job,
@@ -160,12 +200,13 @@ fn ask_copy(
 ) {
     let missed = asked.missed;
     let mut copy = *rec;
-    ask_route(tally, &mut copy, missed, near);
-    ask_least(tally, &copy, job, asked, page);
-    hold(tally, holds_job(&copy, job), b"the route keeps the job");
-    hold(tally, legal(&copy), b"the route is legal");
+    ask_route(rt, tally, &mut copy, missed, near);
+    ask_least(rt, tally, &copy, job, asked, page);
+    hold(rt, tally, holds_job(&copy, job), b"the route keeps the job");
+    hold(rt, tally, legal(&copy), b"the route is legal");
     let n = std::num::wrapping_add_usize(count_wires(&copy), missed);
     hold(
+        rt,
         tally,
         n == count_marked(job, CHOSEN),
         b"the route has its wires",
@@ -174,6 +215,7 @@ fn ask_copy(
 
 // The same from wires of rim pins that leave by a leg.
 fn ask_legs(
+    rt: &impl Print,
     tally: &mut Tally,
     rec: &Record,
     job: &Job,
@@ -183,8 +225,8 @@ fn ask_legs(
 ) {
     let mut laid = *rec;
     lay_north(&mut laid, job);
-    hold(tally, legal(&laid), b"the wires of legs are legal");
-    ask_copy(tally, &laid, job, asked, near, page);
+    hold(rt, tally, legal(&laid), b"the wires of legs are legal");
+    ask_copy(rt, tally, &laid, job, asked, near, page);
 }
 
 // The most steps taken in one job; what is left is then laid at once.
@@ -196,6 +238,7 @@ fn least(a: usize, b: usize) -> usize {
 
 // Steps to the end, with Shortfall asked at the start, half way and at the end.
 fn step_on(
+    rt: &impl Print,
     tally: &mut Tally,
     found: &mut Found,
     rec: &mut Record,
@@ -207,53 +250,67 @@ fn step_on(
     let missed = asked.missed;
     let greatest = std::num::wrapping_sub_usize(count_marked(job, CHOSEN), missed);
     let n = least(greatest, MOST);
-    ask_shortfall(tally, rec, missed, near);
-    steps(tally, rec, job, n / 2);
-    ask_shortfall(tally, rec, missed, near);
-    ask_listing(tally, rec, job, page);
-    steps(tally, rec, job, n - n / 2);
+    ask_shortfall(rt, tally, rec, missed, near);
+    steps(rt, tally, rec, job, n / 2);
+    ask_shortfall(rt, tally, rec, missed, near);
+    ask_listing(rt, tally, rec, job, page);
+    steps(rt, tally, rec, job, n - n / 2);
     if n < greatest {
-        ask_route(tally, rec, missed, near);
+        ask_route(rt, tally, rec, missed, near);
     }
-    ask_shortfall(tally, rec, missed, near);
-    step_last(tally, found, rec, job, asked, page);
-    hold(tally, count_wires(rec) == greatest, b"the greatest number");
+    ask_shortfall(rt, tally, rec, missed, near);
+    step_last(rt, tally, found, rec, job, asked, page);
+    hold(
+        rt,
+        tally,
+        count_wires(rec) == greatest,
+        b"the greatest number",
+    );
 }
 
 // Write text gives the text, and no byte more.
-fn ask_text(tally: &mut Tally, rec: &Record, text: &[u8]) {
+fn ask_text(rt: &impl Print, tally: &mut Tally, rec: &Record, text: &[u8]) {
     let n = text.len();
     let mut out = [3u8; 66000];
     let few = write_on(rec, &mut out, std::num::wrapping_sub_usize(n, 1));
     hold(
+        rt,
         tally,
         is(few, REFUSED, 7),
         b"write text refuses a short output",
     );
-    hold(tally, all(&out, 3), b"write text leaves a short output");
+    hold(rt, tally, all(&out, 3), b"write text leaves a short output");
     hold(
+        rt,
         tally,
         is(write_on(rec, &mut out, n), WROTE, n),
         b"write text answers",
     );
-    hold(tally, begins(&out, text, 3), b"write text gives the text");
+    hold(
+        rt,
+        tally,
+        begins(&out, text, 3),
+        b"write text gives the text",
+    );
     let mut more = [3u8; 66000];
     hold(
+        rt,
         tally,
         is(write_on(rec, &mut more, 66000), WROTE, n),
         b"write text answers with room",
     );
-    hold(tally, same(&more, &out), b"write text leaves the rest");
+    hold(rt, tally, same(&more, &out), b"write text leaves the rest");
 }
 
 // The listing again, from what Part answers, with the length that its parts have by the oracle.
-fn ask_parts(tally: &mut Tally, rec: &Record, job: &Job, list: &[u8]) {
+fn ask_parts(rt: &impl Print, tally: &mut Tally, rec: &Record, job: &Job, list: &[u8]) {
     let mut sheet = [0u8; 262144];
     let w = check_listing(&only_wired(rec, job), list);
     let wires = count_wires(rec);
     let n = list_by_parts(rec, job, wires, &mut sheet);
     let m = total_lines(&mut sheet, n, wires, w.length as usize);
     hold(
+        rt,
         tally,
         same(held(&sheet, m), list),
         b"the parts are the listing",
@@ -275,6 +332,7 @@ fn least_of(job: &Job, missed: usize) -> usize {
 
 // All that is asked of one job; of the parts only where they are few.
 fn judge(
+    rt: &impl Print,
     tally: &mut Tally,
     exits: &mut Tally,
     found: &mut Found,
@@ -290,19 +348,25 @@ fn judge(
     let least = least_of(job, missed);
     let asked = Asked { missed, least };
     hold(
+        rt,
         tally,
         is(service::read_text(&mut rec, held(&sheet, n)), DONE, 0),
         b"read text answers",
     );
-    hold(tally, holds_unwired(&rec, job), b"read text gives the job");
-    ask_copy(tally, &rec, job, asked, &near, page);
-    ask_legs(tally, &rec, job, asked, &near, page);
-    step_on(tally, found, &mut rec, job, asked, &near, page);
+    hold(
+        rt,
+        tally,
+        holds_unwired(&rec, job),
+        b"read text gives the job",
+    );
+    ask_copy(rt, tally, &rec, job, asked, &near, page);
+    ask_legs(rt, tally, &rec, job, asked, &near, page);
+    step_on(rt, tally, found, &mut rec, job, asked, &near, page);
     count_exits(exits, &rec);
-    let m = ask_listing(tally, &rec, job, page);
-    ask_text(tally, &rec, held(&sheet, n));
+    let m = ask_listing(rt, tally, &rec, job, page);
+    ask_text(rt, tally, &rec, held(&sheet, n));
     if parts {
-        ask_parts(tally, &rec, job, shown(page, m));
+        ask_parts(rt, tally, &rec, job, shown(page, m));
     }
 }
 
@@ -335,6 +399,7 @@ fn own_some(seed: u32, k: usize, job: &mut Job) -> u32 {
 
 // The k-th job; gives the generator's number afterwards.
 fn draw(
+    rt: &impl Print,
     tally: &mut Tally,
     exits: &mut Tally,
     found: &mut Found,
@@ -347,19 +412,19 @@ fn draw(
     let then = random_job(seed, size(k), &mut job);
     let last = lay_some(then, k, &mut job);
     let next = own_some(last, k, &mut job);
-    judge(tally, exits, found, &job, page, k % 32 == 0);
+    judge(rt, tally, exits, found, &job, page, k % 32 == 0);
     if tally[1] != wrong {
-        line(b"in the random job", seed as u64);
+        line(rt, b"in the random job", seed as u64);
     }
     next
 }
 
 // Random jobs, each drawn with the number that the one before left. `exits` counts the wires at the end: those that leave directly, and the others; `found` what an
 // "all wired" finds.
-pub fn jobs(tally: &mut Tally, exits: &mut Tally, found: &mut Found) {
+pub fn jobs(rt: &impl Print, tally: &mut Tally, exits: &mut Tally, found: &mut Found) {
     let mut page = [0u8; 1048576];
     let mut seed = 2463534242;
     for k in 0..3000 {
-        seed = draw(tally, exits, found, &mut page, seed, k);
+        seed = draw(rt, tally, exits, found, &mut page, seed, k);
     }
 }

@@ -1,5 +1,7 @@
 // Compares the operations, the listings and the search on whole jobs with the oracle, which shares no code with them: on the vectors of data/ and on random jobs;
 // and on damaged records with the verdict. It writes what came out wrong, and how many checks of each part are right and wrong.
+#![tactic(auto)]
+
 mod damage; // damaged records
 mod jobs; // random jobs
 mod legs; // wires of rim pins that leave by a leg
@@ -9,22 +11,22 @@ mod vectors; // the vectors of data/
 use compare::shortened::tell_found;
 use verdict::bytes::{line, tell};
 
-fn main() {
+fn main(rt: HostRuntime) {
     let mut vectors = [0u64; 2];
-    vectors::vectors(&mut vectors);
-    tell(b"vectors", &vectors);
+    vectors::vectors(&rt, &mut vectors);
+    tell(&rt, b"vectors", &vectors);
     let mut jobs = [0u64; 2];
     let mut exits = [0u64; 2];
     let mut found = [0u64; 2];
-    jobs::jobs(&mut jobs, &mut exits, &mut found);
-    tell(b"random jobs", &jobs);
-    line(b"wires that leave directly", exits[0]);
-    line(b"wires that leave by a side", exits[1]);
-    tell_found(&found);
+    jobs::jobs(&rt, &mut jobs, &mut exits, &mut found);
+    tell(&rt, b"random jobs", &jobs);
+    line(&rt, b"wires that leave directly", exits[0]);
+    line(&rt, b"wires that leave by a side", exits[1]);
+    tell_found(&rt, &found);
     let mut damage = [0u64; 2];
     let mut kept = [0u64; 2];
-    damage::damage(&mut damage, &mut kept);
-    tell(b"damage", &damage);
-    line(b"changes that leave a legal record", kept[0]);
-    line(b"changes that damage it", kept[1]);
+    damage::damage(&rt, &mut damage, &mut kept);
+    tell(&rt, b"damage", &damage);
+    line(&rt, b"changes that leave a legal record", kept[0]);
+    line(&rt, b"changes that damage it", kept[1]);
 }

@@ -2,27 +2,22 @@
 // to be legal, and of the least length.
 use check::same;
 use compare::listed::{Page, held, list_text, shown};
+use files::load;
 use judge::listing::check_least;
 use judge::walk::LEGAL;
 use oracle_text::job::blank;
 use oracle_text::page::{Page as Sheet, byte, decimal, word};
 use oracle_text::scan::scan;
 use oracle_text::text::read_text;
+use std::rt::Files;
 use verdict::bytes::{Tally, first, hold, rest};
 
 // Reads the file of the vector `name` that has this ending, and gives its length.
-fn load(name: &[u8], ending: &[u8], sheet: &mut Sheet) -> usize {
+fn load_vector(rt: &(impl Files + Eprint), name: &[u8], ending: &[u8], sheet: &mut Sheet) -> usize {
     let mut path = [0u8; 262144];
     let a = word(&mut path, 0, name);
     let b = word(&mut path, a, ending);
-    let fd = os::open_read(held(&path, b));
-    if fd < 0 {
-        os::fail(held(&path, b));
-        return 0;
-    }
-    let n = io::read_full(fd, sheet);
-    libc::close(fd);
-    n
+    load(rt, held(&path, b), sheet)
 }
 
 // The listing begins with the first line that is expected, and ends with the other lines.
@@ -50,12 +45,13 @@ fn is_expected(text: &[u8], expected: &[u8], page: &mut Page) -> bool {
     same(shown(page, n), expected)
 }
 
-fn vector(tally: &mut Tally, page: &mut Page, name: &[u8]) {
+fn vector(rt: &(impl Files + Print + Eprint), tally: &mut Tally, page: &mut Page, name: &[u8]) {
     let mut text = [0u8; 262144];
     let mut expected = [0u8; 262144];
-    let n = load(name, b".job", &mut text);
-    let m = load(name, b".expect", &mut expected);
+    let n = load_vector(rt, name, b".job", &mut text);
+    let m = load_vector(rt, name, b".expect", &mut expected);
     hold(
+        rt,
         tally,
         is_expected(held(&text, n), held(&expected, m), page),
         name,
@@ -63,35 +59,47 @@ fn vector(tally: &mut Tally, page: &mut Page, name: &[u8]) {
 }
 
 // The vector STEM with the number k, of two digits.
-fn numbered(tally: &mut Tally, page: &mut Page, stem: &[u8], k: usize) {
+fn numbered(
+    rt: &(impl Files + Print + Eprint),
+    tally: &mut Tally,
+    page: &mut Page,
+    stem: &[u8],
+    k: usize,
+) {
     let mut name = [0u8; 262144];
     let a = word(&mut name, 0, stem);
     let b = if k < 10 { byte(&mut name, a, b'0') } else { a };
     let c = decimal(&mut name, b, k);
-    vector(tally, page, held(&name, c));
+    vector(rt, tally, page, held(&name, c));
 }
 
 // The first `n` vectors of the stem.
-fn series(tally: &mut Tally, page: &mut Page, stem: &[u8], n: usize) {
+fn series(
+    rt: &(impl Files + Print + Eprint),
+    tally: &mut Tally,
+    page: &mut Page,
+    stem: &[u8],
+    n: usize,
+) {
     for k in 0..n {
-        numbered(tally, page, stem, k);
+        numbered(rt, tally, page, stem, k);
     }
 }
 
-pub fn vectors(tally: &mut Tally) {
+pub fn vectors(rt: &(impl Files + Print + Eprint), tally: &mut Tally) {
     let mut page = [0u8; 1048576];
-    series(tally, &mut page, b"job0", 60);
-    series(tally, &mut page, b"text0", 60);
-    vector(tally, &mut page, b"empty");
-    vector(tally, &mut page, b"four");
-    series(tally, &mut page, b"K2/job", 16);
-    series(tally, &mut page, b"K2/text", 4);
-    series(tally, &mut page, b"K3/job", 12);
-    series(tally, &mut page, b"K3/text", 8);
-    series(tally, &mut page, b"K7/job", 12);
-    series(tally, &mut page, b"K7/text", 8);
-    series(tally, &mut page, b"K8/job", 16);
-    series(tally, &mut page, b"K8/text", 4);
-    series(tally, &mut page, b"K9/job", 14);
-    series(tally, &mut page, b"K9/text", 6);
+    series(rt, tally, &mut page, b"job0", 60);
+    series(rt, tally, &mut page, b"text0", 60);
+    vector(rt, tally, &mut page, b"empty");
+    vector(rt, tally, &mut page, b"four");
+    series(rt, tally, &mut page, b"K2/job", 16);
+    series(rt, tally, &mut page, b"K2/text", 4);
+    series(rt, tally, &mut page, b"K3/job", 12);
+    series(rt, tally, &mut page, b"K3/text", 8);
+    series(rt, tally, &mut page, b"K7/job", 12);
+    series(rt, tally, &mut page, b"K7/text", 8);
+    series(rt, tally, &mut page, b"K8/job", 16);
+    series(rt, tally, &mut page, b"K8/text", 4);
+    series(rt, tally, &mut page, b"K9/job", 14);
+    series(rt, tally, &mut page, b"K9/text", 6);
 }

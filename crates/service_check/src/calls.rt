@@ -25,13 +25,14 @@ use verdict::bytes::{Tally, all, begins, first, hold, line, split_at};
 use verdict::record::{BEYOND, Record, count_direct, count_wires, hold_added};
 
 // The scratch is cleared by a call that is accepted, and else as it was.
-fn hold_scratch(tally: &mut Tally, scratch: &[u8; 65600], kind: usize) {
+fn hold_scratch(rt: &impl Print, tally: &mut Tally, scratch: &[u8; 65600], kind: usize) {
     let zeros = if kind == REFUSED { 0 } else { 65536 };
-    hold(tally, split_at(scratch, zeros, 0, 201), b"the scratch");
+    hold(rt, tally, split_at(scratch, zeros, 0, 201), b"the scratch");
 }
 
 // The record after a step that answers so.
 pub fn hold_step(
+    rt: &impl Print,
     tally: &mut Tally,
     found: &mut Found,
     before: &Record,
@@ -41,15 +42,16 @@ pub fn hold_step(
     page: &mut Page,
 ) {
     match kind {
-        ADDED => hold_added(tally, before, rec, job),
+        ADDED => hold_added(rt, tally, before, rec, job),
         ALL_WIRED => {
-            hold_shortened(tally, found, before, rec, job, least_length(job), page);
+            hold_shortened(rt, tally, found, before, rec, job, least_length(job), page);
         }
-        _ => hold_same(tally, before, rec),
+        _ => hold_same(rt, tally, before, rec),
     }
 }
 
 fn call_step(
+    rt: &impl Print,
     tally: &mut Tally,
     found: &mut Found,
     rec: &mut Record,
@@ -67,22 +69,28 @@ fn call_step(
     let before = *rec;
     let answer = step_on(rec, n, &mut scratch, m);
     let expected = expect_step(job, n, m, count_wires(&before), missed);
-    hold_answer(tally, answer, expected, b"step answers");
-    hold_scratch(tally, &scratch, expected.kind);
-    hold_step(tally, found, &before, rec, job, expected.kind, page);
+    hold_answer(rt, tally, answer, expected, b"step answers");
+    hold_scratch(rt, tally, &scratch, expected.kind);
+    hold_step(rt, tally, found, &before, rec, job, expected.kind, page);
     b
 }
 
 // The output has the near side where something is lacking, and is else as it was.
-fn hold_near(tally: &mut Tally, output: &[u8; 66000], near: &[u8; 32768], said: Said) {
+fn hold_near(
+    rt: &impl Print,
+    tally: &mut Tally,
+    output: &[u8; 66000],
+    near: &[u8; 32768],
+    said: Said,
+) {
     if said.kind == LACKS && said.number != 0 {
-        hold(tally, begins(output, near, 90), b"the near side");
+        hold(rt, tally, begins(output, near, 90), b"the near side");
     } else {
-        hold(tally, all(output, 90), b"the output is untouched");
+        hold(rt, tally, all(output, 90), b"the output is untouched");
     }
 }
 
-fn call_shortfall(tally: &mut Tally, rec: &Record, job: &Job, seed: u32) -> u32 {
+fn call_shortfall(rt: &impl Print, tally: &mut Tally, rec: &Record, job: &Job, seed: u32) -> u32 {
     let a = xorshift(seed);
     let b = xorshift(a);
     let c = xorshift(b);
@@ -95,14 +103,15 @@ fn call_shortfall(tally: &mut Tally, rec: &Record, job: &Job, seed: u32) -> u32 
     let missed = shortfall(job, &mut near);
     let answer = shortfall_on(first(rec, n), &mut scratch, m, &mut output, l);
     let expected = expect_shortfall(n, m, l, missed);
-    hold_answer(tally, answer, expected, b"shortfall answers");
-    hold_scratch(tally, &scratch, expected.kind);
-    hold_near(tally, &output, &near, expected);
+    hold_answer(rt, tally, answer, expected, b"shortfall answers");
+    hold_scratch(rt, tally, &scratch, expected.kind);
+    hold_near(rt, tally, &output, &near, expected);
     c
 }
 
 // The part that Part answers with is the one of the listing.
 fn hold_part(
+    rt: &impl Print,
     tally: &mut Tally,
     rec: &Record,
     page: &mut Page,
@@ -115,31 +124,43 @@ fn hold_part(
     let n = listed(rec, page);
     let a = put_listed(&mut mine, 0, answer);
     let b = put_expected(&mut wanted, rec, shown(page, n), p, index);
-    hold(tally, same(held(&mine, a), held(&wanted, b)), b"the part");
+    hold(
+        rt,
+        tally,
+        same(held(&mine, a), held(&wanted, b)),
+        b"the part",
+    );
 }
 
-fn call_part(tally: &mut Tally, rec: &Record, job: &Job, page: &mut Page, seed: u32) -> u32 {
+fn call_part(
+    rt: &impl Print,
+    tally: &mut Tally,
+    rec: &Record,
+    job: &Job,
+    page: &mut Page,
+    seed: u32,
+) -> u32 {
     let at = pick_spot(seed, job);
     let index = pick(at.next, 0, 9);
     let answer = service::part(first(rec, at.n), at.row, at.column, index);
     let expected = expect_part(job, at.n, at.row, at.column);
-    hold_answer(tally, answer, expected, b"part answers");
+    hold_answer(rt, tally, answer, expected, b"part answers");
     if expected.kind == LISTS {
-        hold_part(tally, rec, page, answer, cell(at.row, at.column), index);
+        hold_part(rt, tally, rec, page, answer, cell(at.row, at.column), index);
     }
     at.next
 }
 
 // The output has the text, and is untouched where the call is refused.
-fn hold_text(tally: &mut Tally, output: &[u8; 66000], text: &[u8], refused: bool) {
+fn hold_text(rt: &impl Print, tally: &mut Tally, output: &[u8; 66000], text: &[u8], refused: bool) {
     if refused {
-        hold(tally, all(output, 90), b"the output is untouched");
+        hold(rt, tally, all(output, 90), b"the output is untouched");
     } else {
-        hold(tally, begins(output, text, 90), b"the text");
+        hold(rt, tally, begins(output, text, 90), b"the text");
     }
 }
 
-fn call_write(tally: &mut Tally, rec: &Record, job: &Job, seed: u32) -> u32 {
+fn call_write(rt: &impl Print, tally: &mut Tally, rec: &Record, job: &Job, seed: u32) -> u32 {
     let a = xorshift(seed);
     let b = xorshift(a);
     let mut sheet = [0u8; 262144];
@@ -149,8 +170,9 @@ fn call_write(tally: &mut Tally, rec: &Record, job: &Job, seed: u32) -> u32 {
     let m = pick_length(b, length, 66000);
     let answer = write_on(first(rec, n), &mut output, m);
     let expected = expect_write(n, m, length);
-    hold_answer(tally, answer, expected, b"write text answers");
+    hold_answer(rt, tally, answer, expected, b"write text answers");
     hold_text(
+        rt,
         tally,
         &output,
         held(&sheet, length),
@@ -160,19 +182,27 @@ fn call_write(tally: &mut Tally, rec: &Record, job: &Job, seed: u32) -> u32 {
 }
 
 // The listing of the wires, into an output of any length. `listed` gives the whole, which has to be legal.
-fn call_listing(tally: &mut Tally, rec: &Record, job: &Job, page: &mut Page, seed: u32) -> u32 {
+fn call_listing(
+    rt: &impl Print,
+    tally: &mut Tally,
+    rec: &Record,
+    job: &Job,
+    page: &mut Page,
+    seed: u32,
+) -> u32 {
     let a = xorshift(seed);
     let b = xorshift(a);
     let mut output = [90u8; 66000];
     let length = listed(rec, page);
     let w = check_listing(&only_wired(rec, job), shown(page, length));
-    hold(tally, w.fault == LEGAL, b"the listing is legal");
+    hold(rt, tally, w.fault == LEGAL, b"the listing is legal");
     let n = pick_length(a, 32768, 32800);
     let m = pick_length(b, length, 66000);
     let answer = list_on(first(rec, n), &mut output, m);
     let expected = expect_write(n, m, length);
-    hold_answer(tally, answer, expected, b"listing answers");
+    hold_answer(rt, tally, answer, expected, b"listing answers");
     hold_text(
+        rt,
         tally,
         &output,
         shown(page, length),
@@ -183,6 +213,7 @@ fn call_listing(tally: &mut Tally, rec: &Record, job: &Job, page: &mut Page, see
 
 // A call of this kind.
 fn call(
+    rt: &impl Print,
     tally: &mut Tally,
     found: &mut Found,
     kept: &mut Kept,
@@ -193,20 +224,20 @@ fn call(
     kind: usize,
 ) -> u32 {
     match kind {
-        0 => call_new(tally, rec, job, seed),
-        1 => call_read(tally, rec, job, seed),
-        2 => call_mark(tally, kept, rec, job, seed),
-        3 => call_close(tally, kept, rec, job, seed),
-        4 => call_step(tally, found, rec, job, page, seed),
-        5 => call_shortfall(tally, rec, job, seed),
-        6 => call_part(tally, rec, job, page, seed),
-        7 => call_write(tally, rec, job, seed),
-        9 => call_lay(tally, kept, rec, job, seed),
-        10 => call_trial(tally, rec, job, seed),
-        11 => call_diagonal(tally, kept, rec, job, seed),
-        12 => call_extra(tally, kept, rec, job, seed),
+        0 => call_new(rt, tally, rec, job, seed),
+        1 => call_read(rt, tally, rec, job, seed),
+        2 => call_mark(rt, tally, kept, rec, job, seed),
+        3 => call_close(rt, tally, kept, rec, job, seed),
+        4 => call_step(rt, tally, found, rec, job, page, seed),
+        5 => call_shortfall(rt, tally, rec, job, seed),
+        6 => call_part(rt, tally, rec, job, page, seed),
+        7 => call_write(rt, tally, rec, job, seed),
+        9 => call_lay(rt, tally, kept, rec, job, seed),
+        10 => call_trial(rt, tally, rec, job, seed),
+        11 => call_diagonal(rt, tally, kept, rec, job, seed),
+        12 => call_extra(rt, tally, kept, rec, job, seed),
         13 => make_old(rec, job, seed),
-        _ => call_listing(tally, rec, job, page, seed),
+        _ => call_listing(rt, tally, rec, job, page, seed),
     }
 }
 
@@ -281,6 +312,7 @@ fn note(direct: &mut Tally, rec: &Record) {
 
 // The k-th call; gives the generator's number afterwards.
 fn draw(
+    rt: &impl Print,
     tally: &mut Tally,
     found: &mut Found,
     direct: &mut Tally,
@@ -293,15 +325,16 @@ fn draw(
 ) -> u32 {
     let x = xorshift(seed);
     let wrong = tally[1];
-    let next = call(tally, found, kept, rec, job, page, x, kind_of(x, k));
+    let next = call(rt, tally, found, kept, rec, job, page, x, kind_of(x, k));
     if tally[1] != wrong {
-        line(b"in the random call", k as u64);
+        line(rt, b"in the random call", k as u64);
     }
     note(direct, rec);
     next
 }
 
 fn draw_all(
+    rt: &impl Print,
     tally: &mut Tally,
     found: &mut Found,
     direct: &mut Tally,
@@ -312,17 +345,30 @@ fn draw_all(
 ) {
     let mut seed = 88675123;
     for k in 0..6000 {
-        seed = draw(tally, found, direct, kept, rec, job, page, seed, k);
+        seed = draw(rt, tally, found, direct, kept, rec, job, page, seed, k);
     }
 }
 
 // A list of calls that starts with an accepted New. `direct` counts them: those after which some wire leaves its pin directly, and the others; `kept` the wires
 // that edits leave and take out; `found` what an "all wired" finds.
-pub fn calls(tally: &mut Tally, found: &mut Found, direct: &mut Tally, kept: &mut Kept) {
+pub fn calls(
+    rt: &impl Print,
+    tally: &mut Tally,
+    found: &mut Found,
+    direct: &mut Tally,
+    kept: &mut Kept,
+) {
     let mut page = [0u8; 1048576];
     let mut rec = [BEYOND; 32800];
     let mut job = fresh(4, 5, 2, 3, 1);
     let answer = service::new(&mut rec, 4, 5, 2, 3, 1);
-    hold(tally, compare::said::is(answer, DONE, 0), b"the first new");
-    draw_all(tally, found, direct, kept, &mut rec, &mut job, &mut page);
+    hold(
+        rt,
+        tally,
+        compare::said::is(answer, DONE, 0),
+        b"the first new",
+    );
+    draw_all(
+        rt, tally, found, direct, kept, &mut rec, &mut job, &mut page,
+    );
 }

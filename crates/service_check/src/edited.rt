@@ -42,20 +42,29 @@ const DIRECT: [u8; 59] = *b"(wires 1)\n(wire (pin 0 1) (out p 0))\n(length 0)\n(
 const NONE: [u8; 32] = *b"(wires 0)\n(length 0)\n(mean 0 0)\n";
 
 // The record has these wires.
-fn leaves(tally: &mut Tally, rec: &Bytes, wires: &[u8]) {
+fn leaves(rt: &impl Print, tally: &mut Tally, rec: &Bytes, wires: &[u8]) {
     let mut page: Page = [0u8; 1048576];
     let n = listed(rec, &mut page);
-    hold(tally, same(shown(&page, n), wires), wires);
+    hold(rt, tally, same(shown(&page, n), wires), wires);
 }
 
 // An edit of a pin leaves these wires.
-fn mark(tally: &mut Tally, rec: &mut Bytes, row: usize, column: usize, value: usize, wires: &[u8]) {
+fn mark(
+    rt: &impl Print,
+    tally: &mut Tally,
+    rec: &mut Bytes,
+    row: usize,
+    column: usize,
+    value: usize,
+    wires: &[u8],
+) {
     let answer = service::mark(rec, row, column, value);
-    hold(tally, is(answer, DONE, 0), b"an example of mark");
-    leaves(tally, rec, wires);
+    hold(rt, tally, is(answer, DONE, 0), b"an example of mark");
+    leaves(rt, tally, rec, wires);
 }
 
 fn close(
+    rt: &impl Print,
     tally: &mut Tally,
     rec: &mut Bytes,
     row: usize,
@@ -64,88 +73,95 @@ fn close(
     wires: &[u8],
 ) {
     let answer = service::close(rec, row, column, value);
-    hold(tally, is(answer, DONE, 0), b"an example of close");
-    leaves(tally, rec, wires);
+    hold(rt, tally, is(answer, DONE, 0), b"an example of close");
+    leaves(rt, tally, rec, wires);
 }
 
 // The side of tile 1 1 with this code.
-fn lay(tally: &mut Tally, rec: &mut Bytes, side: usize, count: usize, wires: &[u8]) {
+fn lay(
+    rt: &impl Print,
+    tally: &mut Tally,
+    rec: &mut Bytes,
+    side: usize,
+    count: usize,
+    wires: &[u8],
+) {
     let answer = service::lay(rec, 1, 1, side, count);
-    hold(tally, is(answer, DONE, 0), b"an example of lay");
-    leaves(tally, rec, wires);
+    hold(rt, tally, is(answer, DONE, 0), b"an example of lay");
+    leaves(rt, tally, rec, wires);
 }
 
 // The D of tile 1 1.
-fn give(tally: &mut Tally, rec: &mut Bytes, d: usize, wires: &[u8]) {
+fn give(rt: &impl Print, tally: &mut Tally, rec: &mut Bytes, d: usize, wires: &[u8]) {
     let answer = service::diagonal(rec, 1, 1, d);
-    hold(tally, is(answer, DONE, 0), b"an example of diagonal");
-    leaves(tally, rec, wires);
+    hold(rt, tally, is(answer, DONE, 0), b"an example of diagonal");
+    leaves(rt, tally, rec, wires);
 }
 
 // The record with its three wires.
-fn wired(tally: &mut Tally) -> Bytes {
+fn wired(rt: &impl Print, tally: &mut Tally) -> Bytes {
     let mut rec = [7u8; 32768];
-    read_into(tally, &mut rec, &CHANNEL);
-    steps(tally, &mut rec, ADDED);
-    steps(tally, &mut rec, ADDED);
-    steps(tally, &mut rec, ADDED);
-    leaves(tally, &rec, &ALL);
+    read_into(rt, tally, &mut rec, &CHANNEL);
+    steps(rt, tally, &mut rec, ADDED);
+    steps(rt, tally, &mut rec, ADDED);
+    steps(rt, tally, &mut rec, ADDED);
+    leaves(rt, tally, &rec, &ALL);
     rec
 }
 
 // Choosing an idle pin, making one missing and opening a tile take out none; nor does a count that leaves room, or a lower one.
-fn none_goes(tally: &mut Tally) {
-    let mut rec = wired(tally);
-    mark(tally, &mut rec, 2, 1, 1, &ALL);
-    mark(tally, &mut rec, 1, 1, 2, &ALL);
-    close(tally, &mut rec, 2, 2, 0, &ALL);
-    lay(tally, &mut rec, 1, 3, &ALL);
-    lay(tally, &mut rec, 1, 2, &ALL);
+fn none_goes(rt: &impl Print, tally: &mut Tally) {
+    let mut rec = wired(rt, tally);
+    mark(rt, tally, &mut rec, 2, 1, 1, &ALL);
+    mark(rt, tally, &mut rec, 1, 1, 2, &ALL);
+    close(rt, tally, &mut rec, 2, 2, 0, &ALL);
+    lay(rt, tally, &mut rec, 1, 3, &ALL);
+    lay(rt, tally, &mut rec, 1, 2, &ALL);
 }
 
 // The wire of an edited pin goes; chosen again, it takes one step to wire it.
-fn pin_goes(tally: &mut Tally) {
-    let mut rec = wired(tally);
-    mark(tally, &mut rec, 3, 1, 2, &WITHOUT_FIRST);
-    mark(tally, &mut rec, 3, 1, 1, &WITHOUT_FIRST);
-    steps(tally, &mut rec, ADDED);
-    steps(tally, &mut rec, ALL_WIRED);
+fn pin_goes(rt: &impl Print, tally: &mut Tally) {
+    let mut rec = wired(rt, tally);
+    mark(rt, tally, &mut rec, 3, 1, 2, &WITHOUT_FIRST);
+    mark(rt, tally, &mut rec, 3, 1, 1, &WITHOUT_FIRST);
+    steps(rt, tally, &mut rec, ADDED);
+    steps(rt, tally, &mut rec, ALL_WIRED);
 }
 
 // The highest lanes go, just enough; a lower count brings none back.
-fn lanes_go(tally: &mut Tally) {
-    let mut rec = wired(tally);
-    lay(tally, &mut rec, 0, 1, &WITHOUT_LAST);
-    lay(tally, &mut rec, 0, 2, &FIRST);
-    lay(tally, &mut rec, 0, 3, &NONE);
-    lay(tally, &mut rec, 0, 0, &NONE);
+fn lanes_go(rt: &impl Print, tally: &mut Tally) {
+    let mut rec = wired(rt, tally);
+    lay(rt, tally, &mut rec, 0, 1, &WITHOUT_LAST);
+    lay(rt, tally, &mut rec, 0, 2, &FIRST);
+    lay(rt, tally, &mut rec, 0, 3, &NONE);
+    lay(rt, tally, &mut rec, 0, 0, &NONE);
 }
 
 // The wires through a closed tile go: all but that of pin 2 2 through tile 2 1, and all through tile 1 1.
-fn tile_goes(tally: &mut Tally) {
-    let mut rec = wired(tally);
-    mark(tally, &mut rec, 3, 1, 0, &WITHOUT_FIRST);
-    close(tally, &mut rec, 2, 1, 1, &ONLY_LAST);
-    close(tally, &mut rec, 1, 1, 1, &NONE);
+fn tile_goes(rt: &impl Print, tally: &mut Tally) {
+    let mut rec = wired(rt, tally);
+    mark(rt, tally, &mut rec, 3, 1, 0, &WITHOUT_FIRST);
+    close(rt, tally, &mut rec, 2, 1, 1, &ONLY_LAST);
+    close(rt, tally, &mut rec, 1, 1, 1, &NONE);
 }
 
 // The D in force changes nothing; another, lower or higher, takes out the wire through the centre of the tile, and none that goes round it.
-fn middle_goes(tally: &mut Tally) {
-    let mut rec = wired(tally);
-    give(tally, &mut rec, 6, &ALL);
-    give(tally, &mut rec, 5, &WITHOUT_MIDDLE);
-    steps(tally, &mut rec, ADDED);
-    leaves(tally, &rec, &ALL);
-    give(tally, &mut rec, 5, &ALL);
-    give(tally, &mut rec, 6, &WITHOUT_MIDDLE);
+fn middle_goes(rt: &impl Print, tally: &mut Tally) {
+    let mut rec = wired(rt, tally);
+    give(rt, tally, &mut rec, 6, &ALL);
+    give(rt, tally, &mut rec, 5, &WITHOUT_MIDDLE);
+    steps(rt, tally, &mut rec, ADDED);
+    leaves(rt, tally, &rec, &ALL);
+    give(rt, tally, &mut rec, 5, &ALL);
+    give(rt, tally, &mut rec, 6, &WITHOUT_MIDDLE);
 }
 
 // The direct exit of a closed tile's corner pin stays.
-fn direct_stays(tally: &mut Tally) {
-    let mut rec = wired(tally);
-    mark(tally, &mut rec, 0, 1, 1, &ALL);
-    steps(tally, &mut rec, ADDED);
-    close(tally, &mut rec, 0, 1, 1, &DIRECT);
+fn direct_stays(rt: &impl Print, tally: &mut Tally) {
+    let mut rec = wired(rt, tally);
+    mark(rt, tally, &mut rec, 0, 1, 1, &ALL);
+    steps(rt, tally, &mut rec, ADDED);
+    close(rt, tally, &mut rec, 0, 1, 1, &DIRECT);
 }
 
 fn is_same(a: &Bytes, b: &Bytes) -> bool {
@@ -153,36 +169,37 @@ fn is_same(a: &Bytes, b: &Bytes) -> bool {
 }
 
 // The listing of the record ends so.
-fn ends(tally: &mut Tally, rec: &Bytes, total: &[u8]) {
+fn ends(rt: &impl Print, tally: &mut Tally, rec: &Bytes, total: &[u8]) {
     let mut page: Page = [0u8; 1048576];
     let n = listed(rec, &mut page);
     let from = std::num::wrapping_sub_usize(n, total.len());
-    hold(tally, same(rest(shown(&page, n), from), total), total);
+    hold(rt, tally, same(rest(shown(&page, n), from), total), total);
 }
 
 // A tile is opened to the east of the three wires: they stay as they are until a step says "all wired", which leaves 10 for the pins 2 2 and 3 2 and 20 for the pin
 // 3 1. The next one moves nothing.
-fn shortens(tally: &mut Tally) {
-    let mut rec = wired(tally);
-    close(tally, &mut rec, 2, 2, 0, &ALL);
-    ends(tally, &rec, b"(length 80)\n(mean 26 2)\n");
-    steps(tally, &mut rec, ALL_WIRED);
-    ends(tally, &rec, b"(length 40)\n(mean 13 1)\n");
+fn shortens(rt: &impl Print, tally: &mut Tally) {
+    let mut rec = wired(rt, tally);
+    close(rt, tally, &mut rec, 2, 2, 0, &ALL);
+    ends(rt, tally, &rec, b"(length 80)\n(mean 26 2)\n");
+    steps(rt, tally, &mut rec, ALL_WIRED);
+    ends(rt, tally, &rec, b"(length 40)\n(mean 13 1)\n");
     let before = rec;
-    steps(tally, &mut rec, ALL_WIRED);
+    steps(rt, tally, &mut rec, ALL_WIRED);
     hold(
+        rt,
         tally,
         is_same(&rec, &before),
         b"an example's next all wired",
     );
 }
 
-pub fn edited(tally: &mut Tally) {
-    none_goes(tally);
-    pin_goes(tally);
-    lanes_go(tally);
-    tile_goes(tally);
-    middle_goes(tally);
-    direct_stays(tally);
-    shortens(tally);
+pub fn edited(rt: &impl Print, tally: &mut Tally) {
+    none_goes(rt, tally);
+    pin_goes(rt, tally);
+    lanes_go(rt, tally);
+    tile_goes(rt, tally);
+    middle_goes(rt, tally);
+    direct_stays(rt, tally);
+    shortens(rt, tally);
 }

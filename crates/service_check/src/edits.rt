@@ -20,17 +20,24 @@ use service::Answer;
 use verdict::bytes::{Tally, hold};
 use verdict::record::{Record, holds_unwired, put_unwired};
 
-pub fn hold_answer(tally: &mut Tally, answer: Answer, expected: Said, what: &[u8]) {
-    hold(tally, agree(coded(answer), expected), what);
+pub fn hold_answer(
+    rt: &impl Print,
+    tally: &mut Tally,
+    answer: Answer,
+    expected: Said,
+    what: &[u8],
+) {
+    hold(rt, tally, agree(coded(answer), expected), what);
 }
 
 // The bytes of the record are as they were.
-pub fn hold_same(tally: &mut Tally, before: &Record, rec: &Record) {
-    hold(tally, same(before, rec), b"a call that changes nothing");
+pub fn hold_same(rt: &impl Print, tally: &mut Tally, before: &Record, rec: &Record) {
+    hold(rt, tally, same(before, rec), b"a call that changes nothing");
 }
 
 // The job is a new one, with no wire, where the call is accepted.
 fn hold_anew(
+    rt: &impl Print,
     tally: &mut Tally,
     before: &Record,
     rec: &Record,
@@ -40,13 +47,19 @@ fn hold_anew(
 ) {
     if accepted {
         *job = *other;
-        hold(tally, holds_unwired(rec, job), b"a new job");
+        hold(rt, tally, holds_unwired(rec, job), b"a new job");
     } else {
-        hold_same(tally, before, rec);
+        hold_same(rt, tally, before, rec);
     }
 }
 
-pub fn call_new(tally: &mut Tally, rec: &mut Record, job: &mut Job, seed: u32) -> u32 {
+pub fn call_new(
+    rt: &impl Print,
+    tally: &mut Tally,
+    rec: &mut Record,
+    job: &mut Job,
+    seed: u32,
+) -> u32 {
     let a = xorshift(seed);
     let b = xorshift(a);
     let c = xorshift(b);
@@ -63,12 +76,18 @@ pub fn call_new(tally: &mut Tally, rec: &mut Record, job: &mut Job, seed: u32) -
     let answer = new_on(rec, n, rows, columns, side, diagonal, extra);
     let expected = expect_new(n, rows, columns, side, diagonal, extra);
     let other = fresh(rows, columns, side, diagonal, extra);
-    hold_answer(tally, answer, expected, b"new answers");
-    hold_anew(tally, &before, rec, job, &other, expected.kind == DONE);
+    hold_answer(rt, tally, answer, expected, b"new answers");
+    hold_anew(rt, tally, &before, rec, job, &other, expected.kind == DONE);
     f
 }
 
-pub fn call_read(tally: &mut Tally, rec: &mut Record, job: &mut Job, seed: u32) -> u32 {
+pub fn call_read(
+    rt: &impl Print,
+    tally: &mut Tally,
+    rec: &mut Record,
+    job: &mut Job,
+    seed: u32,
+) -> u32 {
     let mut sheet = [0u8; 262144];
     let mut other = blank();
     let x = random_job(seed, 10, &mut other);
@@ -80,12 +99,13 @@ pub fn call_read(tally: &mut Tally, rec: &mut Record, job: &mut Job, seed: u32) 
     let before = *rec;
     let answer = read_on(rec, n, held(&sheet, m));
     let expected = expect_read(n, reading);
-    hold_answer(tally, answer, expected, b"read text answers");
-    hold_anew(tally, &before, rec, job, &other, expected.kind == DONE);
+    hold_answer(rt, tally, answer, expected, b"read text answers");
+    hold_anew(rt, tally, &before, rec, job, &other, expected.kind == DONE);
     y
 }
 
 pub fn call_mark(
+    rt: &impl Print,
     tally: &mut Tally,
     kept: &mut Kept,
     rec: &mut Record,
@@ -97,11 +117,12 @@ pub fn call_mark(
     let before = *rec;
     let answer = mark_on(rec, at.n, at.row, at.column, value);
     let expected = expect_mark(job, at.n, at.row, at.column, value);
-    hold_answer(tally, answer, expected, b"mark answers");
+    hold_answer(rt, tally, answer, expected, b"mark answers");
     let old = mark_at(job, at.row, at.column);
     if expected.kind == DONE && old != value {
         set_mark(job, cell(at.row, at.column), value);
         hold_kept(
+            rt,
             tally,
             kept,
             &before,
@@ -110,12 +131,13 @@ pub fn call_mark(
             marking(at.row, at.column, old, value),
         );
     } else {
-        hold_same(tally, &before, rec);
+        hold_same(rt, tally, &before, rec);
     }
     at.next
 }
 
 pub fn call_close(
+    rt: &impl Print,
     tally: &mut Tally,
     kept: &mut Kept,
     rec: &mut Record,
@@ -127,10 +149,11 @@ pub fn call_close(
     let before = *rec;
     let answer = close_on(rec, at.n, at.row, at.column, value);
     let expected = expect_close(job, at.n, at.row, at.column, value);
-    hold_answer(tally, answer, expected, b"close answers");
+    hold_answer(rt, tally, answer, expected, b"close answers");
     if expected.kind == DONE && state_at(job, at.row, at.column) != value {
         set_state(job, cell(at.row, at.column), value);
         hold_kept(
+            rt,
             tally,
             kept,
             &before,
@@ -139,13 +162,14 @@ pub fn call_close(
             closing(at.row, at.column, value),
         );
     } else {
-        hold_same(tally, &before, rec);
+        hold_same(rt, tally, &before, rec);
     }
     at.next
 }
 
 // The wires already laid on a side of a tile.
 pub fn call_lay(
+    rt: &impl Print,
     tally: &mut Tally,
     kept: &mut Kept,
     rec: &mut Record,
@@ -160,11 +184,12 @@ pub fn call_lay(
     let before = *rec;
     let answer = lay_on(rec, at.n, at.row, at.column, side, count);
     let expected = expect_lay(job, at.n, at.row, at.column, side, count);
-    hold_answer(tally, answer, expected, b"lay answers");
+    hold_answer(rt, tally, answer, expected, b"lay answers");
     let old = laid(job, at.row, at.column, letter);
     if expected.kind == DONE && old != count {
         set_laid(job, at.row, at.column, letter, count);
         hold_kept(
+            rt,
             tally,
             kept,
             &before,
@@ -173,13 +198,14 @@ pub fn call_lay(
             laying(job, at.row, at.column, letter, old, count),
         );
     } else {
-        hold_same(tally, &before, rec);
+        hold_same(rt, tally, &before, rec);
     }
     x
 }
 
 // The D of a tile: mostly from O to twice O.
 pub fn call_diagonal(
+    rt: &impl Print,
     tally: &mut Tally,
     kept: &mut Kept,
     rec: &mut Record,
@@ -193,12 +219,13 @@ pub fn call_diagonal(
     let before = *rec;
     let answer = diagonal_on(rec, at.n, at.row, at.column, d);
     let expected = expect_diagonal(job, at.n, at.row, at.column, d);
-    hold_answer(tally, answer, expected, b"diagonal answers");
+    hold_answer(rt, tally, answer, expected, b"diagonal answers");
     let p = cell(at.row, at.column);
     if expected.kind == DONE && figure(job, p) != d {
         let own = if d == number(job, DIAGONAL) { 0 } else { d };
         set_own(job, p, own);
         hold_kept(
+            rt,
             tally,
             kept,
             &before,
@@ -207,13 +234,14 @@ pub fn call_diagonal(
             giving(at.row, at.column, own),
         );
     } else {
-        hold_same(tally, &before, rec);
+        hold_same(rt, tally, &before, rec);
     }
     x
 }
 
 // A lower E: now and then the same, or a greater one.
 pub fn call_extra(
+    rt: &impl Print,
     tally: &mut Tally,
     kept: &mut Kept,
     rec: &mut Record,
@@ -228,12 +256,12 @@ pub fn call_extra(
     let before = *rec;
     let answer = extra_on(rec, n, e);
     let expected = expect_extra(job, n, e);
-    hold_answer(tally, answer, expected, b"extra answers");
+    hold_answer(rt, tally, answer, expected, b"extra answers");
     if expected.kind == DONE && e != old {
         set_number(job, EXTRA, e);
-        hold_kept(tally, kept, &before, rec, job, lowering(e));
+        hold_kept(rt, tally, kept, &before, rec, job, lowering(e));
     } else {
-        hold_same(tally, &before, rec);
+        hold_same(rt, tally, &before, rec);
     }
     b
 }
@@ -258,7 +286,13 @@ fn pick_percents(x: u32) -> Percents {
     }
 }
 
-pub fn call_trial(tally: &mut Tally, rec: &mut Record, job: &mut Job, seed: u32) -> u32 {
+pub fn call_trial(
+    rt: &impl Print,
+    tally: &mut Tally,
+    rec: &mut Record,
+    job: &mut Job,
+    seed: u32,
+) -> u32 {
     let a = xorshift(seed);
     let b = xorshift(a);
     let c = xorshift(b);
@@ -274,7 +308,7 @@ pub fn call_trial(tally: &mut Tally, rec: &mut Record, job: &mut Job, seed: u32)
     let expected = expect_trial(rows, columns, side, number, p);
     let mut other = fresh(rows, columns, side, side, 1);
     fill(&mut other, cut(number), p);
-    hold_answer(tally, answer, expected, b"trial answers");
-    hold_anew(tally, &before, rec, job, &other, expected.kind == DONE);
+    hold_answer(rt, tally, answer, expected, b"trial answers");
+    hold_anew(rt, tally, &before, rec, job, &other, expected.kind == DONE);
     xorshift(c)
 }

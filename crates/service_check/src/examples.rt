@@ -69,10 +69,10 @@ const ROUND: [u8; 135] =
     *b"(array (pins 3 4) (caps 1 2 1))\n(chosen 1 1)\n(closed 0 0)\n(closed 1 0)\n(closed 1 1)\n(laid 0 1 n 1)\n(laid 0 2 n 1)\n(laid 0 2 e 1)\n(end)\n";
 
 // Read text answers so, on a record of its own; the text stands for what came out wrong.
-fn reads(tally: &mut Tally, text: &[u8], kind: usize, number: usize) {
+fn reads(rt: &impl Print, tally: &mut Tally, text: &[u8], kind: usize, number: usize) {
     let mut rec = [7u8; 32768];
     let answer = service::read_text(&mut rec, text);
-    hold(tally, is(answer, kind, number), text);
+    hold(rt, tally, is(answer, kind, number), text);
 }
 
 // The offset at which the first n of the 64 bytes are refused: that of the last line that begins in them.
@@ -88,32 +88,32 @@ fn cut_at(n: usize) -> usize {
     }
 }
 
-fn stops(tally: &mut Tally, n: usize) {
+fn stops(rt: &impl Print, tally: &mut Tally, n: usize) {
     let text: &[u8] = &SIXTY_FOUR;
-    reads(tally, first(text, n), WRONG_TEXT, cut_at(n));
+    reads(rt, tally, first(text, n), WRONG_TEXT, cut_at(n));
 }
 
 // Every text that stops before its end.
-fn stops_all(tally: &mut Tally) {
+fn stops_all(rt: &impl Print, tally: &mut Tally) {
     for n in 0..64 {
-        stops(tally, n);
+        stops(rt, tally, n);
     }
 }
 
 // The 64 bytes, lines exchanged, no byte, a byte after the end, and a missing pin.
-fn texts(tally: &mut Tally) {
-    reads(tally, &SIXTY_FOUR, DONE, 0);
-    reads(tally, &EXCHANGED, WRONG_TEXT, 45);
-    reads(tally, b"", WRONG_TEXT, 0);
-    reads(tally, &AFTER, WRONG_TEXT, 64);
-    reads(tally, &MISSING, DONE, 0);
-    stops_all(tally);
+fn texts(rt: &impl Print, tally: &mut Tally) {
+    reads(rt, tally, &SIXTY_FOUR, DONE, 0);
+    reads(rt, tally, &EXCHANGED, WRONG_TEXT, 45);
+    reads(rt, tally, b"", WRONG_TEXT, 0);
+    reads(rt, tally, &AFTER, WRONG_TEXT, 64);
+    reads(rt, tally, &MISSING, DONE, 0);
+    stops_all(rt, tally);
 }
 
 // The router lists the text so.
-fn lists(tally: &mut Tally, text: &[u8], expected: &[u8], page: &mut Page) {
+fn lists(rt: &impl Print, tally: &mut Tally, text: &[u8], expected: &[u8], page: &mut Page) {
     let n = list_text(text, page);
-    hold(tally, same(shown(page, n), expected), expected);
+    hold(rt, tally, same(shown(page, n), expected), expected);
 }
 
 // The list begins and ends so.
@@ -123,20 +123,29 @@ fn frames(list: &[u8], count: &[u8], total: &[u8]) -> bool {
 }
 
 // The router's listing of the text begins and ends so, is legal, and of the least length.
-fn lists_least(tally: &mut Tally, text: &[u8], count: &[u8], total: &[u8], page: &mut Page) {
+fn lists_least(
+    rt: &impl Print,
+    tally: &mut Tally,
+    text: &[u8],
+    count: &[u8],
+    total: &[u8],
+    page: &mut Page,
+) {
     let mut job = blank();
     read_text(text, &mut job);
     let n = list_text(text, page);
     let w = check_least(&job, shown(page, n));
     hold(
+        rt,
         tally,
         frames(shown(page, n), count, total) && w.fault == LEGAL,
         text,
     );
 }
 
-fn lengths(tally: &mut Tally, page: &mut Page) {
+fn lengths(rt: &impl Print, tally: &mut Tally, page: &mut Page) {
     lists_least(
+        rt,
         tally,
         &THREE,
         b"(wires 3)\n",
@@ -144,6 +153,7 @@ fn lengths(tally: &mut Tally, page: &mut Page) {
         page,
     );
     lists_least(
+        rt,
         tally,
         &CROWDED,
         b"(wires 2)\n",
@@ -151,6 +161,7 @@ fn lengths(tally: &mut Tally, page: &mut Page) {
         page,
     );
     lists_least(
+        rt,
         tally,
         &PAST,
         b"(wires 1)\n",
@@ -158,6 +169,7 @@ fn lengths(tally: &mut Tally, page: &mut Page) {
         page,
     );
     lists_least(
+        rt,
         tally,
         &ROUND,
         b"(wires 1)\n",
@@ -166,21 +178,23 @@ fn lengths(tally: &mut Tally, page: &mut Page) {
     );
 }
 
-fn listings(tally: &mut Tally) {
+fn listings(rt: &impl Print, tally: &mut Tally) {
     let mut page = [0u8; 1048576];
-    lengths(tally, &mut page);
-    lists(tally, &FOUR, &FOUR_LISTED, &mut page);
+    lengths(rt, tally, &mut page);
+    lists(rt, tally, &FOUR, &FOUR_LISTED, &mut page);
     lists(
+        rt,
         tally,
         &SIXTY_FOUR,
         b"(wires 1)\n(wire (pin 0 0) (out p 0))\n(length 0)\n(mean 0 0)\n",
         &mut page,
     );
-    lists(tally, &SHUT, b"(short 1)\n(near pin 1 1)\n", &mut page);
-    lists(tally, &NARROW, &NARROW_LISTED, &mut page);
-    lists(tally, &RIM_MISSING, &RIM_MISSING_LISTED, &mut page);
-    lists(tally, &EXCHANGED, b"(refused 6 45)\n", &mut page);
+    lists(rt, tally, &SHUT, b"(short 1)\n(near pin 1 1)\n", &mut page);
+    lists(rt, tally, &NARROW, &NARROW_LISTED, &mut page);
+    lists(rt, tally, &RIM_MISSING, &RIM_MISSING_LISTED, &mut page);
+    lists(rt, tally, &EXCHANGED, b"(refused 6 45)\n", &mut page);
     lists(
+        rt,
         tally,
         &MISSING,
         b"(wires 0)\n(length 0)\n(mean 0 0)\n",
@@ -190,6 +204,7 @@ fn listings(tally: &mut Tally) {
 
 // New answers so.
 fn news(
+    rt: &impl Print,
     tally: &mut Tally,
     rows: usize,
     columns: usize,
@@ -200,95 +215,110 @@ fn news(
 ) {
     let mut rec = [7u8; 32768];
     let answer = service::new(&mut rec, rows, columns, o, d, e);
-    hold(tally, agree(coded(answer), expected), b"an example of new");
+    hold(
+        rt,
+        tally,
+        agree(coded(answer), expected),
+        b"an example of new",
+    );
 }
 
 // The least and the greatest, and what is past them.
-fn ranges(tally: &mut Tally) {
+fn ranges(rt: &impl Print, tally: &mut Tally) {
     let done = say(DONE, 0);
     let array = say(REFUSED, 2);
     let caps = say(REFUSED, 3);
-    news(tally, 40, 40, 1, 1, 0, done);
-    news(tally, 1, 2, 1, 1, 0, array);
-    news(tally, 41, 2, 1, 1, 0, array);
-    news(tally, 2, 2, 8, 16, 16, done);
-    news(tally, 2, 2, 2, 5, 0, caps);
-    news(tally, 2, 2, 2, 1, 0, caps);
+    news(rt, tally, 40, 40, 1, 1, 0, done);
+    news(rt, tally, 1, 2, 1, 1, 0, array);
+    news(rt, tally, 41, 2, 1, 1, 0, array);
+    news(rt, tally, 2, 2, 8, 16, 16, done);
+    news(rt, tally, 2, 2, 2, 5, 0, caps);
+    news(rt, tally, 2, 2, 2, 1, 0, caps);
 }
 
 // The text is read into the record.
-pub fn read_into(tally: &mut Tally, rec: &mut [u8; 32768], text: &[u8]) {
+pub fn read_into(rt: &impl Print, tally: &mut Tally, rec: &mut [u8; 32768], text: &[u8]) {
     let answer = service::read_text(rec, text);
-    hold(tally, is(answer, DONE, 0), text);
+    hold(rt, tally, is(answer, DONE, 0), text);
 }
 
 // The next step answers so.
-pub fn steps(tally: &mut Tally, rec: &mut [u8; 32768], kind: usize) {
+pub fn steps(rt: &impl Print, tally: &mut Tally, rec: &mut [u8; 32768], kind: usize) {
     let mut scratch = [0u8; 65536];
     let answer = service::step(rec, &mut scratch);
-    hold(tally, is(answer, kind, 0), b"an example's step");
+    hold(rt, tally, is(answer, kind, 0), b"an example's step");
 }
 
 // Shortfall says what the job lacks, and the output, of bytes 2 before, is then this.
-fn lacks(tally: &mut Tally, rec: &[u8; 32768], number: usize, near: &[u8; 32768]) {
+fn lacks(rt: &impl Print, tally: &mut Tally, rec: &[u8; 32768], number: usize, near: &[u8; 32768]) {
     let mut scratch = [0u8; 65536];
     let mut mine = [2u8; 32768];
     let answer = service::shortfall(rec, &mut scratch, &mut mine);
-    hold(tally, is(answer, LACKS, number), b"an example's shortfall");
-    hold(tally, same(&mine, near), b"an example's near side");
+    hold(
+        rt,
+        tally,
+        is(answer, LACKS, number),
+        b"an example's shortfall",
+    );
+    hold(rt, tally, same(&mine, near), b"an example's near side");
 }
 
 // Part answers so of the pin 0 0 at the index.
-fn part_is(tally: &mut Tally, rec: &[u8; 32768], index: usize, expected: &[u8]) {
+fn part_is(rt: &impl Print, tally: &mut Tally, rec: &[u8; 32768], index: usize, expected: &[u8]) {
     let mut sheet = [0u8; 262144];
     let n = put_listed(&mut sheet, 0, service::part(rec, 0, 0, index));
-    hold(tally, same(held(&sheet, n), expected), b"an example's part");
+    hold(
+        rt,
+        tally,
+        same(held(&sheet, n), expected),
+        b"an example's part",
+    );
 }
 
 // The 64 bytes: one "added", and the pin leaves directly.
-fn sixty_four(tally: &mut Tally) {
+fn sixty_four(rt: &impl Print, tally: &mut Tally) {
     let mut rec = [7u8; 32768];
-    read_into(tally, &mut rec, &SIXTY_FOUR);
-    part_is(tally, &rec, 0, b"unwired");
-    steps(tally, &mut rec, ADDED);
-    steps(tally, &mut rec, ALL_WIRED);
-    lacks(tally, &rec, 0, &[2u8; 32768]);
-    part_is(tally, &rec, 0, b" (out p 0)");
-    part_is(tally, &rec, 1, b"past");
-    part_is(tally, &rec, 18446744073709551615, b"past");
+    read_into(rt, tally, &mut rec, &SIXTY_FOUR);
+    part_is(rt, tally, &rec, 0, b"unwired");
+    steps(rt, tally, &mut rec, ADDED);
+    steps(rt, tally, &mut rec, ALL_WIRED);
+    lacks(rt, tally, &rec, 0, &[2u8; 32768]);
+    part_is(rt, tally, &rec, 0, b" (out p 0)");
+    part_is(rt, tally, &rec, 1, b"past");
+    part_is(rt, tally, &rec, 18446744073709551615, b"past");
 }
 
 // Nothing chosen: all wired, never "added", and no near side.
-fn nothing(tally: &mut Tally) {
+fn nothing(rt: &impl Print, tally: &mut Tally) {
     let mut rec = [7u8; 32768];
-    read_into(tally, &mut rec, &MISSING);
-    steps(tally, &mut rec, ALL_WIRED);
-    lacks(tally, &rec, 0, &[2u8; 32768]);
+    read_into(rt, tally, &mut rec, &MISSING);
+    steps(rt, tally, &mut rec, ALL_WIRED);
+    lacks(rt, tally, &rec, 0, &[2u8; 32768]);
 }
 
 // Three pins and one tile, two of the pins on the rim: three "added".
-fn three(tally: &mut Tally) {
+fn three(rt: &impl Print, tally: &mut Tally) {
     let mut rec = [7u8; 32768];
-    read_into(tally, &mut rec, &THREE);
-    steps(tally, &mut rec, ADDED);
-    steps(tally, &mut rec, ADDED);
-    steps(tally, &mut rec, ADDED);
-    steps(tally, &mut rec, ALL_WIRED);
-    lacks(tally, &rec, 0, &[2u8; 32768]);
+    read_into(rt, tally, &mut rec, &THREE);
+    steps(rt, tally, &mut rec, ADDED);
+    steps(rt, tally, &mut rec, ADDED);
+    steps(rt, tally, &mut rec, ADDED);
+    steps(rt, tally, &mut rec, ALL_WIRED);
+    lacks(rt, tally, &rec, 0, &[2u8; 32768]);
 }
 
 // Every tile closed: short 1, only the inner pin near.
-fn shut(tally: &mut Tally) {
+fn shut(rt: &impl Print, tally: &mut Tally) {
     let mut rec = [7u8; 32768];
     let mut near = [0u8; 32768];
     near[657] = 1;
-    read_into(tally, &mut rec, &SHUT);
-    steps(tally, &mut rec, SHORT);
-    lacks(tally, &rec, 1, &near);
+    read_into(rt, tally, &mut rec, &SHUT);
+    steps(rt, tally, &mut rec, SHORT);
+    lacks(rt, tally, &rec, 1, &near);
 }
 
 // One wire through the centre: one "added", short 1; near are both pins and s, w, ci of tile 0 1.
-fn narrow(tally: &mut Tally) {
+fn narrow(rt: &impl Print, tally: &mut Tally) {
     let mut rec = [7u8; 32768];
     let mut near = [0u8; 32768];
     near[340] = 1;
@@ -296,19 +326,19 @@ fn narrow(tally: &mut Tally) {
     near[342] = 1;
     near[657] = 1;
     near[665] = 1;
-    read_into(tally, &mut rec, &NARROW);
-    steps(tally, &mut rec, ADDED);
-    steps(tally, &mut rec, SHORT);
-    lacks(tally, &rec, 1, &near);
+    read_into(rt, tally, &mut rec, &NARROW);
+    steps(rt, tally, &mut rec, ADDED);
+    steps(rt, tally, &mut rec, SHORT);
+    lacks(rt, tally, &rec, 1, &near);
 }
 
-pub fn examples(tally: &mut Tally) {
-    texts(tally);
-    listings(tally);
-    ranges(tally);
-    sixty_four(tally);
-    nothing(tally);
-    three(tally);
-    shut(tally);
-    narrow(tally);
+pub fn examples(rt: &impl Print, tally: &mut Tally) {
+    texts(rt, tally);
+    listings(rt, tally);
+    ranges(rt, tally);
+    sixty_four(rt, tally);
+    nothing(rt, tally);
+    three(rt, tally);
+    shut(rt, tally);
+    narrow(rt, tally);
 }

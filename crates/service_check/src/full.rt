@@ -18,9 +18,17 @@ use verdict::bytes::{Tally, hold, line};
 use verdict::record::{BEYOND, Record, count_wires, legal};
 
 // Where no wire lacks, those of the record have the least length.
-fn hold_least(tally: &mut Tally, rec: &Record, job: &Job, missed: usize, page: &mut Page) {
+fn hold_least(
+    rt: &impl Print,
+    tally: &mut Tally,
+    rec: &Record,
+    job: &Job,
+    missed: usize,
+    page: &mut Page,
+) {
     if missed == 0 {
         hold(
+            rt,
             tally,
             length_of(rec, job, page) == least_length(job),
             b"the route after edits has the least length",
@@ -29,27 +37,30 @@ fn hold_least(tally: &mut Tally, rec: &Record, job: &Job, missed: usize, page: &
 }
 
 // All wires that fit are laid beside those that stand: as many lack as by the oracle.
-fn refill(tally: &mut Tally, rec: &mut Record, job: &Job, page: &mut Page) {
+fn refill(rt: &impl Print, tally: &mut Tally, rec: &mut Record, job: &Job, page: &mut Page) {
     let mut near = [0u8; 32768];
     let mut mine = [0u8; 32768];
     let missed = shortfall(job, &mut near);
-    hold(tally, legal(rec), b"the record after edits is legal");
+    hold(rt, tally, legal(rec), b"the record after edits is legal");
     hold(
+        rt,
         tally,
         routed(rec, &mut mine) == missed,
         b"the route after edits lacks",
     );
     let n = std::num::wrapping_add_usize(count_wires(rec), missed);
     hold(
+        rt,
         tally,
         n == count_marked(job, CHOSEN),
         b"the route after edits has its wires",
     );
-    hold_least(tally, rec, job, missed, page);
+    hold_least(rt, tally, rec, job, missed, page);
 }
 
 // One step; says whether it has to add a wire.
 fn step(
+    rt: &impl Print,
     tally: &mut Tally,
     found: &mut Found,
     rec: &mut Record,
@@ -61,30 +72,44 @@ fn step(
     let before = *rec;
     let answer = service::step(rec, &mut scratch);
     let expected = expect_step(job, 32800, 65536, count_wires(&before), missed);
-    hold_answer(tally, answer, expected, b"step answers after edits");
-    hold_step(tally, found, &before, rec, job, expected.kind, page);
+    hold_answer(rt, tally, answer, expected, b"step answers after edits");
+    hold_step(rt, tally, found, &before, rec, job, expected.kind, page);
     expected.kind == ADDED
 }
 
 // Steps until one adds no wire, at most eight.
-fn step_out(tally: &mut Tally, found: &mut Found, rec: &mut Record, job: &Job, page: &mut Page) {
+fn step_out(
+    rt: &impl Print,
+    tally: &mut Tally,
+    found: &mut Found,
+    rec: &mut Record,
+    job: &Job,
+    page: &mut Page,
+) {
     let mut near = [0u8; 32768];
     let missed = shortfall(job, &mut near);
     let mut turns: u64 = 8;
-    while turns > 0 && step(tally, found, rec, job, page, missed) {
+    while turns > 0 && step(rt, tally, found, rec, job, page, missed) {
         turns -= 1;
     }
 }
 
 // An edit at random; gives the generator's number afterwards.
-fn edit(tally: &mut Tally, kept: &mut Kept, rec: &mut Record, job: &mut Job, seed: u32) -> u32 {
+fn edit(
+    rt: &impl Print,
+    tally: &mut Tally,
+    kept: &mut Kept,
+    rec: &mut Record,
+    job: &mut Job,
+    seed: u32,
+) -> u32 {
     let x = xorshift(seed);
     match below(x, 16) {
-        0..=3 => call_mark(tally, kept, rec, job, x),
-        4..=7 => call_close(tally, kept, rec, job, x),
-        8..=11 => call_diagonal(tally, kept, rec, job, x),
-        12 => call_extra(tally, kept, rec, job, x),
-        _ => call_lay(tally, kept, rec, job, x),
+        0..=3 => call_mark(rt, tally, kept, rec, job, x),
+        4..=7 => call_close(rt, tally, kept, rec, job, x),
+        8..=11 => call_diagonal(rt, tally, kept, rec, job, x),
+        12 => call_extra(rt, tally, kept, rec, job, x),
+        _ => call_lay(rt, tally, kept, rec, job, x),
     }
 }
 
@@ -98,6 +123,7 @@ fn is_turn(k: usize, often: usize) -> bool {
 
 // The k-th edit. Steps follow every `often`, and the wires that fit every 4 `often`.
 fn draw(
+    rt: &impl Print,
     tally: &mut Tally,
     found: &mut Found,
     kept: &mut Kept,
@@ -109,20 +135,21 @@ fn draw(
     k: usize,
 ) -> u32 {
     let wrong = tally[1];
-    let next = edit(tally, kept, rec, job, seed);
+    let next = edit(rt, tally, kept, rec, job, seed);
     if is_turn(k, often) {
-        step_out(tally, found, rec, job, page);
+        step_out(rt, tally, found, rec, job, page);
     }
     if is_turn(k / 4, often) && k % 4 == 3 {
-        refill(tally, rec, job, page);
+        refill(rt, tally, rec, job, page);
     }
     if tally[1] != wrong {
-        line(b"in the edit of a full record", k as u64);
+        line(rt, b"in the edit of a full record", k as u64);
     }
     next
 }
 
 fn draw_all(
+    rt: &impl Print,
     tally: &mut Tally,
     found: &mut Found,
     kept: &mut Kept,
@@ -135,13 +162,14 @@ fn draw_all(
 ) -> u32 {
     let mut x = seed;
     for k in 0..n {
-        x = draw(tally, found, kept, rec, job, page, often, x, k);
+        x = draw(rt, tally, found, kept, rec, job, page, often, x, k);
     }
     x
 }
 
 // Reads the job, lays its wires and makes n edits, with steps every `often`; gives the generator's number afterwards.
 fn edit_full(
+    rt: &impl Print,
     tally: &mut Tally,
     found: &mut Found,
     kept: &mut Kept,
@@ -155,12 +183,15 @@ fn edit_full(
     let mut rec = [BEYOND; 32800];
     let length = write_text(job, &mut sheet);
     hold(
+        rt,
         tally,
         is(service::read_text(&mut rec, held(&sheet, length)), DONE, 0),
         b"the full job is read",
     );
-    refill(tally, &mut rec, job, &mut page);
-    draw_all(tally, found, kept, &mut rec, job, &mut page, often, seed, n)
+    refill(rt, tally, &mut rec, job, &mut page);
+    draw_all(
+        rt, tally, found, kept, &mut rec, job, &mut page, often, seed, n,
+    )
 }
 
 fn percents(chosen: usize, missing: usize, closed: usize) -> Percents {
@@ -172,48 +203,66 @@ fn percents(chosen: usize, missing: usize, closed: usize) -> Percents {
 }
 
 // Edits of a job whose sides take one wire each, so that many wires pass missing pins.
-fn edit_narrow(tally: &mut Tally, found: &mut Found, kept: &mut Kept, seed: u32) -> u32 {
+fn edit_narrow(
+    rt: &impl Print,
+    tally: &mut Tally,
+    found: &mut Found,
+    kept: &mut Kept,
+    seed: u32,
+) -> u32 {
     let mut job = trial_job(14, 14, 1, 2, 2, seed, percents(30, 60, 0));
-    edit_full(tally, found, kept, &mut job, 4, seed, 8)
+    edit_full(rt, tally, found, kept, &mut job, 4, seed, 8)
 }
 
 // Edits of a random job of at most 14 rows and columns, on some of whose sides wires are already laid, and of a narrow one.
-fn edit_random(tally: &mut Tally, found: &mut Found, kept: &mut Kept, seed: u32) -> u32 {
+fn edit_random(
+    rt: &impl Print,
+    tally: &mut Tally,
+    found: &mut Found,
+    kept: &mut Kept,
+    seed: u32,
+) -> u32 {
     let mut job = blank();
     let x = random_job(seed, 14, &mut job);
     let y = random_laid(x, 100, &mut job);
-    let z = edit_full(tally, found, kept, &mut job, 4, y, 48);
-    edit_narrow(tally, found, kept, z)
+    let z = edit_full(rt, tally, found, kept, &mut job, 4, y, 48);
+    edit_narrow(rt, tally, found, kept, z)
 }
 
-fn random_jobs(tally: &mut Tally, found: &mut Found, kept: &mut Kept) {
+fn random_jobs(rt: &impl Print, tally: &mut Tally, found: &mut Found, kept: &mut Kept) {
     let mut seed = 521288629;
     for k in 0..60usize {
-        seed = edit_random(tally, found, kept, seed);
+        seed = edit_random(rt, tally, found, kept, seed);
     }
 }
 
 // Edits of a job of 12 by 12 pins with few exits, in which wires go round what edits open.
-fn edit_crowded(tally: &mut Tally, found: &mut Found, kept: &mut Kept, seed: u32) -> u32 {
+fn edit_crowded(
+    rt: &impl Print,
+    tally: &mut Tally,
+    found: &mut Found,
+    kept: &mut Kept,
+    seed: u32,
+) -> u32 {
     let mut job = trial_job(12, 12, 2, 3, 1, seed, percents(25, 10, 10));
-    edit_full(tally, found, kept, &mut job, 2, seed, 48)
+    edit_full(rt, tally, found, kept, &mut job, 2, seed, 48)
 }
 
-fn crowded_jobs(tally: &mut Tally, found: &mut Found, kept: &mut Kept) {
+fn crowded_jobs(rt: &impl Print, tally: &mut Tally, found: &mut Found, kept: &mut Kept) {
     let mut seed = 88675123;
     for k in 0..24usize {
-        seed = edit_crowded(tally, found, kept, seed);
+        seed = edit_crowded(rt, tally, found, kept, seed);
     }
 }
 
 // Random, narrow and crowded jobs; and jobs of 40 by 40 pins: with wide channels, short, and with wires that pass many missing pins. `found` counts what an "all wired" finds.
-pub fn full(tally: &mut Tally, found: &mut Found, kept: &mut Kept) {
-    random_jobs(tally, found, kept);
-    crowded_jobs(tally, found, kept);
+pub fn full(rt: &impl Print, tally: &mut Tally, found: &mut Found, kept: &mut Kept) {
+    random_jobs(rt, tally, found, kept);
+    crowded_jobs(rt, tally, found, kept);
     let mut wide = trial_job(40, 40, 8, 12, 4, 1, percents(60, 10, 0));
-    let a = edit_full(tally, found, kept, &mut wide, 40, 1, 240);
+    let a = edit_full(rt, tally, found, kept, &mut wide, 40, 1, 240);
     let mut short = trial_job(40, 40, 3, 5, 2, 1, percents(30, 5, 5));
-    let b = edit_full(tally, found, kept, &mut short, 40, a, 240);
+    let b = edit_full(rt, tally, found, kept, &mut short, 40, a, 240);
     let mut holed = trial_job(40, 40, 2, 4, 4, 1, percents(20, 75, 0));
-    edit_full(tally, found, kept, &mut holed, 40, b, 480);
+    edit_full(rt, tally, found, kept, &mut holed, 40, b, 480);
 }

@@ -330,16 +330,16 @@ fn note(kept: &mut Kept, edit: Edit, s: Compared) {
     add(kept, 8, if s.go > 0 { 1 } else { 0 });
 }
 
-pub fn tell_kept(kept: &Kept) {
-    line(b"edits that leave wires", kept[7]);
-    line(b"edits that take out wires", kept[8]);
-    line(b"wires that stay", kept[0]);
-    line(b"wires that go, from their pin", kept[1]);
-    line(b"wires that go, past a missing pin", kept[2]);
-    line(b"wires that go, through a closed tile", kept[3]);
-    line(b"wires that go, in the highest lanes", kept[4]);
-    line(b"wires that go, through a centre", kept[5]);
-    line(b"wires that go, where E is lowered", kept[6]);
+pub fn tell_kept(rt: &impl Print, kept: &Kept) {
+    line(rt, b"edits that leave wires", kept[7]);
+    line(rt, b"edits that take out wires", kept[8]);
+    line(rt, b"wires that stay", kept[0]);
+    line(rt, b"wires that go, from their pin", kept[1]);
+    line(rt, b"wires that go, past a missing pin", kept[2]);
+    line(rt, b"wires that go, through a closed tile", kept[3]);
+    line(rt, b"wires that go, in the highest lanes", kept[4]);
+    line(rt, b"wires that go, through a centre", kept[5]);
+    line(rt, b"wires that go, where E is lowered", kept[6]);
 }
 
 fn put(rec: &mut Record, at: usize, value: usize) {
@@ -351,14 +351,15 @@ fn put(rec: &mut Record, at: usize, value: usize) {
 }
 
 // Every byte of the record is the expected one.
-fn hold_bytes(tally: &mut Tally, expected: &Record, rec: &Record) {
-    hold(tally, same(expected, rec), b"the record after an edit");
+fn hold_bytes(rt: &impl Print, tally: &mut Tally, expected: &Record, rec: &Record) {
+    hold(rt, tally, same(expected, rec), b"the record after an edit");
 }
 
 // The wires of the record are legal, in the job whose other pins are idle.
-fn hold_legal(tally: &mut Tally, rec: &Record, job: &Job, list: &[u8]) {
+fn hold_legal(rt: &impl Print, tally: &mut Tally, rec: &Record, job: &Job, list: &[u8]) {
     let w = check_listing(&only_wired(rec, job), list);
     hold(
+        rt,
         tally,
         w.fault == LEGAL,
         b"the wires after an edit are legal",
@@ -367,6 +368,7 @@ fn hold_legal(tally: &mut Tally, rec: &Record, job: &Job, list: &[u8]) {
 
 // The record after an edit that changes something: the job is the edited one, the wires that it takes out are gone, and every other is there.
 pub fn hold_kept(
+    rt: &impl Print,
     tally: &mut Tally,
     kept: &mut Kept,
     before: &Record,
@@ -382,13 +384,14 @@ pub fn hold_kept(
     let s = pass_all(&mut expected, shown(&was, n), shown(&now, m), edit);
     put(&mut expected, edit.at, edit.value);
     note(kept, edit, s);
-    hold(tally, s.right, b"an edit keeps the other wires");
-    hold_bytes(tally, &expected, rec);
-    hold(tally, holds_job(rec, job), b"the job after an edit");
+    hold(rt, tally, s.right, b"an edit keeps the other wires");
+    hold_bytes(rt, tally, &expected, rec);
+    hold(rt, tally, holds_job(rec, job), b"the job after an edit");
     hold(
+        rt,
         tally,
         s.go > 0 || same(shown(&was, n), shown(&now, m)),
         b"an edit that takes out no wire",
     );
-    hold_legal(tally, rec, job, shown(&now, m));
+    hold_legal(rt, tally, rec, job, shown(&now, m));
 }

@@ -1,6 +1,8 @@
 // Compares the operations call by call with the oracle, which shares no code with them: on the examples of document 01, on random lists of calls, and on edits of
 // large records that are full of wires. It writes what came out wrong, how many checks of each part are right and wrong, how often an "all wired" finds the least
 // length and how often a greater one, and how many wires edits leave and take out.
+#![tactic(auto)]
+
 mod calls; // random lists of calls
 mod draws; // random arguments
 mod edited; // the examples of K5 and K7
@@ -15,34 +17,34 @@ mod steps; // the parts and the links of a wire
 use compare::shortened::tell_found;
 use verdict::bytes::{line, tell};
 
-fn random_calls() {
+fn random_calls(rt: &impl Print) {
     let mut calls = [0u64; 2];
     let mut direct = [0u64; 2];
     let mut kept = [0u64; 9];
     let mut found = [0u64; 2];
-    calls::calls(&mut calls, &mut found, &mut direct, &mut kept);
-    tell(b"random calls", &calls);
-    tell_found(&found);
-    line(b"calls after which a wire leaves directly", direct[0]);
-    line(b"calls after which none does", direct[1]);
-    kept::tell_kept(&kept);
+    calls::calls(rt, &mut calls, &mut found, &mut direct, &mut kept);
+    tell(rt, b"random calls", &calls);
+    tell_found(rt, &found);
+    line(rt, b"calls after which a wire leaves directly", direct[0]);
+    line(rt, b"calls after which none does", direct[1]);
+    kept::tell_kept(rt, &kept);
 }
 
-fn full_records() {
+fn full_records(rt: &impl Print) {
     let mut full = [0u64; 2];
     let mut kept = [0u64; 9];
     let mut found = [0u64; 2];
-    full::full(&mut full, &mut found, &mut kept);
-    tell(b"edits of full records", &full);
-    tell_found(&found);
-    kept::tell_kept(&kept);
+    full::full(rt, &mut full, &mut found, &mut kept);
+    tell(rt, b"edits of full records", &full);
+    tell_found(rt, &found);
+    kept::tell_kept(rt, &kept);
 }
 
-fn main() {
+fn main(rt: HostRuntime) {
     let mut examples = [0u64; 2];
-    examples::examples(&mut examples);
-    edited::edited(&mut examples);
-    tell(b"examples", &examples);
-    random_calls();
-    full_records();
+    examples::examples(&rt, &mut examples);
+    edited::edited(&rt, &mut examples);
+    tell(&rt, b"examples", &examples);
+    random_calls(&rt);
+    full_records(&rt);
 }

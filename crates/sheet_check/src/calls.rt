@@ -161,8 +161,9 @@ fn lent_record(rec: &Record, n: usize) -> &[u8] {
 }
 
 // The operation says what the second implementation says.
-fn hold_said(tally: &mut Tally, rec: &Record, job: &Job, sheet: &[u8]) {
+fn hold_said(rt: &impl Print, tally: &mut Tally, rec: &Record, job: &Job, sheet: &[u8]) {
     hold(
+        rt,
         tally,
         said(rec, sheet) == judged(job, sheet),
         b"the verdict",
@@ -170,29 +171,30 @@ fn hold_said(tally: &mut Tally, rec: &Record, job: &Job, sheet: &[u8]) {
 }
 
 // The sheet with a byte changed, and the same with one more.
-fn changed(tally: &mut Tally, rec: &Record, job: &Job, sheet: &Sheet, x: u32) {
+fn changed(rt: &impl Print, tally: &mut Tally, rec: &Record, job: &Job, sheet: &Sheet, x: u32) {
     let mut other = *sheet;
     let y = xorshift(x);
     let z = xorshift(y);
     change(&mut other, y, z);
-    hold_said(tally, rec, job, lent(&other, length(x)));
+    hold_said(rt, tally, rec, job, lent(&other, length(x)));
     change(&mut other, z, xorshift(z));
-    hold_said(tally, rec, job, lent(&other, 9600));
+    hold_said(rt, tally, rec, job, lent(&other, 9600));
 }
 
 // Such sheets, several.
-fn several(tally: &mut Tally, rec: &Record, job: &Job, sheet: &Sheet, seed: u32) {
+fn several(rt: &impl Print, tally: &mut Tally, rec: &Record, job: &Job, sheet: &Sheet, seed: u32) {
     let mut x = seed;
     for _ in 0..6usize {
         x = xorshift(xorshift(xorshift(x)));
-        changed(tally, rec, job, sheet, x);
+        changed(rt, tally, rec, job, sheet, x);
     }
 }
 
 // The sheet of a record that has a wire for each chosen pin is carried, where O is 2 and no pin is missing.
-fn hold_carried(tally: &mut Tally, rec: &Record, all: bool, sheet: &[u8]) {
+fn hold_carried(rt: &impl Print, tally: &mut Tally, rec: &Record, all: bool, sheet: &[u8]) {
     let verdict = said(rec, sheet);
     hold(
+        rt,
         tally,
         !all || verdict == CARRIED || verdict == REFUSED + 14,
         b"the sheet of a wired record is carried",
@@ -200,43 +202,43 @@ fn hold_carried(tally: &mut Tally, rec: &Record, all: bool, sheet: &[u8]) {
 }
 
 // A record that is too short is refused.
-fn hold_short(tally: &mut Tally, rec: &Record, sheet: &[u8]) {
+fn hold_short(rt: &impl Print, tally: &mut Tally, rec: &Record, sheet: &[u8]) {
     let verdict = said(lent_record(rec, 32767), sheet);
-    hold(tally, verdict == REFUSED + 1, b"a short record");
+    hold(rt, tally, verdict == REFUSED + 1, b"a short record");
 }
 
 // The sheet on the job where every D is the least.
-fn lower(tally: &mut Tally, seed: u32, sheet: &[u8]) {
+fn lower(rt: &impl Print, tally: &mut Tally, seed: u32, sheet: &[u8]) {
     let job = draw(seed, true);
     let mut rec = [BEYOND; 32800];
     put_unwired(&mut rec, &job);
-    hold_said(tally, &rec, &job, sheet);
+    hold_said(rt, tally, &rec, &job, sheet);
 }
 
 // The sheet of a record and others beside it.
-fn sheets_of(tally: &mut Tally, rec: &Record, job: &Job, all: bool, seed: u32) {
+fn sheets_of(rt: &impl Print, tally: &mut Tally, rec: &Record, job: &Job, all: bool, seed: u32) {
     let sheet = sheet_of(rec);
     let whole = lent(&sheet, 9600);
-    hold_carried(tally, rec, all, whole);
-    hold_said(tally, rec, job, whole);
-    hold_short(tally, rec, whole);
-    lower(tally, seed, whole);
-    several(tally, rec, job, &sheet, seed);
+    hold_carried(rt, tally, rec, all, whole);
+    hold_said(rt, tally, rec, job, whole);
+    hold_short(rt, tally, rec, whole);
+    lower(rt, tally, seed, whole);
+    several(rt, tally, rec, job, &sheet, seed);
 }
 
 // A job wired, and its sheets.
-fn wired(tally: &mut Tally, seed: u32) {
+fn wired(rt: &impl Print, tally: &mut Tally, seed: u32) {
     let job = draw(seed, false);
     let mut rec = [BEYOND; 32800];
     put_unwired(&mut rec, &job);
     let all = wire(&mut rec);
-    sheets_of(tally, &rec, &job, all, seed);
+    sheets_of(rt, tally, &rec, &job, all, seed);
 }
 
-pub fn calls(tally: &mut Tally) {
+pub fn calls(rt: &impl Print, tally: &mut Tally) {
     let mut seed = 88675123;
     for _ in 0..400usize {
-        wired(tally, seed);
+        wired(rt, tally, seed);
         seed = xorshift(xorshift(xorshift(seed)));
     }
 }

@@ -2,9 +2,11 @@
 ghost use Rattle.std.specs.Prelude.{◌<◌};
 
 use crate::tile::least_passage;
-use crate::vectors::{held, load};
+use crate::vectors::held;
 use check::same;
+use files::load;
 use oracle_text::page::{Page, byte, decimal, word};
+use std::rt::Files;
 use verdict::bytes::{Tally, hold, span, wide};
 
 // The least D that carries the amounts, else 5.
@@ -56,7 +58,14 @@ fn between(at: usize, end: usize) -> usize {
 }
 
 // Entry i, whose line begins at `at`; gives where the next begins.
-fn entry(tally: &mut Tally, text: &Page, mine: &mut Page, at: usize, i: usize) -> usize {
+fn entry(
+    rt: &impl Print,
+    tally: &mut Tally,
+    text: &Page,
+    mine: &mut Page,
+    at: usize,
+    i: usize,
+) -> usize {
     let n = digit(i, 216);
     let e = digit(i, 36);
     let s = digit(i, 6);
@@ -64,30 +73,32 @@ fn entry(tally: &mut Tally, text: &Page, mine: &mut Page, at: usize, i: usize) -
     let end = line(mine, at, n, e, s, w);
     let size = between(at, end);
     hold(
+        rt,
         tally,
         same(span(mine, at, size), span(text, at, size)),
         b"an entry of the second implementation",
     );
     let least = wide(sheets::entry(n, e, s, w));
-    hold(tally, least == least_figure(n, e, s, w), b"an entry");
+    hold(rt, tally, least == least_figure(n, e, s, w), b"an entry");
     end
 }
 
 // Every entry; gives the length of the lines.
-fn entries(tally: &mut Tally, text: &Page, mine: &mut Page) -> usize {
+fn entries(rt: &impl Print, tally: &mut Tally, text: &Page, mine: &mut Page) -> usize {
     let mut at = 0;
     for i in 0..1296 {
-        at = entry(tally, text, mine, at, i);
+        at = entry(rt, tally, text, mine, at, i);
     }
     at
 }
 
-pub fn table(tally: &mut Tally) {
+pub fn table(rt: &(impl Files + Print + Eprint), tally: &mut Tally) {
     let mut text = [0u8; 262144];
     let mut mine = [0u8; 262144];
-    let n = load(b"table.txt", &mut text);
-    let m = entries(tally, &text, &mut mine);
+    let n = load(rt, b"table.txt", &mut text);
+    let m = entries(rt, tally, &text, &mut mine);
     hold(
+        rt,
         tally,
         same(held(&mine, m), held(&text, n)),
         b"the whole table",

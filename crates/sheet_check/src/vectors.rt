@@ -2,9 +2,11 @@
 use crate::judge::{CARRIED, REFUSED, judged, said};
 use answers::Answer;
 use check::same;
+use files::load;
 use oracle_text::job::blank;
 use oracle_text::page::{Page, byte, decimal, pair, word};
 use oracle_text::text::{ACCEPTED, read_text};
+use std::rt::Files;
 use verdict::bytes::{Tally, first, hold};
 
 // The first `n` bytes of the page.
@@ -13,26 +15,14 @@ pub fn held(page: &Page, n: usize) -> &[u8] {
     first(all, n)
 }
 
-// Reads the file, and gives its length.
-pub fn load(path: &[u8], page: &mut Page) -> usize {
-    let fd = os::open_read(path);
-    if fd < 0 {
-        os::fail(path);
-        return 0;
-    }
-    let n = io::read_full(fd, page);
-    libc::close(fd);
-    n
-}
-
 // Reads a file of the vector with the number k, of two digits.
-fn part(k: usize, kind: &[u8], page: &mut Page) -> usize {
+fn part(rt: &(impl Files + Eprint), k: usize, kind: &[u8], page: &mut Page) -> usize {
     let mut path = [0u8; 262144];
     let a = word(&mut path, 0, b"sheet");
     let b = if k < 10 { byte(&mut path, a, b'0') } else { a };
     let c = decimal(&mut path, b, k);
     let d = word(&mut path, c, kind);
-    load(held(&path, d), page)
+    load(rt, held(&path, d), page)
 }
 
 // A verdict in words.
@@ -50,10 +40,10 @@ fn words(out: &mut Page, verdict: usize) -> usize {
     byte(out, b, b'\n')
 }
 
-fn hold_words(tally: &mut Tally, verdict: usize, expect: &[u8], what: &[u8]) {
+fn hold_words(rt: &impl Print, tally: &mut Tally, verdict: usize, expect: &[u8], what: &[u8]) {
     let mut page = [0u8; 262144];
     let n = words(&mut page, verdict);
-    hold(tally, same(held(&page, n), expect), what);
+    hold(rt, tally, same(held(&page, n), expect), what);
 }
 
 // The record of the text; none where the text is refused.
@@ -65,20 +55,22 @@ fn read(text: &[u8], rec: &mut [u8; 32768]) -> bool {
 }
 
 // The operation's verdict on the sheet of a vector.
-fn ask(tally: &mut Tally, rec: &[u8; 32768], sheet: &[u8], expect: &[u8]) {
-    hold_words(tally, said(rec, sheet), expect, b"the verdict");
+fn ask(rt: &impl Print, tally: &mut Tally, rec: &[u8; 32768], sheet: &[u8], expect: &[u8]) {
+    hold_words(rt, tally, said(rec, sheet), expect, b"the verdict");
 }
 
 // The second implementation's.
-fn ask_other(tally: &mut Tally, text: &[u8], sheet: &[u8], expect: &[u8]) {
+fn ask_other(rt: &impl Print, tally: &mut Tally, text: &[u8], sheet: &[u8], expect: &[u8]) {
     let mut job = blank();
     let reading = read_text(text, &mut job);
     hold(
+        rt,
         tally,
         reading.stage == ACCEPTED,
         b"the job of the second implementation",
     );
     hold_words(
+        rt,
         tally,
         judged(&job, sheet),
         expect,
@@ -86,21 +78,21 @@ fn ask_other(tally: &mut Tally, text: &[u8], sheet: &[u8], expect: &[u8]) {
     );
 }
 
-fn vector(tally: &mut Tally, k: usize) {
+fn vector(rt: &(impl Files + Print + Eprint), tally: &mut Tally, k: usize) {
     let mut text = [0u8; 262144];
     let mut sheet = [0u8; 262144];
     let mut expect = [0u8; 262144];
-    let n = part(k, b".job", &mut text);
-    let m = part(k, b".sheet", &mut sheet);
-    let l = part(k, b".expect", &mut expect);
+    let n = part(rt, k, b".job", &mut text);
+    let m = part(rt, k, b".sheet", &mut sheet);
+    let l = part(rt, k, b".expect", &mut expect);
     let mut rec = [7u8; 32768];
-    hold(tally, read(held(&text, n), &mut rec), b"the job");
-    ask(tally, &rec, held(&sheet, m), held(&expect, l));
-    ask_other(tally, held(&text, n), held(&sheet, m), held(&expect, l));
+    hold(rt, tally, read(held(&text, n), &mut rec), b"the job");
+    ask(rt, tally, &rec, held(&sheet, m), held(&expect, l));
+    ask_other(rt, tally, held(&text, n), held(&sheet, m), held(&expect, l));
 }
 
-pub fn vectors(tally: &mut Tally) {
+pub fn vectors(rt: &(impl Files + Print + Eprint), tally: &mut Tally) {
     for k in 0..30 {
-        vector(tally, k);
+        vector(rt, tally, k);
     }
 }

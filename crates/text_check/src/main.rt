@@ -1,13 +1,17 @@
 // Runs the reader and the writer of job text. On the vectors of data/, NAME.job with NAME.expect: a wrong text is refused as the expected line says, and
 // one that reads is written again byte for byte. On the examples of document 01, and on lines of laid wires that may not stand. On two texts with one bit
 // changed, where the oracle has to agree, and on the texts of random jobs with laid wires, which have to come back. It writes the name of each vector that does not agree, and then the counts, with ok if nothing is wrong.
+#![tactic(auto)]
+
 use check::same;
-use libc::STDOUT_FILENO;
+use files::load;
 use oracle::lines::refused_listing;
 use oracle_text::job::blank;
 use oracle_text::page::{Page, byte, decimal, word};
 use oracle_text::random::{below, random_job, random_laid, random_own};
 use oracle_text::text::ACCEPTED;
+use std::io;
+use std::io::Write;
 use text::{Judged, Written};
 
 // The 64 bytes of document 01's example.
@@ -99,18 +103,11 @@ fn keeps(text: &[u8; 64]) -> bool {
 }
 
 // Reads the file of the vector `name` that has this ending, and gives its length.
-fn load(name: &[u8], ending: &[u8], page: &mut Page) -> usize {
+fn load_vector(rt: &HostRuntime, name: &[u8], ending: &[u8], page: &mut Page) -> usize {
     let mut path = [0u8; 262144];
     let a = word(&mut path, 0, name);
     let b = word(&mut path, a, ending);
-    let fd = os::open_read(bytes(&path, b));
-    if fd < 0 {
-        os::fail(bytes(&path, b));
-        return 0;
-    }
-    let n = io::read_full(fd, page);
-    libc::close(fd);
-    n
+    load(rt, bytes(&path, b), page)
 }
 
 // A refusal, as the expected line says.
@@ -133,12 +130,12 @@ fn read(expected: &[u8], text: &[u8], copy: &[u8]) -> usize {
 }
 
 // One vector.
-fn vector(name: &[u8]) -> usize {
+fn vector(rt: &HostRuntime, name: &[u8]) -> usize {
     let mut page = [0u8; 262144];
     let mut expect = [0u8; 262144];
     let mut copy = [0u8; 262144];
-    let n = load(name, b".job", &mut page);
-    let m = load(name, b".expect", &mut expect);
+    let n = load_vector(rt, name, b".job", &mut page);
+    let m = load_vector(rt, name, b".expect", &mut expect);
     match again(bytes(&page, n), &mut copy) {
         Outcome::Refused(offset) => refused(bytes(&expect, m), offset),
         Outcome::Wrote(l) => read(bytes(&expect, m), bytes(&page, n), bytes(&copy, l)),
@@ -159,36 +156,38 @@ fn tally_right(counts: &mut [u64; 5], right: bool, k: usize) {
 }
 
 // The vector STEM with the number k, of two digits.
-fn numbered(counts: &mut [u64; 5], stem: &[u8], k: usize) {
+fn numbered(rt: &HostRuntime, counts: &mut [u64; 5], stem: &[u8], k: usize) -> io::Result<()> {
     let mut name = [0u8; 262144];
     let a = word(&mut name, 0, stem);
     let b = if k < 10 { byte(&mut name, a, b'0') } else { a };
     let c = decimal(&mut name, b, k);
-    let came = vector(bytes(&name, c));
-    if came == WRONG {
-        io::write_all(STDOUT_FILENO, bytes(&name, c));
-        io::write_all(STDOUT_FILENO, b"\n");
-    }
+    let came = vector(rt, bytes(&name, c));
     tally(counts, came);
+    if came == WRONG {
+        rt.stdout().write_all(bytes(&name, c))?;
+        println!(rt)?;
+    }
+    Ok(())
 }
 
 // The first `n` vectors of the stem.
-fn series(counts: &mut [u64; 5], stem: &[u8], n: usize) {
+fn series(rt: &HostRuntime, counts: &mut [u64; 5], stem: &[u8], n: usize) -> io::Result<()> {
     for k in 0..n {
-        numbered(counts, stem, k);
+        numbered(rt, counts, stem, k)?;
     }
+    Ok(())
 }
 
-fn vectors(counts: &mut [u64; 5]) {
-    series(counts, b"text0", 60);
-    series(counts, b"K2/job", 16);
-    series(counts, b"K2/text", 4);
-    series(counts, b"K3/job", 12);
-    series(counts, b"K3/text", 8);
-    series(counts, b"K7/job", 12);
-    series(counts, b"K7/text", 8);
-    series(counts, b"K9/job", 14);
-    series(counts, b"K9/text", 6);
+fn vectors(rt: &HostRuntime, counts: &mut [u64; 5]) -> io::Result<()> {
+    series(rt, counts, b"text0", 60)?;
+    series(rt, counts, b"K2/job", 16)?;
+    series(rt, counts, b"K2/text", 4)?;
+    series(rt, counts, b"K3/job", 12)?;
+    series(rt, counts, b"K3/text", 8)?;
+    series(rt, counts, b"K7/job", 12)?;
+    series(rt, counts, b"K7/text", 8)?;
+    series(rt, counts, b"K9/job", 14)?;
+    series(rt, counts, b"K9/text", 6)
 }
 
 // The examples that document 01 gives, and an output that is too short for the first.
@@ -322,28 +321,22 @@ fn draws(counts: &mut [u64; 5]) {
     }
 }
 
-fn number(w: &[u8], n: u64) {
-    io::write_all(STDOUT_FILENO, w);
-    io::print_decimal(STDOUT_FILENO, n);
-}
-
-fn main() {
+fn main(rt: HostRuntime) -> io::Result<()> {
     let mut counts = [0u64; 5];
-    vectors(&mut counts);
+    vectors(&rt, &mut counts)?;
     examples(&mut counts);
     wrong_forms(&mut counts);
     wrong_sides(&mut counts);
     wrong_owns(&mut counts);
     changes(&mut counts);
     draws(&mut counts);
-    number(b"refused ", counts[0]);
-    number(b" read ", counts[1]);
-    number(b" changed ", counts[2]);
-    number(b" random ", counts[3]);
+    print!(rt; "refused {}", counts[0])?;
+    print!(rt; " read {}", counts[1])?;
+    print!(rt; " changed {}", counts[2])?;
+    print!(rt; " random {}", counts[3])?;
     if counts[4] == 0 {
-        io::write_all(STDOUT_FILENO, b" ok\n");
+        println!(rt; " ok")
     } else {
-        number(b" wrong ", counts[4]);
-        io::write_all(STDOUT_FILENO, b"\n");
+        println!(rt; " wrong {}", counts[4])
     }
 }

@@ -1,33 +1,39 @@
 // Document 02, K6: the program that prints the text of a trial's job. Its arguments are rows, columns, O, D, E, the starting number, and the percentages of
 // chosen and missing pins and of closed tiles.
+#![tactic(auto)]
+
 use answers::Answer;
-use libc::{STDERR_FILENO, STDOUT_FILENO};
 use rules::argument::{Argument, read_number};
+use std::env::{Env, FillError};
+use std::io;
+use std::io::Write;
 
 // The nine numbers, in the order of the arguments.
 type Numbers = [usize; 9];
 
-fn usage() {
-    io::write_all(
-        STDERR_FILENO,
-        b"usage: trial ROWS COLUMNS O D E SEED CHOSEN MISSING CLOSED, whole numbers\n",
-    );
+fn usage(rt: &HostRuntime) -> io::Result<()> {
+    eprintln!(rt; "usage: trial ROWS COLUMNS O D E SEED CHOSEN MISSING CLOSED, whole numbers")
 }
 
 // The number that argument i is.
-fn number(i: usize) -> Argument {
-    let mut text = io::buffer();
-    let n = os::arg(i, &mut text);
-    if os::errno() != 0 {
-        return Argument::NoNumber;
+fn number(rt: &HostRuntime, i: usize) -> Argument {
+    let mut text = [0u8; 4096];
+    match rt.arg(i, &mut text) {
+        Ok(n) => read_number(&text[..n]),
+        Err(_) => Argument::NoNumber,
     }
-    read_number(&text[..n])
+}
+
+// Whether there is an argument i, of any length.
+fn is_given(rt: &HostRuntime, i: usize) -> bool {
+    let mut text = [0u8; 4096];
+    !matches!(rt.arg(i, &mut text), Err(FillError::NotPresent))
 }
 
 // Reads the nine arguments; false where one is no number.
-fn read_all(numbers: &mut Numbers) -> bool {
+fn read_all(rt: &HostRuntime, numbers: &mut Numbers) -> bool {
     for i in 0..9 {
-        let Argument::Number(n) = number(i + 1) else {
+        let Argument::Number(n) = number(rt, i + 1) else {
             return false;
         };
         numbers[i] = n as usize;
@@ -36,47 +42,44 @@ fn read_all(numbers: &mut Numbers) -> bool {
 }
 
 // The first n bytes of a text, where it has so many.
-fn print(text: &[u8], n: usize) {
+fn print(rt: &HostRuntime, text: &[u8], n: usize) -> io::Result<()> {
     if n <= text.len() {
-        io::write_all(STDOUT_FILENO, &text[..n]);
+        return rt.stdout().write_all(&text[..n]);
     }
+    Ok(())
 }
 
 // The text of the job that the record holds.
-fn show(rec: &[u8]) {
+fn show(rt: &HostRuntime, rec: &[u8]) -> io::Result<()> {
     let mut text = [0u8; 49152];
     let Answer::Wrote(n) = making::write_text(rec, &mut text) else {
-        return;
+        return Ok(());
     };
-    print(&text, n);
+    print(rt, &text, n)
 }
 
-fn refuse(k: usize) {
-    io::write_all(STDERR_FILENO, b"(refused ");
-    io::print_decimal(STDERR_FILENO, k as u64);
-    io::write_all(STDERR_FILENO, b")\n");
+fn refuse(rt: &HostRuntime, k: usize) -> io::Result<()> {
+    eprintln!(rt; "(refused {k})")
 }
 
-fn run(a: &Numbers) {
+fn run(rt: &HostRuntime, a: &Numbers) -> io::Result<()> {
     let mut rec = [0u8; 32768];
     match trials::trial(
         &mut rec, a[0], a[1], a[2], a[3], a[4], a[5], a[6], a[7], a[8],
     ) {
-        Answer::Done => show(&rec),
-        Answer::Refused(k) => refuse(k),
-        _ => {}
+        Answer::Done => show(rt, &rec),
+        Answer::Refused(k) => refuse(rt, k),
+        _ => Ok(()),
     }
 }
 
-fn main() {
+fn main(rt: HostRuntime) -> io::Result<()> {
     let mut numbers = [0usize; 9];
-    if os::arg_count() != 10 {
-        usage();
-        return;
+    if is_given(&rt, 10) {
+        return usage(&rt);
     }
-    if !read_all(&mut numbers) {
-        usage();
-        return;
+    if !read_all(&rt, &mut numbers) {
+        return usage(&rt);
     }
-    run(&numbers);
+    run(&rt, &numbers)
 }

@@ -155,7 +155,7 @@ fn holds_trial(rec: &Record, q: Asked) -> bool {
     holds_unwired(rec, &job)
 }
 
-fn hold_call(tally: &mut Tally, rec: &mut Record, q: Asked) {
+fn hold_call(rt: &impl Print, tally: &mut Tally, rec: &mut Record, q: Asked) {
     let before = *rec;
     let wanted = refusal(q);
     let said = match call(rec, q) {
@@ -163,19 +163,24 @@ fn hold_call(tally: &mut Tally, rec: &mut Record, q: Asked) {
         Answer::Done => 0,
         _ => 99,
     };
-    hold(tally, said == wanted, b"the answer");
+    hold(rt, tally, said == wanted, b"the answer");
     if wanted == 0 {
-        hold(tally, holds_trial(rec, q), b"the job");
+        hold(rt, tally, holds_trial(rec, q), b"the job");
     } else {
-        hold(tally, same(&before, rec), b"a refused call changes nothing");
+        hold(
+            rt,
+            tally,
+            same(&before, rec),
+            b"a refused call changes nothing",
+        );
     }
 }
 
-pub fn calls(tally: &mut Tally) {
+pub fn calls(rt: &impl Print, tally: &mut Tally) {
     let mut rec = [BEYOND; 32800];
     let mut seed = 521288629;
     for k in 0..2000usize {
-        hold_call(tally, &mut rec, draw(seed));
+        hold_call(rt, tally, &mut rec, draw(seed));
         seed = xorshift(xorshift(xorshift(xorshift(seed))));
     }
 }

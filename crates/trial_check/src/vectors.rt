@@ -1,9 +1,11 @@
 // The vectors of data/: the text of each job, which Write text gives after the call with the arguments of its row, and which the second implementation's job has.
 use answers::Answer;
 use check::same;
+use files::load;
 use oracle_text::job::Job;
 use oracle_text::page::{Page, byte, decimal, word};
 use oracle_text::trial::{Percents, trial_job};
+use std::rt::Files;
 use verdict::bytes::{Tally, first, hold};
 
 // Rows, columns, O, D, E, the starting number, and the percentages of chosen and missing pins and of closed tiles.
@@ -36,20 +38,13 @@ fn argument(k: usize, i: usize) -> usize {
 }
 
 // Reads the vector with the number k, of two digits, and gives its length.
-fn load(k: usize, page: &mut Page) -> usize {
+fn load_vector(rt: &(impl Files + Eprint), k: usize, page: &mut Page) -> usize {
     let mut path = [0u8; 262144];
     let a = word(&mut path, 0, b"trial");
     let b = if k < 10 { byte(&mut path, a, b'0') } else { a };
     let c = decimal(&mut path, b, k);
     let d = word(&mut path, c, b".job");
-    let fd = os::open_read(held(&path, d));
-    if fd < 0 {
-        os::fail(held(&path, d));
-        return 0;
-    }
-    let n = io::read_full(fd, page);
-    libc::close(fd);
-    n
+    load(rt, held(&path, d), page)
 }
 
 // The record of row k.
@@ -99,23 +94,24 @@ fn expected(k: usize) -> Job {
     )
 }
 
-fn vector(tally: &mut Tally, k: usize) {
+fn vector(rt: &(impl Files + Print + Eprint), tally: &mut Tally, k: usize) {
     let mut text = [0u8; 262144];
     let mut mine = [0u8; 262144];
     let mut other = [0u8; 262144];
-    let n = load(k, &mut text);
+    let n = load_vector(rt, k, &mut text);
     let a = written(k, &mut mine);
     let b = oracle_text::text::write_text(&expected(k), &mut other);
-    hold(tally, same(held(&mine, a), held(&text, n)), b"the text");
+    hold(rt, tally, same(held(&mine, a), held(&text, n)), b"the text");
     hold(
+        rt,
         tally,
         same(held(&other, b), held(&text, n)),
         b"the text of the second implementation",
     );
 }
 
-pub fn vectors(tally: &mut Tally) {
+pub fn vectors(rt: &(impl Files + Print + Eprint), tally: &mut Tally) {
     for k in 0..20 {
-        vector(tally, k);
+        vector(rt, tally, k);
     }
 }
