@@ -31,7 +31,7 @@ pub fn fill(
     lists: &mut [u16],
 )
     requires { Whole job.now loads.old × Room marks.old queue.old parent.old slot.old × Held (job_of job.now) loads.old
-        × (28154 ≤ length lists.old) }
+        × (26513 ≤ length lists.old) }
     ensures { Filled (job_of job.now) loads.old loads.new marks.new }
 {
     clear(marks);
