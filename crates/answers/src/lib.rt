@@ -1,4 +1,6 @@
 // What an operation answers.
+#![tactic(auto)]
+
 use wire::Part;
 
 #[derive(Drop)]

@@ -65,6 +65,7 @@ module _ {J : Job} {go : ℕ → Bool} {start : ℕ} {t₀ t q f w : List ℕ} {
       }
     where
       later : (d : ℕ) → Memᴰ d ((8 * get_or q j 0 + k) ∷ []) → (p : ℕ) × (j ≤ p) × (p ≤ j) × (d / 8 ≡ get_or q p 0)
+      later d (mathlib.Core.List.Memᴰ.tail x5) = elim x5 [ ]
       later d (Memᴰ.head e) = (j, omega arith, omega arith, rw e (slot-tail (get_or q j 0) k lk))
   part (back {i = i} {ds = ds} l r) =
       let h = part r in

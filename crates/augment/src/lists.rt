@@ -4,7 +4,8 @@
 //     128 to 255        the last spot of each list that has one
 //     256 to 26,511     for each spot the next on its list and its place in the queue
 //     26,512            the line from which the last wire was laid
-//     26,513 to 28,153  for each cell what `rings` has of its tile, 0 for what was not asked yet
+//     26,513 to 28,153  for each cell what `rings` has of its tile, 0 for what was not asked yet,
+//                       where the lists are long enough for it
 ghost use Rattle.std.specs.Prelude.{◌≡◌, ℕ, ◌%◌, ◌≤◌, ◌<◌, length, get_or};
 ghost use Rattle.augment.specs.Turns.{swapped};
 
@@ -61,9 +62,12 @@ fn rings(n: usize, m: usize, x: usize) -> usize
 
 // The same, from the lists where it was asked before.
 fn ring_at(lists: &mut [u16], n: usize, m: usize, x: usize) -> usize
-    requires { (28154 ≤ length lists.old) × (41 ≤ x) × (x < 1641) }
+    requires { (26513 ≤ length lists.old) × (41 ≤ x) × (x < 1641) }
     ensures { result < 65536 }
 {
+    if lists.len() <= 26513 + x {
+        return rings(n, m, x);
+    }
     let e = wide(lists[26513 + x]);
     if e != 0 {
         return e;
@@ -85,7 +89,7 @@ fn pin_level(n: usize, m: usize, u: usize) -> usize
 
 // How far the spot u is from the rim of n rows and m columns of pins: three levels for each ring.
 fn level(lists: &mut [u16], n: usize, m: usize, u: usize) -> usize
-    requires { (28154 ≤ length lists.old) × (u < 13128) }
+    requires { (26513 ≤ length lists.old) × (u < 13128) }
     ensures { result < 128 }
 {
     if u < 328 {
@@ -105,7 +109,7 @@ fn level(lists: &mut [u16], n: usize, m: usize, u: usize) -> usize
 
 // Every list is empty.
 pub fn no_lists(lists: &mut [u16])
-    requires { 28154 ≤ length lists.old }
+    requires { 26513 ≤ length lists.old }
 {
     for l in 0..128 {
         lists[l] = 0;
@@ -121,7 +125,7 @@ fn store(lists: &mut [u16], x: usize, entry: usize)
 
 // Where the next spot of the list l is to be put: at its head if it has none, else behind its last.
 fn end(lists: &[u16], l: usize) -> usize
-    requires { (28154 ≤ length lists.now) × (l < 128) }
+    requires { (26513 ≤ length lists.now) × (l < 128) }
     ensures { result < 26513 }
 {
     if lists[l] == 0 {
@@ -132,7 +136,7 @@ fn end(lists: &[u16], l: usize) -> usize
 
 // The spot u, which is the i-th in the queue, on the list l.
 fn put(lists: &mut [u16], l: usize, u: usize, i: usize)
-    requires { (28154 ≤ length lists.old) × (l < 128) × (u < 13128) × (i < 13128) }
+    requires { (26513 ≤ length lists.old) × (l < 128) × (u < 13128) × (i < 13128) }
 {
     let x = end(lists, l);
     store(lists, x, u);
@@ -144,7 +148,7 @@ fn put(lists: &mut [u16], l: usize, u: usize, i: usize)
 // The spots from the a-th to before the n-th in the queue on their lists; the lowest of these lists and low. A search with so many spots is likely to come
 // to all that it can reach, so that their order does not matter: it keeps no lists any more.
 pub fn enlist(job: &[u8], queue: &[u16], lists: &mut [u16], a: usize, n: usize, low: usize) -> usize
-    requires { (32768 ≤ length job.now) × (28154 ≤ length lists.old) × (n ≤ 13128) × (n ≤ length queue.now)
+    requires { (32768 ≤ length job.now) × (26513 ≤ length lists.old) × (n ≤ 13128) × (n ≤ length queue.now)
         × ((i : ℕ) → i < n → get_or queue.now i 0 < 13128) }
 {
     if 6144 <= a {
@@ -164,7 +168,7 @@ pub fn enlist(job: &[u8], queue: &[u16], lists: &mut [u16], a: usize, n: usize, 
 
 // The first list from low on that is not empty, or 128.
 pub fn first(lists: &[u16], low: usize) -> usize
-    requires { 28154 ≤ length lists.now }
+    requires { 26513 ≤ length lists.now }
 {
     for l in low..128 {
         if lists[l] != 0 {
@@ -176,7 +180,7 @@ pub fn first(lists: &[u16], low: usize) -> usize
 
 // The place in the queue of the first spot of the list l, which leaves the list; the h-th where that is none of those that wait.
 pub fn take(lists: &mut [u16], l: usize, h: usize, n: usize) -> usize
-    requires { (28154 ≤ length lists.old) × (h < n) }
+    requires { (26513 ≤ length lists.old) × (h < n) }
     ensures { (h ≤ result) × (result < n) }
 {
     if 128 <= l {
@@ -208,7 +212,7 @@ fn swap(
 )
     requires { (h < length queue.old) × (h < length parent.old) × (h < length slot.old)
         × (i < length queue.old) × (i < length parent.old) × (i < length slot.old)
-        × (28154 ≤ length lists.old) × (get_or queue.old h 0 < 13128) × (i < 13128) }
+        × (26513 ≤ length lists.old) × (get_or queue.old h 0 < 13128) × (i < 13128) }
     ensures { (queue.new ≡ swapped queue.old h i) × (parent.new ≡ swapped parent.old h i)
         × (slot.new ≡ swapped slot.old h i) }
 {
@@ -235,7 +239,7 @@ pub fn exchange(
 )
     requires { (h < length queue.old) × (h < length parent.old) × (h < length slot.old)
         × (i < length queue.old) × (i < length parent.old) × (i < length slot.old)
-        × (28154 ≤ length lists.old) × (get_or queue.old h 0 < 13128) × (i < 13128) }
+        × (26513 ≤ length lists.old) × (get_or queue.old h 0 < 13128) × (i < 13128) }
     ensures { (queue.new ≡ swapped queue.old h i) × (parent.new ≡ swapped parent.old h i)
         × (slot.new ≡ swapped slot.old h i) }
 {
@@ -247,7 +251,7 @@ pub fn exchange(
 
 // The line from which the last wire was laid, or n if that is less.
 pub fn last_line(lists: &[u16], n: usize) -> usize
-    requires { 28154 ≤ length lists.now }
+    requires { 26513 ≤ length lists.now }
     ensures { result ≤ n }
 {
     least(wide(lists[26512]), n)
@@ -255,7 +259,7 @@ pub fn last_line(lists: &[u16], n: usize) -> usize
 
 // A wire is laid from the i-th line.
 pub fn note_line(lists: &mut [u16], i: usize)
-    requires { (28154 ≤ length lists.old) × (i < 65536) }
+    requires { (26513 ≤ length lists.old) × (i < 65536) }
 {
     store(lists, 26512, i);
 }

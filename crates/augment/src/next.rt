@@ -22,7 +22,7 @@ pub enum Next {
 }
 
 // A row of so many pins, or a column where it is upright, and its number.
-#[derive(Drop)]
+#[derive(Clone, Copy)]
 pub struct Line {
     pub upright: bool,
     pub number: usize,
@@ -109,7 +109,7 @@ fn wire_from(
 ) -> bool
     requires { Whole job.now loads.old × Room marks.old queue.old parent.old slot.old
         × Held (job_of job.now) loads.old × Dead (job_of job.now) loads.old marks.old × (u < spots)
-        × (28154 ≤ length lists.old) }
+        × (26513 ≤ length lists.old) }
     ensures { Tested (job_of job.now) loads.old marks.old u loads.new marks.new result }
 {
     if !is_open(job, loads, marks, u) {
@@ -138,7 +138,7 @@ fn line_wire(
 ) -> Next
     requires { Whole job.now loads.old × Room marks.old queue.old parent.old slot.old
         × Held (job_of job.now) loads.old × Dead (job_of job.now) loads.old marks.old × (l.number < 40) × (l.pins ≤ 40)
-        × (28154 ≤ length lists.old) }
+        × (26513 ≤ length lists.old) }
     ensures { Answered (job_of job.now) (OnLine l l.pins)
         loads.old marks.old loads.new marks.new result }
 {
@@ -166,7 +166,7 @@ fn lines_wire(
 ) -> Next
     requires { Whole job.now loads.old × Room marks.old queue.old parent.old slot.old
         × Held (job_of job.now) loads.old × Dead (job_of job.now) loads.old marks.old
-        × (28154 ≤ length lists.old) × (a ≤ b) × (b ≤ 2 * (job_of job.now).rows) }
+        × (26513 ≤ length lists.old) × (a ≤ b) × (b ≤ 2 * (job_of job.now).rows) }
     ensures { Answered (job_of job.now) (InRows (job_of job.now) a b)
         loads.old marks.old loads.new marks.new result }
 {
@@ -194,7 +194,7 @@ pub fn next_wire(
     lists: &mut [u16],
 ) -> Next
     requires { Whole job.now loads.old × Room marks.old queue.old parent.old slot.old
-        × Held (job_of job.now) loads.old × Dead (job_of job.now) loads.old marks.old × (28154 ≤ length lists.old) }
+        × Held (job_of job.now) loads.old × Dead (job_of job.now) loads.old marks.old × (26513 ≤ length lists.old) }
     ensures { Answered (job_of job.now) AnySpot
         loads.old marks.old loads.new marks.new result }
 {

@@ -58,7 +58,7 @@ fn attempt(
 }
 
 // The slots of u by which the search goes on: moves to spots with no mark.
-fn onward(job: &[u8], loads: &[u8], marks: &[u8], u: usize) -> usize
+pub fn onward(job: &[u8], loads: &[u8], marks: &[u8], u: usize) -> usize
     requires { Whole job.now loads.now × (spots ≤ length marks.now) × (u < spots) }
     ensures { Bits 8 (goes_on (job_of job.now) loads.now marks.now u) result }
 {
@@ -114,7 +114,7 @@ fn explore(
     lists: &mut [u16],
 ) -> Way
     requires { Whole job.now loads.now × Room marks.old queue.old parent.old slot.old × Fresh (job_of job.now) marks.old start
-        × (28154 ≤ length lists.old) }
+        × (26513 ≤ length lists.old) }
     ensures { Searched (job_of job.now) loads.now start
         marks.old marks.new queue.new parent.new slot.new result }
 {
@@ -167,7 +167,7 @@ pub fn reach(
     lists: &mut [u16],
 ) -> Way
     requires { Whole job.now loads.now × Room marks.old queue.old parent.old slot.old × Fresh (job_of job.now) marks.old start
-        × (28154 ≤ length lists.old) }
+        × (26513 ≤ length lists.old) }
     ensures { Searched (job_of job.now) loads.now start
         marks.old marks.new queue.new parent.new slot.new result }
 {

@@ -1,4 +1,6 @@
 // Document 02, K10: whether the tiles of a job carry a sheet of side loads, and the first that does not.
+#![tactic(auto)]
+
 mod table; // the constant array
 mod tile; // what one tile carries
 mod fits; // which jobs and sheets are turned away

@@ -1,4 +1,6 @@
 // Document 02, K6: the operation that makes a job for a load trial. The pins by row and column take one draw each, then the tiles.
+#![tactic(auto)]
+
 ghost use Rattle.std.specs.Prelude.{◌≡◌, [], ◌*◌, ◌%◌, ◌^◌, ◌≤◌, ◌<◌, T, length, set};
 ghost use Rattle.model.specs.Job.{array_fits, caps_admitted};
 ghost use Rattle.model.specs.Record.{record_size, offset, unwired_record, over};
