@@ -110,6 +110,7 @@ module _ (J K : Job) (f : Step → ℕ) (A : Alike J K f) where
       legs-of s (Memᴰ.head e) = Memᴰ.head e
       legs-of s (Memᴰ.tail (Memᴰ.head e)) = Memᴰ.tail (Memᴰ.head e)
       legs-of s (Memᴰ.tail (Memᴰ.tail (Memᴰ.head e))) = Memᴰ.tail (Memᴰ.tail (Memᴰ.head e))
+      legs-of s (mathlib.Core.List.Memᴰ.tail (mathlib.Core.List.Memᴰ.tail (mathlib.Core.List.Memᴰ.tail (mathlib.Core.List.Memᴰ.tail x16)))) = elim x16 [ ]
       legs-of s (Memᴰ.tail (Memᴰ.tail (Memᴰ.tail (Memᴰ.head e)))) =
           Memᴰ.tail (Memᴰ.tail (Memᴰ.tail (Memᴰ.head e)))
 

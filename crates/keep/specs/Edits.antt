@@ -108,6 +108,7 @@ module _ (J : Job) (f : Step → ℕ) (S : Sound J f) (kept : ℕ → ℕ → Bo
   Leave x (s ∷ l) = (tail J s ≡ x) × Leave x l
 
   all_quiet : (x : Place) (l : List Step) → Avoided x → Leave x l → (s : Step) → Memᴰ s l → Quiet left s
+  all_quiet x [] a v s x4 = elim x4 [ ]
   all_quiet x (t ∷ l) a v s (Memᴰ.head e) = left-quiet x a s (ap (tail J) e ∙ v.0)
   all_quiet x (t ∷ l) a v s (Memᴰ.tail m) = all_quiet x l a v.1 s m
 
@@ -146,6 +147,7 @@ module _ (J : Job) (f : Step → ℕ) (S : Sound J f) (kept : ℕ → ℕ → Bo
   pin-bare r c a s (Memᴰ.tail (Memᴰ.head e)) = left-quiet (pin_at J r c) a s (ap (tail J) e)
   pin-bare r c a s (Memᴰ.tail (Memᴰ.tail (Memᴰ.head e))) = left-quiet (pin_at J r c) a s (ap (tail J) e)
   pin-bare r c a s (Memᴰ.tail (Memᴰ.tail (Memᴰ.tail (Memᴰ.head e)))) = left-quiet (pin_at J r c) a s (ap (tail J) e)
+  pin-bare r c a s (mathlib.Core.List.Memᴰ.tail (mathlib.Core.List.Memᴰ.tail (mathlib.Core.List.Memᴰ.tail (mathlib.Core.List.Memᴰ.tail (mathlib.Core.List.Memᴰ.tail x20))))) = elim x20 [ ]
   pin-bare r c a s (Memᴰ.tail (Memᴰ.tail (Memᴰ.tail (Memᴰ.tail (Memᴰ.head e))))) =
       subst (Quiet left) (sym e) (direct-quiet r c a)
 

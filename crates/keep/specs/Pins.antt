@@ -27,6 +27,7 @@ use Rattle.keep.specs.Kept.{Whole, carried, thinned-le, moved-loaded, sound-kept
 -- a sum with one smaller term is smaller
 total-lt : {A : Type 0} {x : A} (l : List A) (g f : A → ℕ) → ((y : A) → g y ≤ f y) → Memᴰ x l → g x < f x → total l g < total l f
 unfolding total
+total-lt {A = A} mathlib.Core.List.[] g f h x4 k = elim x4 [ ]
 total-lt (y ∷ l) g f h (Memᴰ.head e) k = omega (arith, ap g e, ap f e, total-le l g f h)
 total-lt (y ∷ l) g f h (Memᴰ.tail m) k = omega (arith, h y, total-lt l g f h m k)
 

@@ -192,6 +192,7 @@ fst-paired (Memᴰ.tail m) = omega (arith, fst-paired m)
 
 -- a position that stands in one pair only has the other of that pair as its partner
 partner-of : (p : Pair) (l : List Pair) → Memᴰ p l → paired p.fst l ≤ 1 → partner_in l p.fst ≡ p.snd
+partner-of p [] x'' h = elim x'' [ ]
 partner-of p (q ∷ l) (Memᴰ.head e) h =
     partner-fst q l p.fst (eq-eqb p.fst q.fst (ap (λ (r : Pair). r.fst) e)) ∙ ap (λ (r : Pair). r.snd) (sym e)
 partner-of p (q ∷ l) (Memᴰ.tail m) h =
