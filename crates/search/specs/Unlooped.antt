@@ -38,6 +38,7 @@ pub record Lighter (J : Job) (rec rec' : List ℕ) : Type 0 where
   pub kept : SameButLoads rec rec'
 
 reverse-darts : (ds : List ℕ) → Darts ds → Darts (map rev ds)
+reverse-darts mathlib.Core.List.[] l x x3 = elim x3 [ ]
 reverse-darts (d ∷ ds) l x (Memᴰ.head e) = subst (λ (y : ℕ). y < darts) (sym e) (rev< d (l d (Memᴰ.head refl)))
 reverse-darts (d ∷ ds) l x (Memᴰ.tail m) = reverse-darts ds (λ y n. l y (Memᴰ.tail n)) x m
 

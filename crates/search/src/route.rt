@@ -83,7 +83,7 @@ pub fn fill_copy(rec: &[u8], loads: &mut [u8], near: &mut [u8]) -> usize
     let mut queue = [0u16; 13128];
     let mut parent = [0u16; 13128];
     let mut slot = [0u8; 13128];
-    let mut lists = [0u16; 26513];
+    let mut lists = [0u16; 28154];
     fill(
         rec,
         loads,

@@ -24,7 +24,7 @@ pub fn step(rec: &mut [u8]) -> Progress
     let mut queue = [0u16; 13128];
     let mut parent = [0u16; 13128];
     let mut slot = [0u8; 13128];
-    let mut lists = [0u16; 26513];
+    let mut lists = [0u16; 28154];
     match next_wire(
         rec,
         &mut loads,
