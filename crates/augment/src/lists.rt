@@ -62,7 +62,7 @@ fn rings(n: usize, m: usize, x: usize) -> usize
 
 // The same, from the lists where it was asked before.
 fn ring_at(lists: &mut [u16], n: usize, m: usize, x: usize) -> usize
-    requires { (26513 ≤ length lists.old) × (41 ≤ x) × (x < 1641) }
+    requires { (41 ≤ x) × (x < 1641) }
     ensures { result < 65536 }
 {
     if lists.len() <= 26513 + x {
@@ -89,7 +89,7 @@ fn pin_level(n: usize, m: usize, u: usize) -> usize
 
 // How far the spot u is from the rim of n rows and m columns of pins: three levels for each ring.
 fn level(lists: &mut [u16], n: usize, m: usize, u: usize) -> usize
-    requires { (26513 ≤ length lists.old) × (u < 13128) }
+    requires { u < 13128 }
     ensures { result < 128 }
 {
     if u < 328 {

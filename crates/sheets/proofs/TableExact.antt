@@ -1,6 +1,6 @@
 -- The rule of the table of 1,296 entries: one test that antt computes over the whole table, one entry after the other, and a law that carries it to each.
 -- Assumes nothing.
-use Rattle.std.specs.Prelude.{◌≡◌, refl, Bool, true, ◌&&◌, List, [], ◌∷◌, ℕ, zero, suc, ◌+◌, ◌*◌, ◌/◌, ◌%◌, ◌<◌, T, eqb, length, get_or}
+use Rattle.std.specs.Prelude.{◌≡◌, refl, Bool, true, ◌&&◌, List, [], ◌∷◌, ℕ, zero, suc, ◌+◌, ◌/◌, ◌%◌, ◌<◌, T, eqb, length, get_or}
 use Rattle.std.proofs.Common.{◌∙◌, subst, sym, ap, zero-add, le_of_suc-le-suc, not-suc-le-zero, arith, eqb→eq}
 use Rattle.sums.specs.Tests.{and_left, and_right}
 use Rattle.model.specs.Sheet.{Entry}

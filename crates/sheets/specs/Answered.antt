@@ -2,11 +2,11 @@
 -- Assumes nothing.
 use Rattle.std.specs.Prelude.{◌≡◌, true, false, not, List, [], ◌∷◌, ℕ, T, eqb}
 use Rattle.std.proofs.Common.{sym, ap, subst, ◌∙◌, eqb→eq}
-use Rattle.sums.specs.Tests.{and_left, so}
+use Rattle.sums.specs.Tests.{and_left}
 use Rattle.model.specs.Job.{Job, is_missing}
 use Rattle.model.specs.Record.{job_of, Legal}
 use Rattle.model.specs.Sheet.{everywhere, sheet_job, sheet_fits, carried}
-use Rattle.model.specs.Calls.{Answer, refused, sheet_is, After, after, test, asked, OnSheet}
+use Rattle.model.specs.Calls.{Answer, refused, sheet_is, after, test, OnSheet}
 use Rattle.model.proofs.Asked.{asked-fails, asked-holds}
 use Rattle.sheets.specs.Tests.{ready_of}
 use Rattle.sheets.specs.First.{First, passes_at, verdict_at, first-judged}

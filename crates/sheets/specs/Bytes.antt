@@ -3,7 +3,6 @@
 use Rattle.std.specs.Prelude.{◌≡◌, refl, ◌≢◌, ◌⊎◌, Bool, true, false, not, ◌&&◌, ℕ, zero, suc, ◌+◌, ◌*◌, ◌≤◌, ◌<◌, T, eqb, leb, ltb, length, get_or}
 use Rattle.std.proofs.Common.{sym, subst, inl, inr, ⊎_elim, arith, T_not, eqb→eq, leb→le, ltb→lt}
 use mathlib.Core.List.{List, [], ◌∷◌, Memᴰ}
-use Rattle.std.proofs.Math.Dec.{eqb_refl}
 use Rattle.sums.specs.Counting.{when}
 use Rattle.sums.specs.Tests.{every-at, below, below_at, and_left, and_right, and_both}
 use Rattle.model.specs.Job.{Job, north_limit, west_limit, has_north, has_west, is_chosen}

@@ -2,12 +2,11 @@
 -- does not pass is the tile that the sheet's verdict names, and where all pass the sheet is carried. A verdict is settled: a sheet has one at most, and a
 -- sheet that is not turned away has one.
 -- Assumes nothing.
-use Rattle.std.specs.Prelude.{◌≡◌, refl, ◌⊎◌, Bool, true, false, not, ◌&&◌, ◌||◌, List, ℕ, zero, suc, ◌+◌, ◌*◌, ◌/◌, ◌%◌, ◌≤◌, ◌<◌, T, eqb, ltb}
-use Rattle.std.proofs.Common.{sym, ap, ap₂, subst, subst₂, inl, inr, ⊎_elim, arith, lt-ltb, le-ltb, ltb-false, eq-eqb, T_not, eqb→eq, ltb→lt, lt→ltb}
-use Rattle.std.proofs.Math.Dec.{not_T, eqb_refl}
+use Rattle.std.specs.Prelude.{◌≡◌, refl, Bool, true, false, not, ◌&&◌, ◌||◌, List, ℕ, zero, suc, ◌+◌, ◌*◌, ◌/◌, ◌%◌, ◌≤◌, ◌<◌, T, eqb, ltb}
+use Rattle.std.proofs.Common.{sym, ap, ap₂, subst, subst₂, ⊎_elim, arith, lt-ltb, le-ltb, ltb-false, eq-eqb, eqb→eq, ltb→lt, lt→ltb}
 use Rattle.sums.specs.Tests.{below_or, and_left, and_right, and_both, or-by, so, Same, same, other, same?}
 use Rattle.model.specs.Job.{Job, is_tile}
-use Rattle.model.specs.Sheet.{Carried, TileCarried, SheetVerdict, carried, fails_at, is_before, Judged, all-carried, first-fails}
+use Rattle.model.specs.Sheet.{TileCarried, SheetVerdict, carried, fails_at, is_before, Judged, all-carried, first-fails}
 use Rattle.sheets.specs.Glued.{carried-tiles}
 use Rattle.sheets.specs.Tests.{or_left, or_right}
 use Rattle.sheets.specs.Tiles.{tile_test, Ready, tile-few, test-carried, carried-test}

@@ -1,21 +1,21 @@
 -- The tests of a sheet's cells as a program makes them: what a load byte within a limit is, when a wire comes from the outside, which legs lead into the
 -- array, how many marks a pin has; and what a legal record and a sheet that is not turned away give.
 -- Assumes nothing.
-use Rattle.std.specs.Prelude.{◌≡◌, ◌≢◌, ◌⊎◌, Bool, ◌&&◌, ◌||◌, List, [], ◌∷◌, T, leb, get_or}
+use Rattle.std.specs.Prelude.{◌≡◌, ◌≢◌, ◌⊎◌, Bool, ◌&&◌, ◌||◌, List, T, leb, get_or}
 use Rattle.std.proofs.Math.Path.{refl, sym}
-use Rattle.std.proofs.Common.{ap, ap₂, subst, ◌∙◌, inl, inr, ⊎_elim, lt-ltb, le-ltb, ltb-true, ltb-false, eqb→eq, leb→le, le→leb, ltb→lt, lt→ltb}
+use Rattle.std.proofs.Common.{ap, ap₂, subst, ◌∙◌, inl, inr, ⊎_elim, lt-ltb, eqb→eq, leb→le, le→leb, ltb→lt, lt→ltb}
 use Rattle.std.proofs.Math.Bool.{true, false, not}
-use Prim.Native.Nat.{ℕ, zero, suc, ◌+◌, ◌-◌, ◌*◌, ◌/◌, ◌≤◌, ◌<◌}
+use Prim.Native.Nat.{ℕ, zero, suc, ◌+◌, ◌*◌, ◌≤◌, ◌<◌}
 use native.Mathlib.Omega.{arith}
 use Rattle.std.proofs.Math.Dec.{not_T, eqb, ltb, eqb-suc-zero}
 use Rattle.sums.specs.Counting.{when, total}
-use Rattle.sums.specs.Tests.{every, below, below_or, and_left, and_right, and_both, both_ways, or-by, so}
-use Rattle.model.specs.Job.{Job, in_range, array_fits, caps_fit, centre_limit, north_limit, west_limit, tile_d, is_tile, is_open, is_chosen, on_rim, has_north, has_west, is_missing}
-use Rattle.model.specs.Links.{north, east, south, west, compass_code, pin, outside, side, Place, at, the_outside, place_code, north_side, west_side, go, come, head, tail, behind_of, ahead_of, limit_of}
+use Rattle.sums.specs.Tests.{every, below, below_or, and_left, and_right, and_both, both_ways, or-by}
+use Rattle.model.specs.Job.{Job, in_range, centre_limit, north_limit, west_limit, tile_d, is_tile, is_chosen, is_missing}
+use Rattle.model.specs.Links.{north, east, south, west, outside, side, Place, at, the_outside, place_code, north_side, west_side, go, come, head, tail, behind_of, ahead_of, limit_of}
 use Rattle.model.specs.Loads.{departures}
 use Rattle.model.specs.Near.{size}
-use Rattle.model.specs.Record.{record_size, job_of, kinds, forth_part, back_part, Legal}
-use Rattle.model.specs.Sheet.{sheet_cell, leg_plane, sheet_load, everywhere, sheet_job, load_within, is_inward, none_inward, leads_in, marks_within, marks_of, is_marked, sheet_fits}
+use Rattle.model.specs.Record.{job_of, kinds, forth_part, back_part, Legal}
+use Rattle.model.specs.Sheet.{sheet_cell, sheet_load, everywhere, sheet_job, load_within, none_inward, leads_in, marks_within, marks_of, sheet_fits}
 use Rattle.model.proofs.Own.{tile-range}
 use Rattle.channel.specs.Map.{row_of, column_of}
 use Rattle.channel.specs.Map.Darts.{cell_row, cell-column}

@@ -10,12 +10,12 @@ use Rattle.std.proofs.Math.Dec.{T, eqb, eqb→eq}
 use Rattle.sums.specs.Counting.{those, total}
 use Rattle.sums.specs.Tests.{Same, same, other, same?, and_left, and_right, and_both, so}
 use Rattle.model.specs.Job.{Job, centre_limit, tile_d, is_tile, is_open, is_closed}
-use Rattle.model.specs.Links.{Compass, north, east, south, west, centre, side, at, Step, turn, pass}
+use Rattle.model.specs.Links.{Compass, north, east, south, west, centre, at, Step, pass}
 use Rattle.model.specs.Record.{forth_part, back_part}
-use Rattle.model.specs.Sheet.{inner_steps, outer_steps, Inside, amounts, sheet_cell, leg_plane, sheet_load, sheet_fits, brings, takes, TileFits, TileCarried}
+use Rattle.model.specs.Sheet.{outer_steps, Inside, amounts, sheet_cell, sheet_load, sheet_fits, brings, takes, TileCarried}
 use Rattle.sheets.specs.Passage.{least_d}
 use Rattle.sheets.specs.Exact.{carried-entry, entry-carried}
-use Rattle.sheets.specs.Bytes.{LoadByte, north-few, west-few, mark-few}
+use Rattle.sheets.specs.Bytes.{LoadByte, north-few, west-few}
 
 -- ---- amounts
 

@@ -1,6 +1,6 @@
 -- The other way round: the side loads and leg marks of a legal record make a sheet that the tiles carry, for the record's own loads fit it inside every tile.
 -- Assumes nothing.
-use Rattle.std.specs.Prelude.{◌≡◌, ◌&&◌, ◌||◌, List, [], ◌≢◌, ◌⊎◌, eqb, length, get_or}
+use Rattle.std.specs.Prelude.{◌≡◌, ◌&&◌, ◌||◌, List, ◌≢◌, ◌⊎◌, eqb, length, get_or}
 use Rattle.std.proofs.Math.Path.{refl, sym, ap, subst}
 use Rattle.std.proofs.Common.{ap₂, ◌∙◌, inl, inr, ⊎_elim, lt→ltb, eq-eqb}
 use Rattle.std.proofs.Math.Bool.{Bool, true, false, not}
@@ -12,8 +12,8 @@ use Rattle.sums.specs.Tests.{every, below_or, and_left, and_right, and_both, so}
 use Rattle.model.specs.Job.{Job, in_range, north_limit, west_limit, has_north, has_west, on_rim, is_tile, is_open, is_closed, is_chosen, is_missing}
 use Rattle.model.specs.Links.{Compass, north, east, south, west, PlaceKind, pin, missing, centre, outside, nowhere, side, Place, at, the_outside, place_code, holds, straight_out, limit_of, is_place, is_entered, beside, pin_at, LinkKind, north_side, west_side, direct, leg, Step, go, come, turn, head, tail, behind_of, ahead_of, may}
 use Rattle.model.specs.Loads.{arrivals, departures, Feasible}
-use Rattle.model.specs.Record.{job_of, load, load_plane, offset, cell, forth_part, back_part, bytes, Legal}
-use Rattle.model.specs.Sheet.{is_inner, inner_steps, outer_steps, Inside, sheet_size, sheet_cell, leg_plane, sheet_load, everywhere, sheet_job, load_within, sides_within, is_inward, none_inward, leads_in, marks_within, marks_of, is_marked, sheet_cell_fits, sheet_fits, brings, takes, TileFits, Carried, sheet_planes, sheet_from}
+use Rattle.model.specs.Record.{job_of, load, load_plane, offset, cell, forth_part, back_part, Legal}
+use Rattle.model.specs.Sheet.{inner_steps, outer_steps, Inside, sheet_size, sheet_cell, leg_plane, sheet_load, everywhere, sheet_job, load_within, sides_within, is_inward, none_inward, leads_in, marks_within, marks_of, is_marked, sheet_cell_fits, sheet_fits, brings, takes, Carried, sheet_planes, sheet_from}
 use Rattle.model.specs.Wires.{is_wired}
 use Rattle.model.proofs.RecordOf.{length-bytes, byte_at}
 use Rattle.sheets.specs.Bytes.{everywhere-at, everywhere-all}

@@ -34,4 +34,4 @@ returns c =
     let g = c.sound.ensures.yes c.if-not-sound.false in
     on-legal g
     (first-answered c.args.rec.now c.args.loads.now g (sym c.job_fits.ensures ∙ c.if-not-job_fits.false) (sym c.fits.ensures ∙ c.if-not-fits.false) _
-      c.first_failing.ensures _ c.judge.ensures)
+    c.first_failing.ensures _ c.judge.ensures)

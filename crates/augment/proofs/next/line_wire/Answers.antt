@@ -1,6 +1,5 @@
 -- `next::line_wire` meets its contract: the pins passed have no way out. Assumes nothing.
 use mathlib.Core.Path.{◌≡◌, ap, ◌∙◌}
-use Prim.Native.Nat.{◌-◌}
 use native.Mathlib.Omega.{arith}
 use Rattle.channel.specs.Map.Numbers.{is-spot}
 use Rattle.augment.specs.Queue.{alike_then, alike-room}

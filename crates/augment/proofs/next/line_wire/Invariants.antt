@@ -1,6 +1,6 @@
 -- What each turn of `next::line_wire` keeps. Assumes nothing.
 use mathlib.Core.Path.{◌≡◌}
-use Prim.Native.Nat.{◌-◌, ◌≤◌}
+use Prim.Native.Nat.{◌≤◌}
 use lib.ListN.{length}
 use Rattle.model.specs.Record.{job_of}
 use Rattle.augment.specs.Spread.{Alike}

@@ -1,5 +1,4 @@
 -- `next::lines_wire` meets its contract: the rows among the lines passed have no pin with a way out. Assumes nothing.
-use Prim.Native.Nat.{◌-◌}
 use mathlib.Core.Path.{◌≡◌, ◌∙◌}
 use native.Mathlib.Omega.{arith}
 use Rattle.augment.specs.Queue.{alike_then, alike-room}

@@ -1,11 +1,7 @@
 -- `reach::explore` meets its contract: the first h spots in the queue are expanded, and one of those behind them is the next. Assumes nothing.
-use Prim.Native.Nat.{◌-◌, ℕ}
 use mathlib.Core.Path.{◌∙◌}
-use mathlib.Core.List.{List}
 use native.Mathlib.Omega.{arith}
-use Rattle.model.specs.Record.{job_of}
 use Rattle.channel.specs.Map.Numbers.{spots-is}
-use Rattle.augment.specs.Steps.{Front}
 use Rattle.augment.specs.Queue.{alike_then, front-start, front-ready, front-more, front-exit, front-end}
 use Rattle.augment.specs.Turns.{front-turned}
 use Rattle.augment.proofs.reach.explore.Goals as goal

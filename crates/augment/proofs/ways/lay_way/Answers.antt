@@ -1,10 +1,8 @@
 -- `ways::lay_way` meets its contract: the darts from the i-th spot on are laid. Assumes nothing.
 use mathlib.Core.Path.{◌≡◌, ◌∙◌}
-use Prim.Native.Nat.{◌<◌}
 use native.Mathlib.Omega.{arith}
 use lib.ListN.{get_or}
 use Rattle.channel.specs.Map.Numbers.{spots-is}
-use Rattle.channel.specs.Map.{spots}
 use Rattle.augment.specs.Ways.{laid-first, laid-back}
 use Rattle.augment.proofs.ways.lay_way.Goals as goal
 

@@ -1,5 +1,4 @@
 -- `ways::unmark` meets its contract: the spots passed are not marked. Assumes nothing.
-use Prim.Native.Nat.{◌-◌}
 use mathlib.Core.Path.{◌≡◌}
 use native.Mathlib.Omega.{arith}
 use Rattle.augment.proofs.ways.unmark.Goals as goal

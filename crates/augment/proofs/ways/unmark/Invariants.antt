@@ -1,5 +1,5 @@
 -- What each turn of `ways::unmark` keeps. Assumes nothing.
-use Prim.Native.Nat.{◌-◌, ◌≤◌}
+use Prim.Native.Nat.{◌≤◌}
 use mathlib.Core.Path.{◌≡◌}
 use lib.ListN.{length}
 use Rattle.augment.specs.Marks.{Unmarked}

@@ -1,6 +1,6 @@
 -- What each turn of `fits::fits` keeps. Assumes nothing.
 use mathlib.Core.Path.{◌≡◌}
-use Prim.Native.Nat.{◌-◌, ◌≤◌}
+use Prim.Native.Nat.{◌≤◌}
 use Rattle.sums.specs.Tests.{below}
 use Rattle.model.specs.Record.{job_of}
 use Rattle.model.specs.Sheet.{sheet_cell_fits}

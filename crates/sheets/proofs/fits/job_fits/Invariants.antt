@@ -1,7 +1,7 @@
 -- What each turn of `fits::job_fits` keeps. Assumes nothing.
 use mathlib.Core.Path.{◌≡◌}
 use mathlib.Core.Bool.{not}
-use Prim.Native.Nat.{◌-◌, ◌≤◌}
+use Prim.Native.Nat.{◌≤◌}
 use Rattle.sums.specs.Tests.{below}
 use Rattle.model.specs.Job.{is_missing}
 use Rattle.model.specs.Record.{job_of}

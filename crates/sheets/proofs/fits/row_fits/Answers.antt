@@ -1,7 +1,7 @@
 -- `fits::row_fits` meets its contract. The loop's invariant: what was found is the test of the columns passed. Assumes nothing.
 use native.Mathlib.Omega.{arith}
 use mathlib.Core.Path.{ap, ◌∙◌}
-use Prim.Native.Nat.{ℕ, ◌-◌}
+use Prim.Native.Nat.{ℕ}
 use Rattle.sums.specs.Tests.{below}
 use Rattle.model.specs.Record.{job_of}
 use Rattle.model.specs.Sheet.{sheet_cell_fits}

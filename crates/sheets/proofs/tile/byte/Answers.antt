@@ -2,9 +2,6 @@
 use mathlib.Core.Path.{◌∙◌}
 use native.Mathlib.Omega.{arith}
 use Rattle.sheets.specs.Tests.{sheet-on}
-use Rattle.sheets.proofs.tile.byte.Reads as reads
-use Rattle.sheets.proofs.tile.byte.Lts as lts
-use Rattle.channel.proofs.header.wide.Reads as wide-reads
 use Rattle.sheets.proofs.tile.byte.Goals as goal
 
 pub returns : goal.returns

@@ -6,6 +6,6 @@ use Rattle.sheets.proofs.tile.entry.Goals as goal
 pub returns : goal.returns
 unfolding table
 returns c = record {
-      value = table-value c.args.n c.args.e c.args.s c.args.w c.requires.0 c.requires.1 c.requires.2 c.requires.3;
-      exact = table-exact c.args.n c.args.e c.args.s c.args.w c.requires.0 c.requires.1 c.requires.2 c.requires.3;
-    }
+  value = table-value c.args.n c.args.e c.args.s c.args.w c.requires.0 c.requires.1 c.requires.2 c.requires.3;
+  exact = table-exact c.args.n c.args.e c.args.s c.args.w c.requires.0 c.requires.1 c.requires.2 c.requires.3;
+}
