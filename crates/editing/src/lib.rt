@@ -1,4 +1,6 @@
 // Mark, Close, the counts of wires already laid, the D of a tile, and a lower E. Each takes out only the wires that it has to.
+#![tactic(auto)]
+
 ghost use Rattle.std.specs.Prelude.{◌≡◌, [], ◌≤◌, ◌<◌, length};
 ghost use Rattle.model.specs.Job.{own_for};
 ghost use Rattle.model.specs.Record.{job_of, Legal};

@@ -1,4 +1,6 @@
 // The listing of document 01: the bytes that `escape` prints, laid into pages that the caller lends, and the whole listing of a record's wires.
+#![tactic(auto)]
+
 pub mod page; // bytes, words and numbers
 pub mod near; // the near side of a short job, and a refusal
 pub mod wires; // the wires of a legal record

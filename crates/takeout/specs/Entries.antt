@@ -86,6 +86,10 @@ module _ (J : Job) (f : Step → ℕ) (S : Sound J f) (r c : ℕ) where
   by-link (side east) s (suc (suc (suc (suc (suc j))))) t e g = absurd (none-some _ g)
   by-link (side south) s (suc (suc (suc (suc (suc j))))) t e g = absurd (none-some _ g)
   by-link (side west) s (suc (suc (suc (suc (suc j))))) t e g = absurd (none-some _ g)
+  by-link pin s j t e g = elim t [ ]
+  by-link missing s j t e g = elim t [ ]
+  by-link outside s j t e g = elim t [ ]
+  by-link nowhere s j t e g = elim t [ ]
 
   tile-place : (x : Place) → T (in_tile r c x) → (x ≡ at x.kind r c) × T (of_tile x.kind)
   tile-place x t =

@@ -1,5 +1,7 @@
 // Wires taken out of a record: the pins whose wires go are marked, a byte for each of the 1,600 cells, and their wires are taken out. Callers lend the record
 // as it was, audited, in which wires are followed, and a copy of it that changes.
+#![tactic(auto)]
+
 ghost use Rattle.std.specs.Prelude.{◌+◌, ◌/◌, ◌%◌, ◌≤◌, ◌<◌, ◌≡◌, [], ◌∷◌, T, length};
 ghost use Rattle.model.specs.Job.{is_chosen, marked, closed, side_of, laid_by, with_own_d, with_extra};
 ghost use Rattle.model.specs.Links.{centre, Place, is_place, pin_at, turn, at};

@@ -1,0 +1,21 @@
+-- `takeout::mark_place` meets its contract. The loop's invariant: the pins of the wires that come by the slots before the k-th are marked. The five slots are
+use mathlib.Core.Path.{◌∙◌}
+use Prim.Native.Nat.{◌-◌}
+use native.Mathlib.Omega.{arith}
+use Rattle.takeout.specs.Marks.{slots-more, slots-all}
+use Rattle.takeout.proofs.mark_place.Goals as goal
+
+pub loop-k-preserved : goal.loop-k-preserved
+loop-k-preserved c =
+    let s = c in
+    let l = c.loop-k in (
+      omega (arith, c.loop-k-test.true),
+      c.mark_slot.auto.taken ∙ l.invariant.1,
+      slots-more s.args.was.now s.requires.0 s.args.u l.k _ _ _ l.invariant.2 c.mark_slot.ensures,
+    )
+
+pub returns : goal.returns
+returns c =
+    let s = c in
+    let l = c.loop-k in
+    slots-all s.args.was.now s.requires.0 s.args.u l.k _ _ (omega (arith, l.invariant.0)) l.invariant.2
