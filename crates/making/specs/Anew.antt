@@ -1,9 +1,9 @@
 -- Document 01, "New" and "Read text": the answer of New by its three tests, and that of Read text by its verdict. Assumes nothing.
-use Rattle.std.specs.Prelude.{◌≡◌, refl, Bool, true, false, not, ◌&&◌, List, [], ◌∷◌, ℕ, ◌≤◌, ◌<◌, T, leb, length}
-use Rattle.std.proofs.Common.{sym, ap, subst, ◌∙◌, arith, le-leb}
+use Rattle.std.specs.Prelude.{◌≡◌, refl, Bool, true, false, not, List, [], ◌∷◌, ℕ, ◌≤◌, ◌<◌, T, leb, length}
+use Rattle.std.proofs.Common.{sym, ap, ◌∙◌, arith, le-leb}
 use Rattle.std.proofs.lemmas.Bool.{not-true, not-false, lt-leb}
-use Rattle.sums.specs.Tests.{and_left, and_right, so}
-use Rattle.model.specs.Job.{Job, in_range, array_fits, caps_admitted, fresh}
+use Rattle.sums.specs.Tests.{and_left, and_right}
+use Rattle.model.specs.Job.{in_range, array_fits, caps_admitted, fresh}
 use Rattle.model.specs.Record.{record_size, unwired_record, over}
 use Rattle.model.specs.Text.{Verdict, Reading}
 use Rattle.model.specs.Calls.{refused, done, After, after, Test, test, asked, newly, read_in, ReadIn}

@@ -1,4 +1,6 @@
 // The operations that make a job, and its text.
+#![tactic(auto)]
+
 pub mod anew; // New
 pub mod texts; // Read text, Write text
 

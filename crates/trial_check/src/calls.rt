@@ -7,7 +7,7 @@ use verdict::bytes::{Tally, hold};
 use verdict::record::{BEYOND, Record, holds_unwired};
 
 // The arguments of a call, and how many bytes of the record are lent.
-#[derive(Drop)]
+#[derive(Clone, Copy)]
 pub struct Asked {
     pub n: usize,
     pub rows: usize,

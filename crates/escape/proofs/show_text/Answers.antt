@@ -1,0 +1,23 @@
+-- What document 01 says of a text; the record of one that reads is legal. Assumes nothing.
+use Rattle.std.proofs.Common.{refl, List, ℕ, replicate}
+use Rattle.text.proofs.RoundTrip.{code-round-trip}
+use Rattle.listing.specs.Near.{refused_listing}
+use Rattle.escape.specs.Prints.{refused, prints-routed}
+use Rattle.escape.proofs.show_text.Goals as goal
+
+-- the record that the text is read into
+abbrev zeros : List ℕ
+zeros = replicate 32768 0
+
+pub show_routed-requires : goal.show_routed-requires
+show_routed-requires g c = code-round-trip.read-legal c.args.text.now zeros c.read_into.new.rec c.in-Reads.ensures
+
+pub returns-in-Reads : goal.returns-in-Reads
+returns-in-Reads g c =
+    let (bytes, l, h, d) = c.show_routed.ensures in
+    (bytes, prints-routed c.args.text.now c.read_into.new.rec zeros bytes c.in-Reads.ensures l, h, d)
+
+pub returns-in-WrongAt : goal.returns-in-WrongAt
+returns-in-WrongAt g c =
+    let o = c.in-WrongAt.o in
+    (refused_listing o, refused o c.in-WrongAt.ensures.0 refl, c.show_refused.ensures.handed, c.show_refused.ensures.held)
