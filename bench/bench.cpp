@@ -13,7 +13,6 @@
 #include <iterator>
 
 #include <fcntl.h>
-#include <spawn.h>
 #include <sys/resource.h>
 #include <sys/wait.h>
 #include <unistd.h>
@@ -112,31 +111,21 @@ bool compare(const std::string &name, const std::string &text) {
     return agree;
 }
 
-// Microseconds of a program that reads a file. It is spawned: a child that copies the pages of this process before it begins would pay for them.
-double once(const char *program, const std::string &input) {
-    posix_spawn_file_actions_t files;
-    posix_spawn_file_actions_init(&files);
-    posix_spawn_file_actions_addopen(&files, 0, input.c_str(), O_RDONLY, 0);
-    posix_spawn_file_actions_addopen(&files, 1, "/dev/null", O_WRONLY, 0);
-    char *const arguments[] = {const_cast<char *>(program), nullptr};
-    pid_t child = 0;
-    const bool begun = posix_spawn(&child, program, &files, nullptr, arguments, environ) == 0;
-    posix_spawn_file_actions_destroy(&files);
+// Microseconds of a program that reads a file.
+double process(const char *program, const std::string &input) {
+    const pid_t child = fork();
+    if (child == 0) {
+        if (dup2(open(input.c_str(), O_RDONLY), 0) == 0 && dup2(open("/dev/null", O_WRONLY), 1) == 1) execl(program, program, nullptr);
+        _exit(127);
+    }
     int status = 0;
     rusage used{};
-    if (!begun || wait4(child, &status, 0, &used) != child || !WIFEXITED(status) || WEXITSTATUS(status) != 0) {
+    if (child < 0 || wait4(child, &status, 0, &used) != child || !WIFEXITED(status) || WEXITSTATUS(status) != 0) {
         std::fprintf(stderr, "%s failed\n", program);
         std::exit(1);
     }
     const auto micros = [](const timeval &t) { return 1e6 * static_cast<double>(t.tv_sec) + static_cast<double>(t.tv_usec); };
     return micros(used.ru_utime) + micros(used.ru_stime);
-}
-
-// The least of four.
-double process(const char *program, const std::string &input) {
-    double least = 1e12;
-    for (int i = 0; i < 4; i++) least = std::min(least, once(program, input));
-    return least;
 }
 
 // The least of so many times in which all were measured in turn.

@@ -1,7 +1,7 @@
 """Talusdish from Python: the functions of include/talusdish.h by ctypes, ball names, and what docs/RECORD.md says of a record.
 
-The library is proved and built on first use by `rt staticlib talusdish`, which standard error shows, and is kept in target/host/. With the path of a
-shared library in the variable TALUSDISH that one is used, and nothing is built."""
+The library is proved and built on first use by host/prove, which standard error shows, and is kept in target/host/. With the path of a shared library in
+the variable TALUSDISH that one is used, and nothing is built."""
 import ctypes
 import fcntl
 import functools
@@ -75,7 +75,7 @@ class Refused(Exception):
 def crates_below(name):
     """The crates that a crate stands on, and itself, by crates.txt."""
     lines = (line.split('#')[0].split(':') for line in (ROOT / 'crates.txt').read_text().splitlines())
-    below = {line[0].strip(): line[1].split() for line in lines if len(line) == 2}
+    below = {line[0].split()[0]: line[1].split() for line in lines if len(line) == 2}
     found, ahead = set(), [name]
     while ahead:
         crate = ahead.pop()
@@ -88,7 +88,7 @@ def crates_below(name):
 def sources_digest():
     """A digest of every file that the library is made and proved from."""
     digest = hashlib.sha256((ROOT / 'crates.txt').read_bytes())
-    for crate in crates_below('talusdish'):
+    for crate in crates_below('talusdish_c'):
         for path in sorted(p for part in ('src', 'specs', 'proofs') for p in (ROOT / 'crates' / crate / part).rglob('*') if p.is_file()):
             digest.update(f'{path.relative_to(ROOT)}\n'.encode() + path.read_bytes())
     return digest.hexdigest()
@@ -117,7 +117,7 @@ def build_library():
         fcntl.flock(lock, fcntl.LOCK_EX)
         digest = sources_digest()
         if not (shared.exists() and stamp.exists() and stamp.read_text() == digest):
-            if subprocess.run([ROOT / 'host' / 'prove', 'staticlib', 'talusdish']).returncode:
+            if subprocess.run([ROOT / 'host' / 'prove', 'library']).returncode:
                 raise Failed('the library was not built')
             link_shared(ROOT / 'target' / 'staticlib' / 'libtalusdish.a', shared)
             stamp.write_text(digest)

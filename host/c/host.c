@@ -1,6 +1,6 @@
 /* The smallest complete host in C: opens a job, marks pins, steps to the end, lists the wires, asks for the shortfall.
  *
- *     rt staticlib talusdish
+ *     host/prove library
  *     cc -I include host/c/host.c target/staticlib/libtalusdish.a -o target/host/c_host && target/host/c_host
  */
 #include <stdio.h>

@@ -1,6 +1,6 @@
 //! The smallest complete host in Rust: opens a job, marks pins, steps to the end, lists the wires, asks for the shortfall.
 //!
-//!     rt staticlib talusdish
+//!     host/prove library
 //!     rustc host/rust/host.rs -L native=target/staticlib -l static=talusdish -o target/host/rust_host && target/host/rust_host
 
 use std::io::Write;

@@ -260,7 +260,7 @@ class BesideEscape(unittest.TestCase):
 
     @classmethod
     def setUpClass(cls):
-        subprocess.run([ROOT / 'host' / 'prove', 'check', 'escape'], check=True)
+        subprocess.run([ROOT / 'host' / 'prove', 'program', 'escape'], check=True)
 
     def escape(self, path):
         with open(path, 'rb') as text:

@@ -10,21 +10,27 @@ import talusdish
 from support import ROOT, example
 
 SLOW = '''#!/bin/sh
-echo "rt: sums proved (unchanged since it was last proved)"
+echo "rt: chose --jobs 2 for flow" >&2
+echo "fn flow::ways: proved" >&2
 sleep 2
-echo "rt: flow proved (2 s)"
-mkdir -p target/bin
-printf '#!/bin/sh\\ncat "$LISTING"\\n' >target/bin/escape
-chmod +x target/bin/escape
+echo "logic=proved functions=1" >&2
+mkdir -p out
+printf '#!/bin/sh\\ncat "$LISTING"\\n' >out/escape
+chmod +x out/escape
+echo none >out/libtalusdish_c.a
+echo "rt: running out/escape; to give it other input, run that file yourself" >&2
+[ "$1" = lib ]
 '''
 BUILDING = '''#!/bin/sh
-echo built >>target/host/builds
-mkdir -p target/staticlib
-cp "$ARCHIVE" target/staticlib/
+echo built >>../../target/host/builds
+mkdir -p out
+cp "$ARCHIVE" out/libtalusdish_c.a
 '''
 FAILING = '''#!/bin/sh
-echo "error: a need is not proved"
-echo "rt: sums NOT PROVED (exit 1, 3 s)"
+echo "rt: chose --jobs 2 for sums" >&2
+echo "src/lib.rt:1:1: error: a goal is not proved" >&2
+echo "logic=not-proved" >&2
+echo "rt: the library sums did not build, so nothing above it was checked" >&2
 exit 1
 '''
 
@@ -41,7 +47,9 @@ class Copy(unittest.TestCase):
         shutil.copytree(ROOT / 'host', self.root / 'host', ignore=shutil.ignore_patterns('__pycache__'))
         for name in ('run', 'crates.txt'):
             shutil.copy(ROOT / name, self.root / name)
-        for tool in ('env', 'bash', 'sh', 'python3', 'awk', 'sort', 'tee', 'tail', 'cut', 'sed', 'mkdir', 'dirname', 'nproc', 'realpath', 'mktemp', 'rm', 'cat', 'head', 'sleep', 'chmod', 'cp', 'cc', 'ld'):
+        for name in ('escape', 'talusdish_c'):
+            (self.root / 'crates' / name).mkdir(parents=True)
+        for tool in ('env', 'bash', 'sh', 'python3', 'awk', 'tee', 'grep', 'tail', 'cut', 'sed', 'mkdir', 'dirname', 'realpath', 'mktemp', 'rm', 'mv', 'cat', 'head', 'sleep', 'chmod', 'cp', 'cc', 'ld'):
             (self.bin / tool).symlink_to(self.tool(tool))
 
     @staticmethod
@@ -76,7 +84,7 @@ class Talus(Copy):
     def test_progress_and_a_failed_link(self):
         self.rt(SLOW)
         said = self.build()
-        self.assertRegex(said, r'proving \w+ \(1 of \d+ crates done\)\n.*flow proved \(2 s\)')
+        self.assertRegex(said, r'proving flow \([1-9] of \d+ crates done\)\n.*flow proved \(2 s\)')
         self.assertIn('could not link the library', said)
 
     def test_no_compiler(self):
@@ -106,7 +114,7 @@ class Run(Copy):
     def test_what_is_being_proved_is_shown(self):
         self.rt(SLOW)
         run = self.run_in_copy('./run', example('four_pins'), LISTING=self.listing('(wires 0)\n'))
-        self.assertRegex(run.stderr, r'proving \w+(, \w+)* \(1 of \d+ crates done\)')
+        self.assertRegex(run.stderr, r'proving flow \(1 of \d+ crates done\)')
 
     def test_failures(self):
         self.assertIn('no `rt` on the PATH', self.fails(example('four_pins')))
@@ -141,6 +149,6 @@ class Sources(Copy):
             self.assertEqual(builds.read_text().count('built'), count)
 
     def test_the_crates_below_the_library(self):
-        below = talusdish.crates_below('talusdish')
-        self.assertLessEqual({'talusdish', 'sums', 'rules'}, set(below))
+        below = talusdish.crates_below('talusdish_c')
+        self.assertLessEqual({'talusdish_c', 'talusdish', 'sums', 'rules'}, set(below))
         self.assertNotIn('oracle', below)
