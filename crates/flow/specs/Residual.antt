@@ -1,7 +1,7 @@
 -- Residual moves: along a dart a flow can be changed by one unit, by taking a unit back from its reverse or by one more of its own. A set is closed if
 -- no residual move leads out of it; what is reached from a set by residual moves is closed, and lies in every closed set that holds it. Assumes nothing.
 use Rattle.std.specs.Prelude.{◌≡◌, refl, ◌↔◌, Bool, ℕ, ◌<◌, T}
-use Rattle.std.proofs.Common.{sym, subst, arith}
+use Rattle.std.proofs.Common.{sym, subst}
 use Rattle.flow.specs.Network.{Net, head, head<}
 use Rattle.flow.specs.Balance.{back}
 

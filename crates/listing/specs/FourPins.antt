@@ -1,11 +1,11 @@
 -- Request K8, "The four-pin listing is fixed again: four wires by (out p 0), then (length 0) and (mean 0 0)": the whole listing of the four-pin job whose wires
 -- leave directly. Assumes nothing.
 use Rattle.std.specs.Prelude.{◌≡◌, refl, ◌≢◌, Bool, true, false, ◌&&◌, List, [], ◌∷◌, ◌++◌, ℕ, zero, suc, ◌+◌, ◌-◌, ◌≤◌, ◌<◌, T, eqb, ltb}
-use Rattle.std.proofs.Common.{sym, ap, ap₂, subst, ◌∙◌, append-nil, add-zero, add-suc, arith, le-ltb}
+use Rattle.std.proofs.Common.{sym, ap, ap₂, subst, ◌∙◌, add-zero, add-suc, arith, le-ltb}
 use Rattle.std.proofs.Math.Option.{none}
 use Rattle.std.proofs.Math.Decide.{dec_le}
 use Rattle.sums.specs.Counting.{only, each, those, total, sum}
-use Rattle.model.specs.Job.{Job, is_open, is_chosen, is_missing}
+use Rattle.model.specs.Job.{is_open, is_chosen, is_missing}
 use Rattle.model.specs.Links.{pin, at, places, direct, behind_of, ahead_of, Step, go, head}
 use Rattle.model.specs.Loads.{departures}
 use Rattle.model.specs.Wires.{falling_ends, ends_on, arrival_at, leaving, first_loaded, onward, hop_at, is_wired, wire_count, part_at}

@@ -1,10 +1,10 @@
 -- Document 02, "Rim pins leave directly": which pins have a link straight to the outside, on rows of jobs; and of the 64-byte job's one wire, "its part is
 -- listed as (out p 0) and its length is 0". Assumes nothing.
-use mathlib.Core.Path.{◌≡◌, refl, sym, subst}
+use mathlib.Core.Path.{◌≡◌, refl}
 use mathlib.Core.Bool.{◌&&◌}
 use mathlib.Core.List.{List, [], ◌∷◌, Memᴰ}
 use Prim.Native.Nat.{ℕ}
-use lib.Dec.{T, eqb, eqb→eq}
+use lib.Dec.{eqb, eqb→eq}
 use Rattle.sums.specs.Counting.{each, those, total, count}
 use Rattle.sums.specs.Tests.{every, every-at}
 use Rattle.model.specs.Job.{Job, is_open, is_chosen, is_missing}

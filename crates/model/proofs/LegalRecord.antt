@@ -13,12 +13,11 @@ use lib.ListN.{length, get_or, get_elem?, drop, length-append, length-drop}
 use lib.Seq.{ext_get_or, get_or-append-add, get_or-drop}
 use Rattle.sums.specs.Counting.{when}
 use Rattle.sums.specs.Tests.{below_or, and_left, and_right}
-use Rattle.sums.specs.Sums.{when-none}
 use Rattle.model.specs.Job.{Job, in_range, has_north, has_west, laid_most, is_own_d, upward_most, seen_most}
 use Rattle.model.specs.Links.{LinkKind, link_code}
-use Rattle.model.specs.Record.{record_size, offset, load_plane, cell, added_of, job_of, forth_part, back_part, load, Legal}
+use Rattle.model.specs.Record.{record_size, load_plane, cell, added_of, job_of, forth_part, back_part, load, Legal}
 use Rattle.model.specs.Record.{kinds, load_byte, kind_byte, plane_byte, head_byte, record_of, over}
-use Rattle.model.proofs.RecordOf.{in_cells, cells-row, cells-column, range-most, byte_of, length-record, head-back, plane-back, head-seen, head-none}
+use Rattle.model.proofs.RecordOf.{range-most, byte_of, length-record, head-back, plane-back, head-seen, head-none}
 use Rattle.model.proofs.JobBytes.{cell-get, seen-get}
 use Rattle.model.proofs.Over.{get-over}
 use Rattle.model.proofs.Own.{own_range, own-or-none}

@@ -9,7 +9,7 @@ use Prim.Native.Nat.{ℕ, zero, suc, ◌+◌, ◌*◌, ◌≤◌, ◌<◌}
 use native.Mathlib.Omega.{arith}
 use lib.Dec.{T, not_T, eqb, leb, ltb, eqb→eq, eqb_refl, le→leb, lt→ltb, ltb→lt}
 use lib.ListN.{length, length-append}
-use Rattle.sums.specs.Counting.{when, only, each}
+use Rattle.sums.specs.Counting.{when, each}
 use Rattle.sums.specs.Tests.{Same, same, other, same?, below_or, and_left, and_right, and_both}
 use Rattle.model.specs.Job.{Job, in_range, array_fits, caps_admitted, fresh, is_pin, is_tile, is_own_d, is_chosen, is_missing, is_closed, Proper, caps_fit}
 use Rattle.model.specs.Text.{Group, chosen_pins, missing_pins, closed_tiles, own_ds, laid_sides, groups, Line, array_line, group_line, end_line, says, line_bytes}

@@ -6,7 +6,7 @@ use mathlib.Core.Logic.{◌≢◌, ◌⊎◌, inl, inr}
 use mathlib.Core.Bool.{Bool, true, false, not, ◌&&◌}
 use mathlib.Core.List.{List, [], ◌∷◌, ◌++◌}
 use mathlib.Core.Option.{Option}
-use Prim.Native.Nat.{ℕ, zero, suc, ◌+◌, ◌-◌, ◌*◌, ◌/◌, ◌%◌, ◌≤◌, ◌<◌}
+use Prim.Native.Nat.{ℕ, zero, suc, ◌+◌, ◌*◌, ◌/◌, ◌%◌, ◌≤◌, ◌<◌}
 use native.Mathlib.Nat.{not-suc-le-zero, eq-zero-or-pos}
 use native.Mathlib.Omega.{arith}
 use lib.Dec.{T, eqb, leb, ltb, eqb→eq, leb→le, ltb→lt, nltb→le, lt→ltb}
@@ -16,7 +16,7 @@ use Rattle.sums.specs.Counting.{when, each}
 use Rattle.sums.specs.Tests.{below_or, Same, same, other, same?, and_left, and_right, and_both}
 use Rattle.sums.specs.Sums.{when-cong}
 use Rattle.sums.specs.Entries.{entry_past}
-use Rattle.model.specs.Job.{Added, Job, in_range, array_fits, caps_fit, is_pin, is_tile, has_north, has_west, laid_most, own_d_fits, seen_most, AddedFits, Proper}
+use Rattle.model.specs.Job.{Job, in_range, array_fits, caps_fit, is_pin, is_tile, has_north, has_west, laid_most, own_d_fits, seen_most, AddedFits, Proper}
 use Rattle.model.specs.Links.{north, east, south, west, LinkKind, north_side, west_side, corner, spoke, leg, direct, Link, Step, go, come, turn}
 use Rattle.model.specs.Loads.{Sound}
 use Rattle.model.specs.Record.{record_size, load_plane, offset, cell, added_of, job_of, forth_part, back_part, load, Legal}

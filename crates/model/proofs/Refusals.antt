@@ -1,7 +1,7 @@
 -- Document 01, "Settled by hand" and "Record and operations": with which number New, Mark, Close, Lay, `diagonal` and a trial are refused, on rows with one fault and with more; that
 -- a side named from either tile is the same call; that a value already there changes nothing; that Shortfall tests the scratch before the output; and how far the scratch is cleared. Assumes nothing.
 use mathlib.Core.Path.{◌≡◌, refl, sym, ap, ◌∙◌}
-use mathlib.Core.Bool.{Bool, true, false, ◌&&◌}
+use mathlib.Core.Bool.{Bool, true, false}
 use mathlib.Core.List.{List, [], ◌∷◌, Memᴰ}
 use mathlib.Core.Option.{Option, none, some}
 use Prim.Native.Nat.{ℕ, suc, ◌+◌, ◌-◌, ◌*◌, ◌≤◌, ◌<◌}
@@ -15,7 +15,7 @@ use Rattle.model.specs.Job.{Job, array_fits, caps_admitted, fresh, marked, close
 use Rattle.model.specs.Links.{Step}
 use Rattle.model.specs.Record.{record_size, scratch_size, job_of, load, unwired_record, over}
 use Rattle.model.specs.Left.{mark_left, close_left, laid_left, centre_left}
-use Rattle.model.specs.Calls.{Answer, refused, done, refusal, After, after, cleared, Test, test, asked, newly, edited, marked_by, closed_by, laid_in, diagonal_in, tried_on, Lacks, extra_in}
+use Rattle.model.specs.Calls.{done, refusal, After, after, cleared, Test, test, asked, newly, edited, marked_by, closed_by, laid_in, diagonal_in, tried_on, Lacks, extra_in}
 use Rattle.model.specs.Trial.{Trial, seed_fits, percents_fit, trial_job}
 use Rattle.model.specs.Examples.{Opening, openings, Edit, markings, closings, Laying, layings, diagonals, Trying, tryings, Lowering, lowerings}
 use Rattle.model.proofs.Asked.{hold-both, asked-holds, asked-all}

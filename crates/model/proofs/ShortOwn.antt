@@ -2,7 +2,6 @@
 -- tile, as where D is 2 in the whole job. Assumes nothing.
 use mathlib.Core.Path.{◌≡◌, refl}
 use mathlib.Core.List.{List, [], ◌∷◌}
-use Prim.Native.Nat.{ℕ}
 use Rattle.sums.specs.Counting.{each, those, total}
 use Rattle.sums.specs.Tests.{every}
 use Rattle.model.specs.Job.{is_open, is_chosen, is_missing, tile_d}

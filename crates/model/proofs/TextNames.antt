@@ -6,11 +6,11 @@ use mathlib.Core.Bool.{Bool, true, false, not, ◌&&◌}
 use mathlib.Core.List.{List, [], ◌∷◌}
 use Prim.Native.Nat.{ℕ, zero, suc, ◌+◌, ◌*◌, ◌≤◌, ◌<◌}
 use native.Mathlib.Omega.{arith}
-use lib.Dec.{T, T_not, eqb, leb, ltb, eqb→eq, eqb_refl, leb→le, ltb→lt, lt→ltb}
+use lib.Dec.{T, T_not, eqb, leb, ltb, eqb→eq, leb→le, ltb→lt, lt→ltb}
 use Rattle.sums.specs.Counting.{when, only}
 use Rattle.sums.specs.Tests.{Same, same, other, same?, and_left, and_right, and_both}
 use Rattle.sums.specs.Sums.{when-cong, when-none}
-use Rattle.model.specs.Job.{Job, in_range, fresh, marked, closed, with_own_d, put, Side, of_north, of_west, side_of, laid_on, laid_by, is_pin, is_tile, is_chosen, is_missing, is_closed, Proper}
+use Rattle.model.specs.Job.{Job, in_range, fresh, marked, closed, put, Side, of_north, of_west, side_of, laid_on, laid_by, is_pin, is_tile, is_chosen, is_missing, is_closed, Proper}
 use Rattle.model.specs.Text.{Group, chosen_pins, missing_pins, closed_tiles, own_ds, laid_sides, groups, group_line, says, line_bytes, within, rank, group_of, key_of}
 use Rattle.model.specs.Text.{Reader, writes_side, names, named, value_at, value_line}
 use Rattle.model.proofs.Added.{added-known}

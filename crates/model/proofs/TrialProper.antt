@@ -1,8 +1,7 @@
 -- Document 02, K6: the job of a trial is in range, with nothing outside its array. Assumes nothing.
 use mathlib.Core.Bool.{Bool, true, false}
 use Prim.Native.Nat.{ℕ, ◌+◌, ◌-◌, ◌*◌}
-use native.Mathlib.Omega.{arith}
-use lib.Dec.{T, leb, ltb, le→leb}
+use lib.Dec.{T, leb, ltb}
 use Rattle.sums.specs.Counting.{when}
 use Rattle.model.specs.Job.{Job, array_fits, caps_fit, fresh, is_pin, is_tile, Proper}
 use Rattle.model.specs.Trial.{Trial, drawn_at, turn, mark_drawn, trial_mark, state_drawn, trial_state, trial_job}

@@ -1,7 +1,7 @@
 -- Loads worked out on a copy of a record, sound and with all other bytes as they were, make a legal record of the same job where they are copied back.
 -- Assumes nothing.
-use Rattle.std.specs.Prelude.{◌≡◌, refl, ◌≢◌, not, List, ℕ, ◌≤◌, ◌<◌, T, length, get_or, drop}
-use Rattle.std.proofs.Common.{sym, ap, subst, ◌∙◌, arith, get_or-take}
+use Rattle.std.specs.Prelude.{◌≡◌, refl, ◌≢◌, not, List, ℕ, ◌≤◌, ◌<◌, T, length, drop}
+use Rattle.std.proofs.Common.{sym, subst, ◌∙◌, arith, get_or-take}
 use Rattle.sums.specs.Sums.{when-cong}
 use Rattle.model.specs.Job.{Job, array_fits, caps_fit, is_pin, is_tile, AddedFits}
 use Rattle.model.specs.Links.{Step}

@@ -1,5 +1,5 @@
 -- Cells that pass the test of their counts have none above O, and none where there is no side, and the other way round. Assumes nothing.
-use Rattle.std.specs.Prelude.{◌≡◌, Bool, ◌&&◌, ◌||◌, List, ℕ, ◌<◌, leb}
+use Rattle.std.specs.Prelude.{◌≡◌, Bool, ◌&&◌, List, ℕ, ◌<◌, leb}
 use Rattle.std.proofs.Math.Path.{refl}
 use Rattle.std.proofs.Common.{arith, le→leb}
 use Rattle.std.proofs.Math.Dec.{T}

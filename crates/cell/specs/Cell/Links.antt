@@ -10,7 +10,7 @@ use Rattle.std.proofs.Math.Dec.{T, leb, leb→le, nleb→lt, leb-zero}
 use Rattle.sums.specs.Counting.{when}
 use Rattle.sums.specs.Tests.{and_left, and_right, and_both, or-by, so, so-not}
 use Rattle.model.specs.Job.{Job, caps_fit}
-use Rattle.model.specs.Links.{LinkKind, north_side, west_side, corner, spoke, leg, direct, Link, link, Step, go, come, turn, may, limit_of, limit}
+use Rattle.model.specs.Links.{LinkKind, north_side, west_side, corner, spoke, leg, direct, Link, Step, go, come, turn, may, limit_of, limit}
 use Rattle.model.specs.Record.{load_plane, cell, job_of, forth_part, back_part, load}
 use Rattle.cell.specs.Cell.{fits, most, room, link_fits, sides_fit, corners_fit, spokes_fit, legs_fit, links_fit}
 use Rattle.cell.specs.Cell.Tests.{four-at, four-all, caps-range, on-grid, off-grid}

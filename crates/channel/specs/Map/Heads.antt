@@ -1,7 +1,7 @@
 -- How far ahead the spot lies that a dart leads to, by the dart's row, and these rows packed into words. In a cell that has all its neighbours no way back
 -- leaves the range. Assumes nothing.
 use Rattle.std.specs.Prelude.{◌≡◌, refl, List, [], ◌∷◌, ℕ, ◌+◌, ◌-◌, ◌*◌, ◌/◌, ◌%◌, ◌^◌, ◌≤◌, ◌<◌, ltb, get_or}
-use Rattle.std.proofs.Common.{sym, ap, subst, ◌∙◌, arith, ltb→lt}
+use Rattle.std.proofs.Common.{ap, subst, ◌∙◌, arith, ltb→lt}
 use Rattle.sums.specs.Tests.{below, below_at}
 use Rattle.channel.specs.Map.{turns, turn_of, rev}
 use Rattle.channel.specs.Map.Packed.{part}

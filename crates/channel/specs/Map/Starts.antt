@@ -1,6 +1,6 @@
 -- Wires are wanted at the chosen pins alone: a spot at which one is wanted is the exit of a chosen pin, and the exit of a chosen pin is a spot. Those
 -- spots stand 8 apart from 329 on, and none is outside. Assumes nothing.
-use Rattle.std.specs.Prelude.{◌≡◌, ℕ, ◌+◌, ◌-◌, ◌*◌, ◌/◌, ◌%◌, ◌<◌, ◌&&◌, T, eqb}
+use Rattle.std.specs.Prelude.{◌≡◌, ℕ, ◌/◌, ◌%◌, ◌<◌, ◌&&◌, T, eqb}
 use Rattle.std.proofs.Math.Path.{refl}
 use Rattle.std.proofs.Math.Bool.{Bool, not}
 use native.Mathlib.Omega.{arith}

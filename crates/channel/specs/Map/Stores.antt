@@ -8,7 +8,7 @@ use Rattle.std.proofs.Math.Dec.{T, eqb-suc-zero}
 use Rattle.std.proofs.Math.Seq.{get_or-set_other}
 use Rattle.sums.specs.Tests.{Same, same, other, same?, and_left, and_right, below, below_at}
 use Rattle.sums.specs.Sums.{when-so, when-none, when-cong}
-use Rattle.model.specs.Links.{north_side, Link, link, link_code, Step, turn}
+use Rattle.model.specs.Links.{north_side, Link, link_code, Step, turn}
 use Rattle.model.specs.Record.{record_size, offset, load_plane, kinds, cell, job_of, forth_part, back_part, load}
 use Rattle.model.proofs.RecordOf.{in_cells, cells-row, cells-column, cells-have}
 use Rattle.model.proofs.JobBytes.{job-same}

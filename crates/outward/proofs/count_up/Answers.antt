@@ -1,5 +1,4 @@
 -- `count_up` meets its contract: every column passed has its number. Assumes nothing.
-use Prim.Native.Nat.{◌-◌}
 use native.Mathlib.Omega.{arith}
 use Rattle.outward.proofs.count_up.Goals as goal
 

@@ -1,5 +1,4 @@
 -- `east_of` meets its contract: every column passed has its number. Assumes nothing.
-use Prim.Native.Nat.{◌-◌}
 use native.Mathlib.Omega.{arith}
 use Rattle.outward.proofs.east_of.Goals as goal
 

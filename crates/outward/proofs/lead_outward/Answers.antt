@@ -1,6 +1,5 @@
 -- `lead_outward` meets its contract: the rows passed lead outward. Assumes nothing.
 use mathlib.Core.Path.{refl}
-use Prim.Native.Nat.{◌-◌}
 use Rattle.outward.specs.Outward.{legs-outward}
 use Rattle.outward.proofs.lead_outward.Goals as goal
 

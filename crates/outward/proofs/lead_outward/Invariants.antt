@@ -1,6 +1,5 @@
 -- What each turn of `lead_outward` keeps. Assumes nothing.
 use mathlib.Core.Path.{◌≡◌}
-use Prim.Native.Nat.{◌-◌}
 use lib.ListN.{length}
 use Rattle.outward.specs.Outward.{Outward, parts}
 use Rattle.outward.proofs.lead_outward.Given as goal

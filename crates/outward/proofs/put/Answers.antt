@@ -1,5 +1,4 @@
 -- `put` meets its contract: the bytes passed are one wire each. Assumes nothing.
-use Prim.Native.Nat.{◌-◌}
 use Rattle.outward.specs.Outward.{put-before}
 use Rattle.outward.proofs.put.Goals as goal
 

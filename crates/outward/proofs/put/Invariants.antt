@@ -1,6 +1,6 @@
 -- What each turn of `put` keeps. Assumes nothing.
 use mathlib.Core.Path.{◌≡◌}
-use Prim.Native.Nat.{ℕ, ◌-◌, ◌≤◌, ◌<◌}
+use Prim.Native.Nat.{ℕ, ◌≤◌, ◌<◌}
 use lib.ListN.{length}
 use Rattle.outward.specs.Outward.{Put}
 use Rattle.outward.proofs.put.Given as goal

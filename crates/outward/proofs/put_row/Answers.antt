@@ -1,5 +1,4 @@
 -- `put_row` meets its contract: the columns passed have one wire each. Assumes nothing.
-use Prim.Native.Nat.{◌-◌}
 use native.Mathlib.Omega.{arith}
 use Rattle.outward.specs.Outward.{put-before}
 use Rattle.outward.proofs.put_row.Goals as goal

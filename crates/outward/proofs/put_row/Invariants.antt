@@ -1,6 +1,6 @@
 -- What each turn of `put_row` keeps. Assumes nothing.
 use mathlib.Core.Path.{◌≡◌}
-use Prim.Native.Nat.{◌+◌, ◌-◌, ◌*◌, ◌≤◌}
+use Prim.Native.Nat.{◌+◌, ◌*◌, ◌≤◌}
 use lib.ListN.{length}
 use Rattle.outward.specs.Outward.{Put, line_has}
 use Rattle.outward.proofs.put_row.Given as goal

@@ -1,5 +1,4 @@
 -- `row_sectors` meets its contract: every column passed has its sector. Assumes nothing.
-use Prim.Native.Nat.{◌-◌}
 use native.Mathlib.Omega.{arith}
 use Rattle.outward.proofs.row_sectors.Goals as goal
 

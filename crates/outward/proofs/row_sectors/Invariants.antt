@@ -1,6 +1,6 @@
 -- What each turn of `row_sectors` keeps. Assumes nothing.
 use mathlib.Core.Path.{◌≡◌}
-use Prim.Native.Nat.{ℕ, ◌-◌, ◌≤◌, ◌<◌}
+use Prim.Native.Nat.{ℕ, ◌≤◌, ◌<◌}
 use lib.ListN.{length, get_or}
 use Rattle.model.specs.Links.{compass_code}
 use Rattle.outward.specs.Outward.{Parts, sector, Middle}

@@ -1,6 +1,6 @@
 -- `pairing::join_all` meets its contract. The loop's invariant: the pairs joined so far, and then those of the rounds on what is left, are all pairs;
 use mathlib.Core.Path.{sym, subst, ◌∙◌}
-use Prim.Native.Nat.{ℕ, ◌+◌, ◌-◌}
+use Prim.Native.Nat.{ℕ, ◌+◌}
 use native.Mathlib.Omega.{arith}
 use lib.ListN.{length-set, set}
 use borrow.Author.Rules.{rules}

@@ -1,6 +1,5 @@
 -- `pairing::lay` meets its contract. The loop's invariant: the ends of the links before slot k are laid, and no other. Assumes nothing.
 use mathlib.Core.Path.{refl}
-use Prim.Native.Nat.{◌-◌}
 use native.Mathlib.Omega.{arith}
 use Rattle.sums.specs.Counting.{sum}
 use Rattle.pairing.proofs.lay.Goals as goal

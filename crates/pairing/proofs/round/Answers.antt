@@ -1,6 +1,5 @@
 -- `pairing::round` meets its contract. The loop's invariant: what is left is what was left at first, and no arrival and departure are neighbours among the
 use mathlib.Core.Path.{ap, ◌∙◌}
-use Prim.Native.Nat.{◌-◌}
 use native.Mathlib.Omega.{arith}
 use lib.ListN.{length-set}
 use Rattle.model.specs.Pairing.{strike}

@@ -1,6 +1,5 @@
 -- `pairing::start_of` meets its contract. The loop's invariant: the number is the sum over the slots passed. Assumes nothing.
 use mathlib.Core.Path.{refl, ap}
-use Prim.Native.Nat.{◌-◌}
 use native.Mathlib.Omega.{arith}
 use native.Mathlib.Numerals.{add-one}
 use Rattle.sums.specs.Counting.{sum}

@@ -1,6 +1,6 @@
 -- `takeout::mark_lanes` meets its contract. The loop's invariant: the pins of the wires on the lanes before the i-th are marked. Assumes nothing.
 use mathlib.Core.Path.{refl, subst, ◌∙◌}
-use Prim.Native.Nat.{ℕ, ◌-◌, ◌<◌}
+use Prim.Native.Nat.{ℕ, ◌<◌}
 use native.Mathlib.Omega.{arith}
 use lib.ListN.{length-set}
 use Rattle.channel.specs.Map.Numbers.{darts-is}

@@ -1,6 +1,5 @@
 -- `takeout::mark_missing` meets its contract. The loop's invariant: the pins of the wires that pass a missing pin of the cells before the i-th are marked.
 use mathlib.Core.Path.{refl}
-use Prim.Native.Nat.{◌-◌}
 use native.Mathlib.Omega.{arith}
 use Rattle.takeout.specs.Missing.{missing-first, missing-all}
 use Rattle.takeout.proofs.mark_missing.Goals as goal

@@ -1,6 +1,5 @@
 -- `takeout::mark_place` meets its contract. The loop's invariant: the pins of the wires that come by the slots before the k-th are marked. The five slots are
 use mathlib.Core.Path.{◌∙◌}
-use Prim.Native.Nat.{◌-◌}
 use native.Mathlib.Omega.{arith}
 use Rattle.takeout.specs.Marks.{slots-more, slots-all}
 use Rattle.takeout.proofs.mark_place.Goals as goal

@@ -1,5 +1,4 @@
 -- `takeout::take_marked` meets its contract. The loop's invariant: of the pins before the i-th cell, the wires of those marked are taken out. Assumes nothing.
-use Prim.Native.Nat.{◌-◌}
 use native.Mathlib.Omega.{arith}
 use Rattle.takeout.specs.AllTaken.{taken_none, taken_next, taken-all}
 use Rattle.takeout.specs.Marks.{is_marked}

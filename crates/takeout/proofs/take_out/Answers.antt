@@ -1,10 +1,9 @@
 -- `takeout::take_out` meets its contract. The loop's invariant: the hop d, l is the wire's n-th, and the hops before it are taken out. A wire has no more
 use mathlib.Core.Path.{sym}
-use Prim.Native.Nat.{◌-◌}
 use native.Mathlib.Omega.{arith}
 use Rattle.model.specs.Wires.{hop_at}
 use Rattle.channel.specs.Map.Numbers.{darts-is}
-use Rattle.wire.specs.Hops.{hop, takes-as}
+use Rattle.wire.specs.Hops.{takes-as}
 use Rattle.wire.specs.Walks.{hop-after}
 use Rattle.wire.specs.Lengths.{hops-few}
 use Rattle.takeout.specs.Taken.{walked_none, walked_more, walked-wired, unwired-out, wire-out}

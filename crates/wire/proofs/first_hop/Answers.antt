@@ -1,5 +1,4 @@
 -- `wire::first_hop` meets its contract. The loop's invariant: no slot before k is loaded. Assumes nothing.
-use Prim.Native.Nat.{◌-◌}
 use native.Mathlib.Omega.{arith}
 use Rattle.wire.specs.Walks.{pin-near, first_found, first_on, first-none}
 use Rattle.wire.proofs.first_hop.Goals as goal

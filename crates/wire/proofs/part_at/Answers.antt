@@ -1,9 +1,8 @@
 -- `wire::part_at` meets its contract. The loop's invariant: the hop d, l is the wire's i-th, and carries a wire. Assumes nothing.
 use mathlib.Core.Path.{sym, ◌∙◌}
-use Prim.Native.Nat.{◌-◌}
 use native.Mathlib.Omega.{arith}
 use Rattle.model.specs.Wires.{hop_at}
-use Rattle.wire.specs.Hops.{hop, takes-as}
+use Rattle.wire.specs.Hops.{takes-as}
 use Rattle.wire.specs.Walks.{hop-after, part-unwired, part-wired, part-past}
 use Rattle.wire.proofs.part_at.Goals as goal
 

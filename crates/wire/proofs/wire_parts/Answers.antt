@@ -1,9 +1,8 @@
 -- `wire::wire_parts` meets its contract. The loop's invariant: the hop d, l is the wire's n-th, and carries a wire. A wire has no more than 11,201
 use mathlib.Core.Path.{sym}
-use Prim.Native.Nat.{◌-◌}
 use native.Mathlib.Omega.{arith}
 use Rattle.model.specs.Wires.{hop_at}
-use Rattle.wire.specs.Hops.{hop, takes-as}
+use Rattle.wire.specs.Hops.{takes-as}
 use Rattle.wire.specs.Walks.{hop-after}
 use Rattle.wire.specs.Lengths.{none-listed, hops-few, hops-counted}
 use Rattle.wire.proofs.wire_parts.Goals as goal

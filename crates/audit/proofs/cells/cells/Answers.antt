@@ -1,5 +1,4 @@
 -- `cells::cells` meets its contract. The loop's invariant: what was found says whether every cell passed is in order. The measure is the cells that are left. Assumes nothing.
-use Prim.Native.Nat.{◌-◌}
 use native.Mathlib.Omega.{arith}
 use Rattle.audit.specs.Laws.{array-fits, cells-decided}
 use Rattle.audit.proofs.cells.cells.Goals as goal

@@ -1,5 +1,5 @@
 -- What each turn of `cells::cells` keeps. Assumes nothing.
-use Prim.Native.Nat.{ℕ, ◌-◌, ◌≤◌, ◌<◌}
+use Prim.Native.Nat.{ℕ, ◌≤◌, ◌<◌}
 use lib.Dec.{T}
 use Rattle.channel.specs.Map.{row_of, column_of}
 use Rattle.audit.specs.Feasible.{Decides}

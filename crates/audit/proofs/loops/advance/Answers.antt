@@ -1,10 +1,8 @@
 -- `loops::advance` meets its contract: the top of the stack is done, or meets a spot on the stack, or a new spot. Assumes nothing.
 use borrow.Author.Rules.{rules}
-use Prim.Native.Nat.{◌-◌, ◌<◌}
+use Prim.Native.Nat.{◌-◌}
 use native.Mathlib.Omega.{arith}
-use lib.ListN.{get_or}
 use Rattle.channel.specs.Map.Numbers.{spots-is}
-use Rattle.channel.specs.Map.{spots}
 use Rattle.audit.specs.Loops.Turns.{turn-pop, turn-next, turn-hit, turn-new}
 use Rattle.audit.proofs.loops.advance.Goals as goal
 

@@ -1,5 +1,4 @@
 -- `loops::bare` meets its contract: the places passed have the slots alone, and the others are as they were. Assumes nothing.
-use Prim.Native.Nat.{◌-◌}
 use native.Mathlib.Omega.{arith}
 use Rattle.audit.proofs.loops.bare.Goals as goal
 

@@ -1,6 +1,5 @@
 -- `loops::clear` meets its contract: the marks passed are 0. Assumes nothing.
 use borrow.Author.Count.{below_more}
-use Prim.Native.Nat.{◌-◌}
 use mathlib.Core.Path.{◌≡◌, ◌∙◌}
 use native.Mathlib.Omega.{arith}
 use lib.ListN.{get_or, set, length-set}

@@ -1,5 +1,4 @@
 -- `loops::find` meets its contract: the spots of the fresh links passed are seen, and none is on the stack. Assumes nothing.
-use Prim.Native.Nat.{◌-◌}
 use mathlib.Core.Path.{◌∙◌}
 use native.Mathlib.Omega.{arith}
 use Rattle.audit.specs.Loops.Answers.{free, ring}

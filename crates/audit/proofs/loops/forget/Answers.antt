@@ -1,9 +1,7 @@
 -- `loops::forget` meets its contract: the spots passed are not seen any more. Assumes nothing.
-use Prim.Native.Nat.{◌-◌, ◌<◌}
 use mathlib.Core.Path.{◌≡◌}
 use native.Mathlib.Omega.{arith}
-use lib.ListN.{get_or, length-set}
-use Rattle.channel.specs.Map.{spots}
+use lib.ListN.{length-set}
 use Rattle.audit.specs.Loops.Marks.{forgot-more}
 use Rattle.audit.proofs.loops.forget.Goals as goal
 

@@ -1,12 +1,12 @@
 -- `loops::scan` meets its contract: the slots passed are not loaded, or lead to spots that are done. Assumes nothing.
 use borrow.Author.Rules.{rules}
-use Prim.Native.Nat.{ℕ, ◌+◌, ◌-◌, ◌/◌, ◌%◌, ◌^◌, ◌<◌, ◌≤◌}
+use Prim.Native.Nat.{ℕ, ◌+◌, ◌<◌, ◌≤◌}
 use native.Mathlib.Omega.{arith}
 use mathlib.Core.Path.{subst}
 use lib.ListN.{get_or}
 use Rattle.channel.specs.Map.LoadedSlots.{from-small}
 use Rattle.channel.specs.Map.Numbers.{spots-is}
-use Rattle.audit.specs.Loops.Slots.{Scanning, scan-skip, scan-slot, scan-next, scan-found, scan-ends}
+use Rattle.audit.specs.Loops.Slots.{scan-skip, scan-slot, scan-next, scan-found, scan-ends}
 use Rattle.audit.proofs.loops.scan.Goals as goal
 
 pub lowest-skip-requires : goal.lowest-skip-requires

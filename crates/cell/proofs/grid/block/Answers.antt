@@ -1,7 +1,7 @@
 -- `grid::block` meets its contract. The loop's invariant: every number passed, and every one in front of the grid, has its test. The measure is what is left of the grid. Assumes nothing.
 use mathlib.Core.Path.{refl, ◌∙◌}
 use mathlib.Core.Bool.{false, ◌&&◌}
-use Prim.Native.Nat.{◌-◌, ◌<◌}
+use Prim.Native.Nat.{◌<◌}
 use native.Mathlib.Omega.{arith}
 use lib.Dec.{ltb}
 use lib.ListN.{length, length-set, get_or-replicate}

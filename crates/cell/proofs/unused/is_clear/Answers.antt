@@ -1,6 +1,6 @@
 -- `unused::is_clear` meets its contract. The loop's invariant: the answer is that for the bytes passed. The measure is what is left of the run. Assumes nothing.
 use mathlib.Core.Path.{◌≡◌, ap, ◌∙◌}
-use Prim.Native.Nat.{ℕ, ◌-◌}
+use Prim.Native.Nat.{ℕ}
 use native.Mathlib.Omega.{arith}
 use Rattle.cell.specs.Unused.{is_clear, clear_none, clear-more}
 use Rattle.cell.proofs.unused.is_clear.Goals as goal

@@ -1,6 +1,6 @@
 -- What each turn of `unused::is_clear` keeps. Assumes nothing.
 use mathlib.Core.Path.{◌≡◌}
-use Prim.Native.Nat.{◌-◌, ◌≤◌}
+use Prim.Native.Nat.{◌≤◌}
 use Rattle.cell.specs.Unused.{is_clear}
 use Rattle.cell.proofs.unused.is_clear.Given as goal
 

@@ -1,7 +1,7 @@
 -- What each turn of `copy::copy` keeps. Assumes nothing.
 use mathlib.Core.Path.{◌≡◌}
 use mathlib.Core.List.{◌++◌}
-use Prim.Native.Nat.{◌+◌, ◌-◌, ◌≤◌}
+use Prim.Native.Nat.{◌≤◌}
 use lib.ListN.{length, take, drop}
 use Rattle.model.specs.Record.{record_size}
 use Rattle.channel.proofs.copy.copy.Given as goal

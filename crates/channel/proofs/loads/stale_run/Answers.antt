@@ -1,6 +1,5 @@
 -- `loads::stale_run` meets its contract: `stale` says that none of the links passed is fresh. Assumes nothing.
 use mathlib.Core.Path.{◌≡◌, ap, ◌∙◌}
-use Prim.Native.Nat.{◌-◌}
 use native.Mathlib.Omega.{arith}
 use Rattle.channel.specs.Map.Fresh.{stale_to, stale-none, stale-more, stale-run}
 use Rattle.channel.proofs.loads.stale_run.Goals as goal

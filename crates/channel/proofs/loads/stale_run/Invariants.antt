@@ -1,6 +1,6 @@
 -- What each turn of `loads::stale_run` keeps. Assumes nothing.
 use mathlib.Core.Path.{◌≡◌}
-use Prim.Native.Nat.{◌-◌, ◌≤◌}
+use Prim.Native.Nat.{◌≤◌}
 use Rattle.channel.specs.Map.Fresh.{stale_to}
 use Rattle.channel.proofs.loads.stale_run.Given as goal
 

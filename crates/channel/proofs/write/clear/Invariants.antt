@@ -1,7 +1,7 @@
 -- What each turn of `write::clear` keeps. Assumes nothing.
 use mathlib.Core.Path.{◌≡◌}
 use mathlib.Core.List.{◌++◌}
-use Prim.Native.Nat.{◌-◌, ◌≤◌}
+use Prim.Native.Nat.{◌≤◌}
 use lib.ListN.{length, drop, replicate}
 use Rattle.channel.proofs.write.clear.Given as goal
 

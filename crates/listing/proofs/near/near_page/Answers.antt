@@ -1,6 +1,6 @@
 -- `near_page` meets its contract. The loop's invariant: the lines of the entries before this one stand on the page, which has room for one more.
 use mathlib.Core.List.{List}
-use Prim.Native.Nat.{ℕ, ◌-◌}
+use Prim.Native.Nat.{ℕ}
 use native.Mathlib.Omega.{arith}
 use Rattle.model.specs.Job.{Job}
 use Rattle.model.specs.Record.{job_of}

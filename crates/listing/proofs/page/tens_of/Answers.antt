@@ -1,7 +1,7 @@
 -- `tens_of` meets its contract. The loop's invariant: the digits above the k-th stand on the page, and `power` is the k-th power of ten. Assumes nothing.
 use mathlib.Core.Path.{◌≡◌, sym, ap, subst, ◌∙◌}
 use mathlib.Core.List.{List, ◌++◌, append-nil, append_assoc}
-use Prim.Native.Nat.{ℕ, ◌+◌, ◌-◌, ◌^◌, ◌/◌, ◌<◌}
+use Prim.Native.Nat.{ℕ, ◌-◌, ◌^◌, ◌/◌, ◌<◌}
 use native.Mathlib.Omega.{arith}
 use Rattle.model.specs.Listing.{digit, tens}
 use Rattle.listing.specs.Puts.{puts_then, puts-as}

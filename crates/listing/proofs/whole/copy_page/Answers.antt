@@ -1,7 +1,7 @@
 -- `copy_page` meets its contract. The loop's invariant: the first k bytes of the page stand in the output. Assumes nothing.
 use mathlib.Core.Path.{ap, ◌∙◌}
 use mathlib.Core.List.{List}
-use Prim.Native.Nat.{ℕ, ◌+◌, ◌-◌}
+use Prim.Native.Nat.{ℕ, ◌+◌}
 use native.Mathlib.Omega.{arith}
 use lib.ListN.{get_or, set}
 use Rattle.listing.specs.Puts.{sets_more}

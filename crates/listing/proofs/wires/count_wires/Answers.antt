@@ -1,6 +1,6 @@
 -- `count_wires` meets its contract. The loop's invariant: n wires start at the pins of the cells before x, at most one at each. Assumes nothing.
 use mathlib.Core.Path.{◌≡◌, refl, sym, ap, ◌∙◌}
-use Prim.Native.Nat.{ℕ, ◌+◌, ◌-◌, ◌*◌, ◌<◌}
+use Prim.Native.Nat.{ℕ, ◌+◌, ◌*◌, ◌<◌}
 use native.Mathlib.Omega.{arith}
 use Rattle.sums.specs.Counting.{sum}
 use Rattle.model.specs.Record.{job_of}

@@ -1,7 +1,7 @@
 -- What each turn of `route::show` keeps. Assumes nothing.
 use mathlib.Core.Path.{◌≡◌}
 use mathlib.Core.List.{◌++◌}
-use Prim.Native.Nat.{◌+◌, ◌-◌, ◌≤◌}
+use Prim.Native.Nat.{◌≤◌}
 use lib.ListN.{length, drop}
 use Rattle.sums.specs.Counting.{when}
 use Rattle.model.specs.Record.{record_size, bytes}

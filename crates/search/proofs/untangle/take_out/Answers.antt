@@ -1,10 +1,8 @@
 -- `untangle::take_out` meets its contract: the darts before the i-th are taken out. Assumes nothing.
 use mathlib.Core.Path.{refl, ap, ◌∙◌}
-use Prim.Native.Nat.{◌+◌, ◌-◌, ◌*◌, ◌<◌}
 use native.Mathlib.Omega.{arith}
-use lib.ListN.{get_or}
 use Rattle.channel.specs.Map.Numbers.{darts-is}
-use Rattle.channel.specs.Map.{darts, laid}
+use Rattle.channel.specs.Map.{laid}
 use Rattle.search.specs.Rings.{out_none, out-more}
 use Rattle.search.proofs.untangle.take_out.Goals as goal
 

@@ -1,6 +1,5 @@
 -- `takeout::back::pin_of` meets its contract. The loop's invariant: n hops after the hop d, l comes the given one. A wire has no more than 11,201 hops, so the
 use mathlib.Core.Path.{refl}
-use Prim.Native.Nat.{◌-◌}
 use Rattle.takeout.specs.Back.{precedes-as, leads-more, leads-few, leads-home}
 use Rattle.takeout.proofs.back.pin_of.Goals as goal
 

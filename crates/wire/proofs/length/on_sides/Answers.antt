@@ -1,5 +1,4 @@
 -- `length::on_sides` meets its contract: `n` is the sum of the bytes passed. Assumes nothing.
-use Prim.Native.Nat.{◌-◌}
 use native.Mathlib.Omega.{arith}
 use Rattle.wire.specs.Total.{sides-none, sides-more}
 use Rattle.wire.proofs.length.on_sides.Goals as goal

@@ -1,6 +1,6 @@
 -- What each turn of `length::on_sides` keeps. Assumes nothing.
 use mathlib.Core.Path.{◌≡◌}
-use Prim.Native.Nat.{◌-◌, ◌*◌, ◌≤◌}
+use Prim.Native.Nat.{◌*◌, ◌≤◌}
 use Rattle.wire.specs.Total.{on_sides}
 use Rattle.wire.proofs.length.on_sides.Given as goal
 

@@ -1,5 +1,4 @@
 -- `length::to_missing` meets its contract: `n` is the sum of the bytes passed. Assumes nothing.
-use Prim.Native.Nat.{◌-◌}
 use native.Mathlib.Omega.{arith}
 use Rattle.wire.specs.Total.{pins-none, pins-more}
 use Rattle.wire.proofs.length.to_missing.Goals as goal

@@ -1,6 +1,6 @@
 -- What each turn of `length::to_missing` keeps. Assumes nothing.
 use mathlib.Core.Path.{◌≡◌}
-use Prim.Native.Nat.{◌-◌, ◌*◌, ◌≤◌}
+use Prim.Native.Nat.{◌*◌, ◌≤◌}
 use Rattle.wire.specs.Total.{to_pins}
 use Rattle.wire.proofs.length.to_missing.Given as goal
 
