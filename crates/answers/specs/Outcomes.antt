@@ -1,6 +1,6 @@
 -- Document 01, "Record and operations": "Wherever a record is taken, 1 comes before every other number." A call on a damaged record is refused by 1, and one
 -- on a legal record does what its paragraph says. Assumes nothing.
-use Rattle.std.specs.Prelude.{◌≡◌, refl, List, ℕ}
+use Rattle.std.specs.Prelude.{refl, List, ℕ}
 use Rattle.model.specs.Record.{Legal}
 use Rattle.model.specs.Calls.{refused, After, after, On}
 

@@ -1,13 +1,13 @@
 -- The laws of the search that raises prices as it goes: how it begins, how a spot is taken from the stack, what each slot of it does, and how it is laid
 -- aside. Assumes nothing.
-use Rattle.std.specs.Prelude.{◌≡◌, refl, ◌≢◌, ◌⊎◌, Bool, true, false, List, ℕ, min, ◌+◌, ◌-◌, ◌*◌, ◌/◌, ◌≤◌, ◌<◌, T, eqb, length, get_or, set}
+use Rattle.std.specs.Prelude.{◌≡◌, refl, ◌≢◌, ◌⊎◌, List, ℕ, min, ◌+◌, ◌-◌, ◌*◌, ◌/◌, ◌≤◌, ◌<◌, T, eqb, length, get_or, set}
 use Rattle.std.proofs.Common.{sym, ap, subst, ◌∙◌, inl, inr, ⊎_elim, arith, below_more, length-set, get_or-set_same, get_or-set_other}
 use Rattle.sums.specs.Tests.{below_or, and_both}
 use Rattle.model.specs.Job.{Job}
 use Rattle.channel.specs.Map.{spots, rev, moves, outside}
 use Rattle.augment.specs.Marks.{unmarked, unmarked-le, after, mark-less, same_or}
 use Rattle.augment.specs.Slots.{goes_on, off-marked}
-use Rattle.augment.specs.Spread.{Room, Spread}
+use Rattle.augment.specs.Spread.{Room}
 use Rattle.augment.specs.Steps.{Fresh}
 use Rattle.augment.specs.Queue.{spread-start, spread-more}
 use Rattle.search.specs.Fill.{Cleared}

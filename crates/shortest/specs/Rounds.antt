@@ -1,17 +1,16 @@
 -- The end of a round of the search that raises prices as it goes: every spot in the queue is looked at, so the prices of all of them are raised, those on
 -- the rim wait again, and the search stands as before. The price of its start has risen, which ends the search. Assumes nothing.
-use Rattle.std.specs.Prelude.{◌≡◌, refl, ◌≢◌, ◌⊎◌, Bool, true, false, not, List, reverse, ℕ, ◌+◌, ◌*◌, ◌/◌, ◌≤◌, ◌<◌, T, length, get_or, set}
-use Rattle.std.proofs.Common.{sym, ap, subst, ◌∙◌, inl, inr, ⊎_elim, arith, below_more, get_or-set_same, get_or-set_other}
+use Rattle.std.specs.Prelude.{◌≡◌, refl, ◌≢◌, Bool, true, false, List, reverse, ℕ, ◌+◌, ◌*◌, ◌/◌, ◌≤◌, ◌<◌, T, length, get_or, set}
+use Rattle.std.proofs.Common.{sym, ap, subst, ◌∙◌, inl, ⊎_elim, arith, below_more, get_or-set_same, get_or-set_other}
 use Rattle.std.proofs.Math.Path.{fun_ext}
 use Rattle.sums.specs.Counting.{when}
 use Rattle.sums.specs.Tests.{so}
 use Rattle.sums.specs.Sums.{when-part}
 use Rattle.flow.specs.Network.{Path, path-map}
-use Rattle.flow.specs.Flow.{Unstarted}
 use Rattle.price.specs.Moves.{Tight}
 use Rattle.price.specs.Priced.{Priced}
 use Rattle.model.specs.Job.{Job}
-use Rattle.channel.specs.Map.{spots, rev, view, starts}
+use Rattle.channel.specs.Map.{spots, rev, view}
 use Rattle.channel.specs.Map.Lengths.{dart_length}
 use Rattle.channel.specs.Map.Network.{net, net-dart, unstarted-at}
 use Rattle.augment.specs.Marks.{marked, is-marked, Unmarked, same_or}
@@ -19,7 +18,6 @@ use Rattle.augment.specs.OneMore.{OneMore}
 use Rattle.augment.specs.Pins.{Held, Unwired}
 use Rattle.augment.specs.Spread.{Spread}
 use Rattle.augment.specs.Ways.{LaidTo, way-path, times-reverse}
-use Rattle.search.specs.Fill.{Cleared}
 use Rattle.shortest.specs.Slack.{raise, Leaves, raised-priced}
 use Rattle.shortest.specs.PricedLaid.{laid_one, priced-laid}
 use Rattle.shortest.specs.Ceiling.{unwired-most}

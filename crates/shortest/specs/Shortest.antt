@@ -23,7 +23,7 @@ use Rattle.model.specs.Loads.{arrivals}
 use Rattle.model.specs.Length.{routes_length, LeastLength, held_length}
 use Rattle.model.specs.Record.{job_of, load, Legal}
 use Rattle.model.specs.Wires.{wire_count}
-use Rattle.channel.specs.Map.{spots, darts, step_of, dart_of, is_link_dart, is_pass_dart, passed_of, view, want, starts}
+use Rattle.channel.specs.Map.{spots, step_of, dart_of, is_link_dart, is_pass_dart, passed_of, view, starts}
 use Rattle.channel.specs.Map.Taken.{may-dart}
 use Rattle.channel.specs.Map.Carry.{link-passes, view-link, view-pass}
 use Rattle.channel.specs.Map.Network.{net, net-want, sum-nodes}

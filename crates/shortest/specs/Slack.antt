@@ -1,7 +1,7 @@
 -- What a move of the search leaves: by how much the move and the price of its head cost more than the price of its tail. Moves that leave nothing are tight;
 -- and where each move out of a set leaves so much or more, the prices of the set may be raised by that. A move between spots of the set leaves what it left.
 -- Assumes nothing.
-use Rattle.std.specs.Prelude.{◌≡◌, refl, Bool, true, false, List, ℕ, ◌+◌, ◌-◌, ◌/◌, ◌≤◌, ◌<◌, T}
+use Rattle.std.specs.Prelude.{◌≡◌, refl, Bool, true, false, List, ℕ, ◌+◌, ◌/◌, ◌≤◌, ◌<◌, T}
 use Rattle.std.proofs.Common.{sym, ap, subst, ◌∙◌, inl, inr, arith}
 use Rattle.sums.specs.Counting.{when}
 use Rattle.sums.specs.Tests.{so}

@@ -1,6 +1,6 @@
 -- An array of cells filled by row and column, each by one draw: after the cells before (r, c) the record is that of the job with those cells' values, and after
 -- all of them that of the job with the whole table. Assumes nothing.
-use Rattle.std.specs.Prelude.{◌≡◌, refl, ◌⊎◌, Bool, true, false, ◌&&◌, ◌||◌, List, ℕ, zero, suc, ◌+◌, ◌*◌, ◌%◌, ◌≤◌, ◌<◌, T, eqb, ltb, length, set}
+use Rattle.std.specs.Prelude.{◌≡◌, refl, ◌⊎◌, Bool, true, false, ◌&&◌, ◌||◌, List, ℕ, suc, ◌+◌, ◌*◌, ◌%◌, ◌≤◌, ◌<◌, T, eqb, ltb, length, set}
 use Rattle.std.proofs.Common.{sym, ap, subst, ◌∙◌, inl, inr, ⊎_elim, arith, mul-suc, eqb→eq, ltb→lt, lt→ltb, lt-ltb, le-ltb}
 use Rattle.std.proofs.Math.Dec.{eqb_refl}
 use Rattle.sums.specs.Counting.{when}

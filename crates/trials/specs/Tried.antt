@@ -6,7 +6,7 @@ use Rattle.sums.specs.Counting.{when}
 use Rattle.sums.specs.Tests.{and_left, and_right, both_ways}
 use Rattle.model.specs.Job.{Job, in_range, array_fits, caps_admitted, fresh, with_marks, with_states, is_pin, is_tile}
 use Rattle.model.specs.Record.{record_size, unwired_record, over}
-use Rattle.model.specs.Trial.{draw, number_after, Trial, seed_fits, percents_fit, drawn_at, turn, mark_drawn, state_drawn, trial_mark, trial_state, trial_job}
+use Rattle.model.specs.Trial.{draw, number_after, Trial, seed_fits, percents_fit, drawn_at, turn, mark_drawn, trial_mark, trial_state, trial_job}
 use Rattle.model.specs.Calls.{refused, done, After, after, Test, test, asked, tried_on}
 use Rattle.model.proofs.Asked.{asked-fails, asked-holds}
 use Rattle.model.proofs.RecordOf.{range-most}

@@ -1,6 +1,6 @@
 -- `fill` meets its contract. The loop's invariant: the cells before (r, c) are filled, and the number is the one after as many draws. The measure is what is
 use mathlib.Core.Path.{◌≡◌, refl, ap, ◌∙◌}
-use Prim.Native.Nat.{ℕ, suc, ◌-◌, ◌%◌}
+use Prim.Native.Nat.{ℕ, suc, ◌%◌}
 use native.Mathlib.Omega.{arith}
 use Rattle.trials.specs.Filling.{value_drawn, filling-none, filling-cell, filling-row, after-cell, same_row, after-row, none_after}
 use Rattle.trials.proofs.fill.Goals as goal

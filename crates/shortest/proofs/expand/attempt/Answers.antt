@@ -1,8 +1,5 @@
 -- `expand::attempt` meets its contract: a spot that is not marked leaves room in the queue and on the stack. Assumes nothing.
-use Prim.Native.Nat.{◌<◌}
 use native.Mathlib.Omega.{arith}
-use lib.ListN.{length}
-use Rattle.channel.specs.Map.{spots}
 use Rattle.channel.specs.Map.Numbers.{spots-is}
 use Rattle.augment.specs.Answers.{yes, no}
 use Rattle.augment.specs.Marks.{mark-less}

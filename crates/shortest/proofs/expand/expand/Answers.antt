@@ -1,5 +1,4 @@
 -- `expand::expand` meets its contract: the slots below k were tried, or are no moves to spots with no mark as the spot was taken up. Assumes nothing.
-use Prim.Native.Nat.{◌-◌}
 use mathlib.Core.Path.{refl, ◌∙◌}
 use native.Mathlib.Omega.{arith}
 use Rattle.augment.specs.Slots.{rest_all, none_left, on-moves, next-slot, next-on, passed-off, rest_more}

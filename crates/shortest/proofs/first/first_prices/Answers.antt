@@ -1,6 +1,5 @@
 -- `first::first_prices` meets its contract: the entries passed are first prices. Assumes nothing.
 use mathlib.Core.Path.{◌≡◌}
-use Prim.Native.Nat.{◌-◌}
 use native.Mathlib.Omega.{arith}
 use Rattle.channel.specs.Map.{spots}
 use Rattle.channel.specs.Map.Numbers.{spots-is}

@@ -1,5 +1,5 @@
 -- What each turn of `first::first_prices` keeps. Assumes nothing.
-use Prim.Native.Nat.{◌-◌, ◌≤◌}
+use Prim.Native.Nat.{◌≤◌}
 use Rattle.model.specs.Record.{job_of}
 use Rattle.channel.specs.Map.{spots}
 use Rattle.shortest.specs.FirstRow.{FirstRow}

@@ -1,6 +1,6 @@
 -- `first::first_total` meets its contract: n is the sum over the spots passed. Assumes nothing.
 use mathlib.Core.Path.{◌≡◌, refl, sym, ap, ◌∙◌}
-use Prim.Native.Nat.{ℕ, ◌+◌, ◌-◌, ◌*◌}
+use Prim.Native.Nat.{ℕ, ◌+◌, ◌*◌}
 use native.Mathlib.Omega.{arith}
 use Rattle.sums.specs.Counting.{sum}
 use Rattle.model.specs.Record.{job_of}

@@ -1,6 +1,6 @@
 -- What each turn of `first::first_total` keeps. Assumes nothing.
 use mathlib.Core.Path.{◌≡◌}
-use Prim.Native.Nat.{◌-◌, ◌*◌, ◌≤◌}
+use Prim.Native.Nat.{◌*◌, ◌≤◌}
 use Rattle.sums.specs.Counting.{sum}
 use Rattle.model.specs.Record.{job_of}
 use Rattle.channel.specs.Map.{spots, want}

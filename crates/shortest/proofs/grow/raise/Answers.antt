@@ -1,5 +1,4 @@
 -- `grow::raise` meets its contract: the prices of the spots passed are raised. Assumes nothing.
-use Prim.Native.Nat.{◌-◌}
 use native.Mathlib.Omega.{arith}
 use lib.ListN.{get_or}
 use Rattle.shortest.proofs.grow.raise.Goals as goal

@@ -1,5 +1,5 @@
 -- What each turn of `grow::raise` keeps. Assumes nothing.
-use Prim.Native.Nat.{◌-◌, ◌≤◌}
+use Prim.Native.Nat.{◌≤◌}
 use mathlib.Core.Path.{◌≡◌}
 use lib.ListN.{length}
 use Rattle.shortest.specs.Growing.{Raised}

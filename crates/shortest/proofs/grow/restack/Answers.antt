@@ -1,5 +1,4 @@
 -- `grow::restack` meets its contract: the entries passed are the rim's. Assumes nothing.
-use Prim.Native.Nat.{◌-◌}
 use mathlib.Core.Path.{◌≡◌}
 use native.Mathlib.Omega.{arith}
 use Rattle.shortest.proofs.grow.restack.Goals as goal

@@ -1,5 +1,4 @@
 -- `grow::settle` meets its contract: with each spot that is taken from the stack, one spot more of the queue is not on it. Assumes nothing.
-use Prim.Native.Nat.{◌-◌}
 use mathlib.Core.Path.{◌∙◌}
 use native.Mathlib.Omega.{arith}
 use Rattle.augment.specs.Queue.{alike_then}

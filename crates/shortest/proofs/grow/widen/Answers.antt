@@ -1,5 +1,4 @@
 -- `grow::widen` meets its contract: the price of the start rises with each round, and a complete wiring bounds it. Assumes nothing.
-use Prim.Native.Nat.{◌-◌}
 use mathlib.Core.Path.{◌∙◌}
 use native.Mathlib.Omega.{arith}
 use Rattle.augment.specs.Queue.{alike_then}

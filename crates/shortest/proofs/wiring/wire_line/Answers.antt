@@ -1,5 +1,4 @@
 -- `wiring::wire_line` meets its contract: the pins passed are wired. Assumes nothing.
-use Prim.Native.Nat.{◌-◌}
 use Rattle.channel.specs.Map.Numbers.{is-spot}
 use Rattle.shortest.specs.Lines.{sizes-lent}
 use Rattle.shortest.proofs.wiring.wire_line.Goals as goal

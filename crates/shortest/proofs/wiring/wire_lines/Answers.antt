@@ -1,5 +1,4 @@
 -- `wiring::wire_lines` meets its contract: the pins of the rows passed are wired. Assumes nothing.
-use Prim.Native.Nat.{◌-◌}
 use Rattle.shortest.specs.Lines.{sizes-lent}
 use Rattle.shortest.proofs.wiring.wire_lines.Goals as goal
 

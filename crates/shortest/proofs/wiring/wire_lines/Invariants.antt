@@ -1,5 +1,5 @@
 -- What each turn of `wiring::wire_lines` keeps. Assumes nothing.
-use Prim.Native.Nat.{◌-◌, ◌≤◌}
+use Prim.Native.Nat.{◌≤◌}
 use Rattle.model.specs.Record.{job_of}
 use Rattle.augment.specs.Pins.{InRows}
 use Rattle.shortest.specs.Lines.{Sizes, Advanced}
