@@ -1,6 +1,6 @@
 -- Document 01, "Mark" and "close", with K5: the answer of an edit by its tests, and the record that an edit of a legal one leaves. Assumes nothing.
 use Rattle.std.specs.Prelude.{◌≡◌, refl, ◌≢◌, Bool, true, false, not, List, [], ◌∷◌, ℕ, ◌≤◌, ◌<◌, T, eqb, leb}
-use Rattle.std.proofs.Common.{sym, ap, subst, ◌∙◌, arith, le-leb, eq-eqb, ne_eqb}
+use Rattle.std.proofs.Common.{sym, ap, subst, ◌∙◌, le-leb, eq-eqb, ne_eqb}
 use Rattle.std.proofs.lemmas.Bool.{not-true, not-false, lt-leb}
 use Rattle.model.specs.Job.{Job, marked, closed, is_pin, is_tile}
 use Rattle.model.specs.Links.{Step}

@@ -7,7 +7,7 @@ use Rattle.model.specs.Route.{Route, Together, Family, Greatest, chosen_count}
 use Rattle.model.specs.Record.{job_of, load}
 use Rattle.model.specs.Length.{routes_length, LeastLength, held_length}
 use Rattle.model.specs.Wires.{Part, part_at, wire_count, Holds}
-use Rattle.model.specs.Calls.{part, Answer, refused, all_wired, short, lists, After, after, listed}
+use Rattle.model.specs.Calls.{part, Answer, refused, all_wired, short, lists, After, after}
 use Rattle.model.specs.Run.{Word, Service, Ended}
 use Rattle.wire.specs.Held.{wire_routes, routes-held, routes-together, routes-length}
 use Rattle.run.specs.Invariant.{Kept}

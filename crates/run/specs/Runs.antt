@@ -1,7 +1,7 @@
 -- Document 01, "Runs": along a run the record stays a legal one, of the job that the calls alone give, and none of them is refused by 1. For the job that
 -- a call makes of another is one only, so it is the one that the call leaves. And every list of calls after a start is a run. Assumes nothing.
 use Rattle.std.specs.Prelude.{◌≡◌, refl, ◌≢◌, Bool, true, false, not, List, [], ◌∷◌, ℕ, ◌≤◌, ◌<◌, T, leb, length}
-use Rattle.std.proofs.Common.{sym, ap, subst, ◌∙◌, arith, leb→le}
+use Rattle.std.proofs.Common.{sym, ap, subst, ◌∙◌, leb→le}
 use Rattle.std.proofs.Math.Option.{Option, none, some}
 use Rattle.std.proofs.lemmas.Bool.{lt-leb}
 use Rattle.std.proofs.Math.Dec.{nleb→lt}

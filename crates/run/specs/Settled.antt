@@ -2,7 +2,7 @@
 -- and then "short", and Shortfall gives 1 and the near side of the row; each job of `wireds` says "added" as often as pins are chosen and then "all wired",
 -- and Shortfall gives 0; where nothing is chosen, "all wired", never "added". For a job has one greatest number and one smallest near side. Assumes nothing.
 use Rattle.std.specs.Prelude.{◌≡◌, ◌⊎◌, Bool, ℕ, suc, ◌-◌, ◌≤◌, ◌<◌, T, eqb, length}
-use Rattle.std.proofs.Common.{sym, ap, subst, ◌∙◌, inl, inr, arith, eqb→eq}
+use Rattle.std.proofs.Common.{ap, subst, ◌∙◌, inl, inr, arith, eqb→eq}
 use mathlib.Core.List.{List, Memᴰ}
 use Rattle.sums.specs.Counting.{each, those, total}
 use Rattle.sums.specs.Tests.{every, every-at}
