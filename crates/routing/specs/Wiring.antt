@@ -3,10 +3,9 @@
 use Rattle.std.specs.Prelude.{◌≡◌, refl, ◌≢◌, List, [], ◌++◌, ℕ, ◌-◌, ◌≤◌, ◌<◌, length, take, drop, replicate}
 use Rattle.std.proofs.Common.{sym, ap, subst, ◌∙◌, arith, length-take-le}
 use Rattle.std.proofs.lemmas.List.{length-replicate}
-use Rattle.model.specs.Job.{Job}
 use Rattle.model.specs.Route.{chosen_count, Greatest}
-use Rattle.model.specs.Record.{record_size, scratch_size, job_of, Legal}
-use Rattle.model.specs.Calls.{Answer, refused, added, all_wired, short, lacks, after, cleared, wires_in, OneMore, Shortened, Stepped, adds, stays, lacking, Steps}
+use Rattle.model.specs.Record.{record_size, scratch_size, job_of}
+use Rattle.model.specs.Calls.{Answer, refused, added, all_wired, short, lacks, after, cleared, wires_in, Shortened, Stepped, adds, stays, lacking, Steps}
 use Rattle.model.specs.Calls.{Lacks as LacksCall}
 use Rattle.model.proofs.Empty.{greatest-le-chosen}
 use Rattle.channel.specs.Written.{zeros, zeros-filled}

@@ -1,4 +1,6 @@
 // Step, Shortfall, Part and the listing: the wires of a record.
+#![tactic(auto)]
+
 ghost use Rattle.std.specs.Prelude.{[]};
 ghost use Rattle.model.specs.Calls.{step as Step, shortfall as Shortfall, part as Part, listing as Listing, after, Did};
 ghost use Rattle.answers.specs.Answers.{as_answer};

@@ -1,11 +1,11 @@
 -- The first line, and then the entries page by page. Assumes nothing.
-use Rattle.std.proofs.Common.{◌≡◌, ap, List, [], ℕ, length, length-take-le, arith}
+use Rattle.std.proofs.Common.{◌≡◌, ap, List, [], ℕ, length-take-le, arith}
 use Rattle.model.specs.Job.{Job}
 use Rattle.model.specs.Record.{job_of}
 use Rattle.model.specs.Listing.{spread}
 use Rattle.listing.specs.Near.{near_from}
 use Rattle.listing.specs.ShortPages.{short_row}
-use Rattle.escape.proofs.Handing.{Handing, page-first, page-more, handing-all}
+use Rattle.escape.proofs.Handing.{page-first, page-more, handing-all}
 use Rattle.escape.proofs.pages.show_near.Goals as goal
 
 pub loop-from-init : goal.loop-from-init

@@ -1,5 +1,5 @@
 -- One line. Assumes nothing.
-use Rattle.std.proofs.Common.{sym, subst, List, ℕ, arith}
+use Rattle.std.proofs.Common.{sym, subst, arith}
 use Rattle.listing.specs.Puts.{puts-page}
 use Rattle.escape.specs.Handed.{Handed, Held}
 use Rattle.escape.proofs.pages.show_refused.Goals as goal

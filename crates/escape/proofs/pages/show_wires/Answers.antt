@@ -1,5 +1,5 @@
 -- The first line, the wires page by page, and the last lines. Assumes nothing.
-use Rattle.std.proofs.Common.{◌≡◌, refl, sym, ap, ◌∙◌, List, [], ◌++◌, ℕ, ◌+◌, length, arith}
+use Rattle.std.proofs.Common.{◌≡◌, refl, sym, ap, ◌∙◌, List, [], ◌++◌, ℕ, ◌+◌, arith}
 use Rattle.model.specs.Job.{Job}
 use Rattle.model.specs.Links.{Step}
 use Rattle.model.specs.Record.{job_of, load}

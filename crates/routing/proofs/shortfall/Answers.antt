@@ -1,0 +1,9 @@
+-- The scratch is cleared and the search's number told. Assumes nothing.
+use Rattle.answers.specs.Outcomes.{on-legal}
+use Rattle.routing.specs.Wiring.{lacks-enough}
+use Rattle.routing.proofs.shortfall.Goals as goal
+
+pub returns : goal.returns
+returns c =
+    on-legal (c.sound.ensures.yes c.if-not-sound.false)
+    (lacks-enough _ _ _ c.if-scratch-lt65536.false c.if-output-lt32768.false _ _ _ c.clear.ensures c.shortfall-lack.ensures)
