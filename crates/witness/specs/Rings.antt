@@ -15,6 +15,7 @@ use Rattle.witness.specs.Closure.{Shut, Closure, closure}
 
 -- the path from one of its darts on
 path-from : {G : Net} {P : ℕ → Type 0} {ds : List ℕ} {d u v : ℕ} → Path G P ds u v → Memᴰ d ds → (es : List ℕ) × Path G P (d ∷ es) (G.tail d) v
+path-from {G = G} {P = P} {d = d} (here {u = u} {v = v} _) x6 = elim x6 [ ]
 path-from {G} {P} {v = v} (along {d = c} {ds = ds} l e p n r) (Memᴰ.head q) =
     (ds, subst (λ (x : ℕ). Path G P (x ∷ ds) (G.tail x) v) (sym q) (along l refl p n r))
 path-from (along l e p n r) (Memᴰ.tail m) = path-from r m

@@ -2,7 +2,7 @@
 -- bounds that the reader knows, so they are tried one by one. Assumes nothing.
 use Rattle.std.specs.Prelude.{◌≡◌, refl, Bool, true, false, ◌&&◌, List, [], ◌∷◌, ◌++◌, ℕ, zero, suc, ◌+◌, ◌*◌, ◌≤◌, ◌<◌, eqb, leb, length, get_or, drop}
 use Rattle.std.proofs.Common.{sym, ap, ap₂, ◌∙◌, le_refl, length-append}
-use Rattle.std.proofs.Math.Logic.{Dec·and}
+use mathlib.Core.Logic.Dec
 use Rattle.std.proofs.Math.Option.{Option, none, some}
 use Rattle.std.proofs.Math.Decide.{ℕ_discrete}
 use native.Mathlib.Omega.{arith}
@@ -158,7 +158,7 @@ line-long l = omega (arith, length-append (form_of l) (10 ∷ []))
 judge : (R : Reader) (o : ℕ) (text : List ℕ)
     → ((l : Line) (S : Reader) (rest : List ℕ) → text ≡ line_bytes l ++ rest → (v : Verdict) × Reads S (o + length (line_bytes l)) rest v)
     → (v : Verdict) × Reads R o text v
-judge R o text more = by (Dec·and (finished? R.stage) (empty? text)) (line? R text)
+judge R o text more = by (Dec.and (finished? R.stage) (empty? text)) (line? R text)
   where
     by : Dec ((R.stage ≡ finished) × (text ≡ [])) → Dec (Found R text) → (v : Verdict) × Reads R o text v
     by (yes (a, b)) d = (reads R.job, ended a b)
