@@ -6,4 +6,4 @@ use Rattle.talusdish.proofs.exports.talusdish_new.Goals as goal
 pub word_of-requires : goal.word_of-requires
 word_of-requires c =
     let a = c.args in
-    did-small (new a.rows a.columns a.o a.d a.e) a.rec.old _ c.new.ensures
+    did-small (new a.rows a.columns a.o a.d a.e) a.rec.now _ c.new.ensures

@@ -7,5 +7,5 @@ use Rattle.talusdish.proofs.exports.talusdish_trial.Goals as goal
 pub word_of-requires : goal.word_of-requires
 word_of-requires c =
     let a = c.args in
-    did-small (trial (trial_of a.rows a.columns a.o a.d a.e a.seed a.chosen a.missing a.closed)) a.rec.old _
+    did-small (trial (trial_of a.rows a.columns a.o a.d a.e a.seed a.chosen a.missing a.closed)) a.rec.now _
     c.trial.ensures
