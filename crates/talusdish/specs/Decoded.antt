@@ -1,10 +1,10 @@
 -- Every answer that an operation can give is read back from its word by the header's rules: the remainder by 256 is its code, the quotient its value, and of a
 -- part kind, place, lane, row and column come back. So different answers of one operation have different words. Assumes nothing.
 use mathlib.Core.Path.{◌≡◌, refl, sym, ap, ap₂, ◌∙◌}
-use Rattle.std.specs.Prelude.{Bool, true, false, not, ◌&&◌, ◌||◌, ℕ, zero, suc, ◌+◌, ◌*◌, ◌^◌, ◌/◌, ◌%◌, ◌≤◌, ◌<◌, T, eqb, ltb}
+use Rattle.std.specs.Prelude.{Bool, true, false, not, ◌&&◌, ◌||◌, ℕ, ◌+◌, ◌*◌, ◌^◌, ◌/◌, ◌%◌, ◌<◌, T, eqb, ltb}
 use Rattle.std.proofs.Common.{arith, ne_eqb, T_not, eqb→eq, ltb→lt}
 use Rattle.sums.specs.Tests.{and_left, and_right}
-use Rattle.model.specs.Links.{Compass, north, east, south, west, compass_code, PlaceKind, pin, missing, side, centre, outside, nowhere}
+use Rattle.model.specs.Links.{north, east, south, west, PlaceKind, pin, missing, side, centre, outside, nowhere}
 use Rattle.model.specs.Wires.{Part, unwired, to, out, past_the_end}
 use Rattle.model.specs.Calls.{Call, new, mark, close, lay, diagonal, step, shortfall, part, read_text, write_text, listing, trial, extra, sheet}
 use Rattle.model.specs.Calls.{Answer, refused, wrong_text, done, added, all_wired, short, lacks, lists, wrote, sheet_is}

@@ -1,7 +1,7 @@
 -- Every answer of an operation is one of those that it can give, so that it fits a word and is read back from it. Whether a record is legal need not be
 -- known: a test that can fail in neither case passes.
 -- Assumes nothing.
-use Rattle.std.specs.Prelude.{◌≡◌, Bool, true, false, not, ◌&&◌, List, [], ◌∷◌, ℕ, ◌-◌, ◌*◌, ◌^◌, ◌≤◌, ◌<◌, suc, T, eqb, leb, ltb, length}
+use Rattle.std.specs.Prelude.{◌≡◌, Bool, true, false, not, List, [], ◌∷◌, ℕ, ◌-◌, ◌*◌, ◌^◌, ◌≤◌, ◌<◌, suc, T, eqb, leb, ltb, length}
 use Rattle.std.proofs.Common.{sym, subst, arith, leb→le, ltb→lt, lt→ltb}
 use Rattle.std.proofs.Math.Dec.{nleb→lt}
 use Rattle.sums.specs.Counting.{when}
@@ -11,12 +11,12 @@ use Rattle.model.specs.Job.{Job, array_fits, caps_admitted, fresh, marked, close
 use Rattle.model.specs.Links.{places, is_pin_kind, Step}
 use Rattle.model.specs.Route.{chosen_count}
 use Rattle.model.specs.Record.{record_size, scratch_size, job_of, load, Legal, unwired_record, over}
-use Rattle.model.specs.Wires.{Part, part_at}
+use Rattle.model.specs.Wires.{part_at}
 use Rattle.model.specs.Left.{mark_left, close_left, laid_left, centre_left, extra_left}
 use Rattle.model.specs.Text.{Verdict, reads, wrong_at, Reading, text_of}
 use Rattle.model.specs.Listing.{wires_listing}
 use Rattle.model.specs.Trial.{Trial, seed_fits, percents_fit, trial_job}
-use Rattle.model.specs.Calls.{Call, new, mark, close, lay, diagonal, step, shortfall, part, read_text, write_text, listing, trial, Answer, refused, wrong_text, done, lacks, lists, wrote, extra, sheet, sheet_is}
+use Rattle.model.specs.Calls.{Call, new, mark, close, lay, diagonal, step, shortfall, part, read_text, write_text, listing, trial, Answer, done, lacks, lists, wrote, extra, sheet, sheet_is}
 use Rattle.model.specs.Calls.{After, after, Test, test, asked, edited, newly, tried_on, listed, read_in, put_out, Stepped, adds, stays, lacking, On, Steps, Lacks, ReadIn, Did, OnSheet}
 use Rattle.model.proofs.Asked.{all_hold, numbered, asked-either, both_hold}
 use Rattle.model.specs.Sheet.{sheet_job, sheet_fits, SheetVerdict, Judged, all-carried, first-fails}
