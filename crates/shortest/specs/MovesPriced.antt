@@ -18,7 +18,7 @@ pub record Kept (len π : ℕ → ℕ) (rec : List ℕ) (d : ℕ) : Type 0 where
   pub adding : view rec (rev d) ≡ 0 → π (d / 8) ≤ π (rev d / 8) + len d
 
 module _ (J : Job) (fits : T (array_fits J.rows J.columns)) (rec : List ℕ) (feasible : Feasible J (load rec)) {len π : ℕ → ℕ}
-    (ground : (u : ℕ) → u < spots → T (outside J u) → π u ≡ 0) (kept : (d : ℕ) → d < darts → T (moves J rec d) → Kept len π rec d) where
+    (floor : (u : ℕ) → u < spots → T (outside J u) → π u ≡ 0) (kept : (d : ℕ) → d < darts → T (moves J rec d) → Kept len π rec d) where
   taken : (d : ℕ) → d < darts → 0 < view rec (rev d) → π (d / 8) + len (rev d) ≤ π (rev d / 8)
   taken d l h = (kept d l (undo-moves J rec d h)).taking h
 
@@ -63,7 +63,7 @@ module _ (J : Job) (fits : T (array_fits J.rows J.columns)) (rec : List ℕ) (fe
               ap π (net-head J d),
               ap (λ (r : ℕ → ℕ). len (r d)) (net-rev J),
             );
-        grounded = λ u l o. ground u (node-spot J l) (subst (λ (p : ℕ → Bool). T (p u)) (net-outside J) o);
+        grounded = λ u l o. floor u (node-spot J l) (subst (λ (p : ℕ → Bool). T (p u)) (net-outside J) o);
       }
     where
       added : (d : ℕ) → d < darts → Open (net J) (view rec) d → π (d / 8) ≤ π (rev d / 8) + len d

@@ -106,10 +106,10 @@ module _ (J : Job) (fits : T (array_fits J.rows J.columns)) (rec : List ℕ) (fe
 
   -- and the raised ones are prices.
   pub raised-priced : Priced (net J) len (view rec) (raise π S δ)
-  raised-priced = moves-priced J fits rec feasible ground kept
+  raised-priced = moves-priced J fits rec feasible floor kept
     where
-      ground : (u : ℕ) → u < spots → T (outside J u) → raise π S δ u ≡ 0
-      ground u l o = by (S u) refl
+      floor : (u : ℕ) → u < spots → T (outside J u) → raise π S δ u ≡ 0
+      floor u l o = by (S u) refl
         where
           by : (b : Bool) → S u ≡ b → π u + when b δ ≡ 0
           by true e = absurd (L.inside u l (so e) o)
