@@ -29,7 +29,7 @@
  * calls, so calls on different records may run at the same time. docs/RECORD.md says what each byte of a record and of shortfall's output holds.
  *
  * A call works on the stack of its thread: step needs 314 KiB of it, shortfall 263 KiB, listing, mark, close, lay, diagonal and extra 135 KiB, part, write_text and sheet 103 KiB, new, read_text, trial and rules at most
- * 17 KiB (measured on x86-64 with two 40 by 40 jobs and the compiler of an older kit, not proved). A thread with 512 KiB is safe.
+ * 17 KiB (measured on x86-64 with two 40 by 40 jobs, not proved). A thread with 512 KiB is safe.
  */
 #ifndef TALUSDISH_H
 #define TALUSDISH_H
