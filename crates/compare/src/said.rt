@@ -26,7 +26,7 @@ pub const CARRIED: usize = 9;
 
 pub const FAILS: usize = 10;
 
-#[derive(Drop)]
+#[derive(Clone, Copy)]
 pub struct Said {
     pub kind: usize,
     pub number: usize,

@@ -20,7 +20,7 @@ use verdict::record::{
 };
 
 // What the oracle says of a job: how many chosen pins no wire is left for, and where none, the least length.
-#[derive(Drop)]
+#[derive(Clone, Copy)]
 struct Asked {
     missed: usize,
     least: usize,

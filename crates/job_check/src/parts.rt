@@ -8,11 +8,10 @@ fn put_parts(rec: &[u8], out: &mut Sheet, at: usize, r: usize, c: usize) -> usiz
     let mut n = at;
     let mut i = 0;
     while i < 20000 {
-        let answer = service::part(rec, r, c, i);
-        if !is_part(answer) {
+        if !is_part(service::part(rec, r, c, i)) {
             return n;
         }
-        n = put_listed(out, n, answer);
+        n = put_listed(out, n, service::part(rec, r, c, i));
         i += 1;
     }
     n

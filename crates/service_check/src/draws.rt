@@ -56,7 +56,7 @@ pub fn pick_length(x: u32, n: usize, most: usize) -> usize {
 }
 
 // The length that is lent of a record, a row and a column, and the generator's number afterwards.
-#[derive(Drop)]
+#[derive(Clone, Copy)]
 pub struct Spot {
     pub n: usize,
     pub row: usize,

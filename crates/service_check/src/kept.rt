@@ -30,7 +30,7 @@ const THROUGH: usize = 5;
 const PAST: usize = 6;
 
 // An edit that puts `value` at the byte `at` of the record, and takes out wires of the pin or the tile p, or of the link from the lane `limit` on.
-#[derive(Drop)]
+#[derive(Clone, Copy)]
 pub struct Edit {
     at: usize,
     value: usize,
@@ -198,7 +198,7 @@ fn lane_fits(edit: Edit, u: usize, v: usize, before: usize, after: usize) -> boo
 }
 
 // How far the listings before and after are compared, how many wires stay and go, and whether all is right.
-#[derive(Drop)]
+#[derive(Clone, Copy)]
 struct Compared {
     at: usize,
     then: usize,
