@@ -1,0 +1,4 @@
+use Rattle.service_check.proofs.kept.take_out.Given as goal
+
+abbrev pub decreases-loop-turns : goal.decreases-loop-turns
+decreases-loop-turns l = l.turns
