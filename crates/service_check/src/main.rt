@@ -17,6 +17,8 @@ mod steps; // the parts and the links of a wire
 use compare::shortened::tell_found;
 use verdict::bytes::{line, tell};
 
+// The parts are kept apart, since the pages of all together are more than a stack holds.
+#[inline(never)]
 fn random_calls(rt: &impl Print) {
     let mut calls = [0u64; 2];
     let mut direct = [0u64; 2];
@@ -30,6 +32,7 @@ fn random_calls(rt: &impl Print) {
     kept::tell_kept(rt, &kept);
 }
 
+#[inline(never)]
 fn full_records(rt: &impl Print) {
     let mut full = [0u64; 2];
     let mut kept = [0u64; 9];
@@ -40,11 +43,16 @@ fn full_records(rt: &impl Print) {
     kept::tell_kept(rt, &kept);
 }
 
-fn main(rt: HostRuntime) {
+#[inline(never)]
+fn given_examples(rt: &impl Print) {
     let mut examples = [0u64; 2];
-    examples::examples(&rt, &mut examples);
-    edited::edited(&rt, &mut examples);
-    tell(&rt, b"examples", &examples);
+    examples::examples(rt, &mut examples);
+    edited::edited(rt, &mut examples);
+    tell(rt, b"examples", &examples);
+}
+
+fn main(rt: HostRuntime) {
+    given_examples(&rt);
     random_calls(&rt);
     full_records(&rt);
 }
