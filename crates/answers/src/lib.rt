@@ -3,7 +3,7 @@
 
 use wire::Part;
 
-#[derive(Drop)]
+#[derive(Clone, Copy)]
 pub enum Answer {
     // by document 01's number
     Refused(usize),

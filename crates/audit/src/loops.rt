@@ -11,14 +11,14 @@ use channel::{columns, rows};
 use outward::lead_outward;
 
 // No closed chain; or the spots of one in st, and its slots in sl, from the first number to before the second, and how many spots are done.
-#[derive(Drop)]
+#[derive(Clone, Copy)]
 pub enum Found {
     Free,
     Ring(usize, usize, usize),
 }
 
 // What one turn leads to: a spot that is not seen; or another height of the stack, and how many spots are done; or a spot that is on the stack.
-#[derive(Drop)]
+#[derive(Clone, Copy)]
 enum Turn {
     New(usize),
     More(usize, usize),
@@ -27,7 +27,7 @@ enum Turn {
 
 // What the turns up to a new spot lead to: the height of the stack, how many spots are done, and the spot; or how many are done, with nothing on the stack;
 // or the height, how many are done, and a spot that is on the stack.
-#[derive(Drop)]
+#[derive(Clone, Copy)]
 enum Way {
     Down(usize, usize, usize),
     Up(usize),
@@ -35,7 +35,7 @@ enum Way {
 }
 
 // What the search from one spot leads to: how many spots are done; or a ring, and how many are done.
-#[derive(Drop)]
+#[derive(Clone, Copy)]
 enum Search {
     Over(usize),
     Ring(usize, usize, usize),

@@ -15,7 +15,7 @@ use channel::places::pin_exit;
 use channel::{columns, is_start, rows, wire_starts};
 
 // The spot of the pin from which a wire was laid; or no wire more fits.
-#[derive(Drop)]
+#[derive(Clone, Copy)]
 pub enum Next {
     Laid(usize),
     Nothing,

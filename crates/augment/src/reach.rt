@@ -12,14 +12,14 @@ use channel::{can_move, head_of, is_outside, lowest};
 use slots::{move_slots, unmarked};
 
 // The way out: slot k of the j-th spot in the queue, which has n; or there is none, and the queue has n.
-#[derive(Drop)]
+#[derive(Clone, Copy)]
 pub enum Way {
     Out(usize, usize, usize),
     Closed(usize),
 }
 
 // A slot that leads outside, and how many spots are in the queue; or that number alone.
-#[derive(Drop)]
+#[derive(Clone, Copy)]
 enum Step {
     Exit(usize, usize),
     More(usize),

@@ -14,7 +14,7 @@ pub fn draw(x: u32) -> u32
 }
 
 // A generator holds the number that was drawn last, or the one that it started from.
-#[derive(Drop)]
+#[derive(Clone, Copy)]
 pub struct Generator {
     pub number: u32,
 }

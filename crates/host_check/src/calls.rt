@@ -1,6 +1,6 @@
 // Random calls on two equal records: each is made once as an operation and once as the exported function, with equal buffers. The word has to say what the
 // operation answers, and the buffers have to be equal afterwards.
-use crate::words::{Counts, count, kind, says};
+use crate::words::{Counts, count, says};
 use check::same;
 use compare::lent::list_on;
 use compare::listed::held;
@@ -32,7 +32,7 @@ fn call_new(
     rec: &mut [u8],
     twin: &mut [u8],
     seed: u32,
-) -> usize {
+) -> Answer {
     let a = xorshift(seed);
     let b = xorshift(a);
     let c = xorshift(b);
@@ -43,7 +43,6 @@ fn call_new(
     let diagonal = pick(c, side, 4);
     let extra = pick(d, 0, 8);
     let answer = service::new(rec, rows, columns, side, diagonal, extra);
-    let counted = kind(&answer);
     let word = talusdish_new(
         twin,
         rows as u64,
@@ -53,7 +52,7 @@ fn call_new(
         extra as u64,
     );
     hold(rt, tally, says(word, answer), b"the word of new");
-    counted
+    answer
 }
 
 // A text at random, now and then cut.
@@ -63,7 +62,7 @@ fn call_read(
     rec: &mut [u8],
     twin: &mut [u8],
     seed: u32,
-) -> usize {
+) -> Answer {
     let mut sheet = [0u8; 262144];
     let mut job = blank();
     let x = random_job(seed, 10, &mut job);
@@ -74,10 +73,9 @@ fn call_read(
         length
     };
     let answer = service::read_text(rec, held(&sheet, n));
-    let counted = kind(&answer);
     let word = talusdish_read_text(twin, held(&sheet, n));
     hold(rt, tally, says(word, answer), b"the word of read text");
-    counted
+    answer
 }
 
 fn call_mark(
@@ -86,17 +84,16 @@ fn call_mark(
     rec: &mut [u8],
     twin: &mut [u8],
     seed: u32,
-) -> usize {
+) -> Answer {
     let a = xorshift(seed);
     let b = xorshift(a);
     let row = pick(seed, 0, 7);
     let column = pick(a, 0, 7);
     let mark = pick(b, 0, 4);
     let answer = service::mark(rec, row, column, mark);
-    let counted = kind(&answer);
     let word = talusdish_mark(twin, row as u64, column as u64, mark as u64);
     hold(rt, tally, says(word, answer), b"the word of mark");
-    counted
+    answer
 }
 
 fn call_close(
@@ -105,17 +102,16 @@ fn call_close(
     rec: &mut [u8],
     twin: &mut [u8],
     seed: u32,
-) -> usize {
+) -> Answer {
     let a = xorshift(seed);
     let b = xorshift(a);
     let row = pick(seed, 0, 7);
     let column = pick(a, 0, 7);
     let state = pick(b, 0, 3);
     let answer = service::close(rec, row, column, state);
-    let counted = kind(&answer);
     let word = talusdish_close(twin, row as u64, column as u64, state as u64);
     hold(rt, tally, says(word, answer), b"the word of close");
-    counted
+    answer
 }
 
 fn call_lay(
@@ -124,7 +120,7 @@ fn call_lay(
     rec: &mut [u8],
     twin: &mut [u8],
     seed: u32,
-) -> usize {
+) -> Answer {
     let a = xorshift(seed);
     let b = xorshift(a);
     let row = pick(seed, 0, 7);
@@ -132,10 +128,9 @@ fn call_lay(
     let side = pick(b, 0, 5);
     let count = pick(xorshift(b), 0, 4);
     let answer = service::lay(rec, row, column, side, count);
-    let counted = kind(&answer);
     let word = talusdish_lay(twin, row as u64, column as u64, side as u64, count as u64);
     hold(rt, tally, says(word, answer), b"the word of lay");
-    counted
+    answer
 }
 
 fn call_diagonal(
@@ -144,17 +139,16 @@ fn call_diagonal(
     rec: &mut [u8],
     twin: &mut [u8],
     seed: u32,
-) -> usize {
+) -> Answer {
     let a = xorshift(seed);
     let b = xorshift(a);
     let row = pick(seed, 0, 7);
     let column = pick(a, 0, 7);
     let d = pick(b, 0, 9);
     let answer = service::diagonal(rec, row, column, d);
-    let counted = kind(&answer);
     let word = talusdish_diagonal(twin, row as u64, column as u64, d as u64);
     hold(rt, tally, says(word, answer), b"the word of diagonal");
-    counted
+    answer
 }
 
 fn step_both(
@@ -164,13 +158,12 @@ fn step_both(
     twin: &mut [u8],
     scratch: &mut [u8],
     other: &mut [u8],
-) -> usize {
+) -> Answer {
     let answer = service::step(rec, scratch);
-    let counted = kind(&answer);
     let word = talusdish_step(twin, other);
     hold(rt, tally, says(word, answer), b"the word of step");
     hold(rt, tally, same(scratch, other), b"the scratch of step");
-    counted
+    answer
 }
 
 // Now and then the scratch is a byte too short.
@@ -180,7 +173,7 @@ fn call_step(
     rec: &mut [u8],
     twin: &mut [u8],
     seed: u32,
-) -> usize {
+) -> Answer {
     if below(seed, 16) == 0 {
         let mut scratch = [201u8; 65535];
         let mut other = [201u8; 65535];
@@ -200,18 +193,23 @@ fn shortfall_both(
     other: &mut [u8],
     output: &mut [u8],
     target: &mut [u8],
-) -> usize {
+) -> Answer {
     let answer = service::shortfall(rec, scratch, output);
-    let counted = kind(&answer);
     let word = talusdish_shortfall(twin, other, target);
     hold(rt, tally, says(word, answer), b"the word of shortfall");
     hold(rt, tally, same(scratch, other), b"the scratch of shortfall");
     hold(rt, tally, same(output, target), b"the output of shortfall");
-    counted
+    answer
 }
 
 // Now and then the scratch is a byte too short, or the output.
-fn call_shortfall(rt: &impl Print, tally: &mut Tally, rec: &[u8], twin: &[u8], seed: u32) -> usize {
+fn call_shortfall(
+    rt: &impl Print,
+    tally: &mut Tally,
+    rec: &[u8],
+    twin: &[u8],
+    seed: u32,
+) -> Answer {
     let mut scratch = [201u8; 65600];
     let mut other = [201u8; 65600];
     let mut output = [90u8; 32800];
@@ -252,17 +250,16 @@ fn call_shortfall(rt: &impl Print, tally: &mut Tally, rec: &[u8], twin: &[u8], s
     }
 }
 
-fn call_part(rt: &impl Print, tally: &mut Tally, rec: &[u8], twin: &[u8], seed: u32) -> usize {
+fn call_part(rt: &impl Print, tally: &mut Tally, rec: &[u8], twin: &[u8], seed: u32) -> Answer {
     let a = xorshift(seed);
     let b = xorshift(a);
     let row = pick(seed, 0, 9);
     let column = pick(a, 0, 9);
     let index = pick(b, 0, 8);
     let answer = service::part(rec, row, column, index);
-    let counted = kind(&answer);
     let word = talusdish_part(twin, row as u64, column as u64, index as u64);
     hold(rt, tally, says(word, answer), b"the word of part");
-    counted
+    answer
 }
 
 fn write_both(
@@ -272,17 +269,16 @@ fn write_both(
     twin: &[u8],
     output: &mut [u8],
     target: &mut [u8],
-) -> usize {
+) -> Answer {
     let answer = service::write_text(rec, output);
-    let counted = kind(&answer);
     let word = talusdish_write_text(twin, target);
     hold(rt, tally, says(word, answer), b"the word of write text");
     hold(rt, tally, same(output, target), b"the output of write text");
-    counted
+    answer
 }
 
 // Now and then the output is shorter than most texts.
-fn call_write(rt: &impl Print, tally: &mut Tally, rec: &[u8], twin: &[u8], seed: u32) -> usize {
+fn call_write(rt: &impl Print, tally: &mut Tally, rec: &[u8], twin: &[u8], seed: u32) -> Answer {
     if below(seed, 4) == 0 {
         let mut output = [90u8; 100];
         let mut target = [90u8; 100];
@@ -311,7 +307,7 @@ fn listing_length(rec: &[u8]) -> usize {
 }
 
 // The output is empty, as long as the listing, a byte shorter, a byte longer, or all.
-fn call_listing(rt: &impl Print, tally: &mut Tally, rec: &[u8], twin: &[u8], seed: u32) -> usize {
+fn call_listing(rt: &impl Print, tally: &mut Tally, rec: &[u8], twin: &[u8], seed: u32) -> Answer {
     let mut output = [90u8; 50000];
     let mut target = [90u8; 50000];
     let n = listing_length(rec);
@@ -323,11 +319,10 @@ fn call_listing(rt: &impl Print, tally: &mut Tally, rec: &[u8], twin: &[u8], see
         _ => n,
     };
     let answer = list_on(rec, &mut output, m);
-    let counted = kind(&answer);
     let word = listing_on(twin, &mut target, m);
     hold(rt, tally, says(word, answer), b"the word of listing");
     hold(rt, tally, same(&output, &target), b"the output of listing");
-    counted
+    answer
 }
 
 fn call_trial(
@@ -336,7 +331,7 @@ fn call_trial(
     rec: &mut [u8],
     twin: &mut [u8],
     seed: u32,
-) -> usize {
+) -> Answer {
     let a = xorshift(seed);
     let rows = pick(seed, 2, 7);
     let columns = pick(a, 2, 7);
@@ -344,7 +339,6 @@ fn call_trial(
     let chosen = pick(a / 2, 0, 80);
     let closed = pick(a / 4, 0, 102);
     let answer = service::trial(rec, rows, columns, 2, 3, 1, number, chosen, 30, closed);
-    let counted = kind(&answer);
     let word = talusdish_trial(
         twin,
         rows as u64,
@@ -358,7 +352,7 @@ fn call_trial(
         closed as u64,
     );
     hold(rt, tally, says(word, answer), b"the word of trial");
-    counted
+    answer
 }
 
 // A call of this kind.
@@ -368,13 +362,12 @@ fn call_extra(
     rec: &mut [u8],
     twin: &mut [u8],
     seed: u32,
-) -> usize {
+) -> Answer {
     let e = pick(seed, 0, 4);
     let answer = service::extra(rec, e);
-    let counted = kind(&answer);
     let word = talusdish_extra(twin, e as u64);
     hold(rt, tally, says(word, answer), b"the word of extra");
-    counted
+    answer
 }
 
 fn call(
@@ -384,7 +377,7 @@ fn call(
     twin: &mut [u8],
     seed: u32,
     kind: usize,
-) -> usize {
+) -> Answer {
     match kind {
         0 => call_new(rt, tally, rec, twin, seed),
         1 => call_read(rt, tally, rec, twin, seed),
@@ -410,10 +403,10 @@ fn call_both(
     twin: &mut [u8],
     seed: u32,
     kind: usize,
-) -> usize {
-    let counted = call(rt, tally, rec, twin, seed, kind);
+) -> Answer {
+    let answer = call(rt, tally, rec, twin, seed, kind);
     hold(rt, tally, same(rec, twin), b"the record");
-    counted
+    answer
 }
 
 // The call on the two records; now and then on two that are a byte too short, or damaged.
@@ -425,7 +418,7 @@ fn call_on(
     seed: u32,
     kind: usize,
     x: usize,
-) -> usize {
+) -> Answer {
     if x == 0 {
         let mut one = [7u8; 32767];
         let mut two = [7u8; 32767];

@@ -83,7 +83,7 @@ pub fn says(w: u64, answer: Answer) -> bool {
 // How often each kind of answer occurs.
 pub type Counts = [u64; 22];
 
-fn part_kind(part: &Part) -> usize {
+fn part_kind(part: Part) -> usize {
     match part {
         Part::Unwired => 14,
         Part::PastTheEnd => 15,
@@ -92,15 +92,15 @@ fn part_kind(part: &Part) -> usize {
             column: _,
             place: _,
             lane,
-        } => { if *lane == 0 { 16 } else { 17 } }
-        Part::Out { side: _, lane } => { if *lane == 0 { 18 } else { 19 } }
+        } => { if lane == 0 { 16 } else { 17 } }
+        Part::Out { side: _, lane } => { if lane == 0 { 18 } else { 19 } }
     }
 }
 
 // Where an answer is counted: a refusal at its number, those from 9 on together.
-pub fn kind(answer: &Answer) -> usize {
+fn kind(answer: Answer) -> usize {
     match answer {
-        Answer::Refused(k) => { if *k < 9 { *k } else { 21 } }
+        Answer::Refused(k) => { if k < 9 { k } else { 21 } }
         Answer::WrongText(_) => 6,
         Answer::Done => 9,
         Answer::Added => 10,
@@ -114,7 +114,8 @@ pub fn kind(answer: &Answer) -> usize {
     }
 }
 
-pub fn count(counts: &mut Counts, k: usize) {
+pub fn count(counts: &mut Counts, answer: Answer) {
+    let k = kind(answer);
     if k < 22 {
         counts[k] = std::num::wrapping_add_u64(counts[k], 1);
     }

@@ -8,10 +8,11 @@ fn put_parts(rec: &[u8], out: &mut Sheet, at: usize, r: usize, c: usize) -> usiz
     let mut n = at;
     let mut i = 0;
     while i < 20000 {
-        if !is_part(service::part(rec, r, c, i)) {
+        let answer = service::part(rec, r, c, i);
+        if !is_part(answer) {
             return n;
         }
-        n = put_listed(out, n, service::part(rec, r, c, i));
+        n = put_listed(out, n, answer);
         i += 1;
     }
     n

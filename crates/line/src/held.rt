@@ -4,7 +4,7 @@ ghost use Rattle.line.specs.Lines.{LineAt};
 
 use crate::lines::{Line, line_at};
 
-#[derive(Drop)]
+#[derive(Clone, Copy)]
 pub struct Reader<'a> {
     pub text: &'a [u8],
     pub at: usize,

@@ -9,7 +9,7 @@ use crate::words::{ARRAY, ARRAY_END, CAPS, CHOSEN, CLOSED, END, GROUP_END, LAID,
 
 // A line after the array line, with the offset past it. The groups are 2 chosen, 3 missing, 4 closed, 5 own D, 6 laid; the value is the mark, the state, the D
 // or the count that the pin, the tile or the tile's side gets.
-#[derive(Drop)]
+#[derive(Clone, Copy)]
 pub enum Line {
     Group {
         group: usize,
@@ -77,7 +77,7 @@ fn value_of(group: usize) -> usize
 }
 
 // The side and the value that a line of a group tells, and the offset past the parenthesis behind them.
-#[derive(Drop)]
+#[derive(Clone, Copy)]
 pub enum Tail {
     Tells(usize, usize, usize),
     Not,
@@ -171,7 +171,7 @@ pub fn line_at(text: &[u8], at: usize) -> Line
 }
 
 // The array line, with the offset past it.
-#[derive(Drop)]
+#[derive(Clone, Copy)]
 pub enum Opening {
     Array {
         rows: usize,

@@ -5,7 +5,7 @@ ghost use Rattle.line.specs.Scan.{WordAt, NumberAt, TwoAt, SideAt};
 use crate::words::SIDES;
 
 // The offset past a word, if it stands there.
-#[derive(Drop)]
+#[derive(Clone, Copy)]
 pub enum Word {
     Ends(usize),
     Differs,
@@ -30,7 +30,7 @@ pub fn word_at(text: &[u8], at: usize, word: &[u8]) -> Word
 }
 
 // A number of one or two digits, and the offset past the byte that ends it.
-#[derive(Drop)]
+#[derive(Clone, Copy)]
 pub enum Number {
     Is(usize, usize),
     Not,
@@ -75,7 +75,7 @@ pub fn number_at(text: &[u8], at: usize, end: u8) -> Number
 }
 
 // Two numbers, and the offset past the byte that ends them.
-#[derive(Drop)]
+#[derive(Clone, Copy)]
 pub enum Two {
     Are(usize, usize, usize),
     Not,

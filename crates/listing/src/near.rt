@@ -105,7 +105,7 @@ fn cell_lines(
 }
 
 // How much of a page is filled, and the first entry of the next one.
-#[derive(Drop)]
+#[derive(Clone, Copy)]
 pub struct NearFilled {
     pub length: usize,
     pub next: usize,

@@ -12,7 +12,7 @@ use crate::totals::totals_page;
 use crate::wires::{count_page, first_wire, wires_page};
 
 // What writing a listing came to: its length, or an output that is shorter.
-#[derive(Drop)]
+#[derive(Clone, Copy)]
 pub enum Listed {
     Wrote(usize),
     Short,

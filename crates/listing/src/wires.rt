@@ -60,7 +60,7 @@ fn put_part(out: &mut Page, at: usize, part: Part) -> usize
 
 // Where a page begins: with the line of a cell's wire, or inside it, with the part of this index, whose hop is the dart and the lane. Cell p is the pin
 // (p / 40, p % 40); the listing ends at cell 1,600.
-#[derive(Drop)]
+#[derive(Clone, Copy)]
 pub struct Cursor {
     pub cell: usize,
     pub index: usize,
@@ -69,7 +69,7 @@ pub struct Cursor {
 }
 
 // How much of a page is filled, and where the next one begins.
-#[derive(Drop)]
+#[derive(Clone, Copy)]
 pub struct Filled {
     pub length: usize,
     pub next: Cursor,

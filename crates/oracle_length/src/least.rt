@@ -167,7 +167,7 @@ fn is_least(m: &mut Sheet) -> bool {
 }
 
 // How many wires were laid, their length, and whether that is the least, which is true where it was not asked.
-#[derive(Drop)]
+#[derive(Clone, Copy)]
 struct Wiring {
     laid: usize,
     length: usize,

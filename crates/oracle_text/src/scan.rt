@@ -11,7 +11,7 @@ pub struct Found {
     pub values: [u16; 5],
 }
 
-#[derive(Drop)]
+#[derive(Clone, Copy)]
 struct Digits {
     at: usize,
     some: bool,

@@ -14,14 +14,14 @@ ghost use Rattle.pairing.specs.Struck.{as_struck, Below, Resumes};
 ghost use Rattle.pairing.specs.Answer.{lanes, partner_of, LaneAt, Partner, Arrival};
 
 // A lane of the link of a slot.
-#[derive(Drop)]
+#[derive(Clone, Copy)]
 pub struct Lane {
     pub slot: usize,
     pub lane: usize,
 }
 
 // What a round gives: the positions of the two ends that it joins and how many ends are left before them, or that nothing is left to join.
-#[derive(Drop)]
+#[derive(Clone, Copy)]
 enum Join {
     Pair { fst: u8, snd: u8, before: usize },
     Nothing,

@@ -4,7 +4,7 @@ ghost use Rattle.rules.specs.Arguments.{Written};
 use crate::smaller;
 
 // What an argument is: a number, 10,000,000,000 for every larger one, or none.
-#[derive(Drop)]
+#[derive(Clone, Copy)]
 pub enum Argument {
     NoNumber,
     Number(u64),

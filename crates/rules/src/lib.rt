@@ -12,7 +12,7 @@ pub mod argument; // a measure as an argument
 mod diagonal; // the diagonal count
 
 // What measures give: O and its remainder, the diagonal count k and what it leaves of 2×p×p, and D.
-#[derive(Drop)]
+#[derive(Clone, Copy)]
 pub struct Figures {
     pub orthogonal: u64,
     pub remainder: u64,
@@ -22,7 +22,7 @@ pub struct Figures {
 }
 
 // The figures, or why there are none: a measure out of range, or p under d + s or O not 1 to 8.
-#[derive(Drop)]
+#[derive(Clone, Copy)]
 pub enum Answer {
     OutOfRange,
     NoCapacity,

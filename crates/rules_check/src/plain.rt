@@ -33,7 +33,7 @@ pub fn equal(a: Came, b: Came) -> bool {
 }
 
 // How often something was taken, and what is left.
-#[derive(Drop)]
+#[derive(Clone, Copy)]
 struct Counted {
     n: u64,
     left: u64,

@@ -2,7 +2,7 @@
 use crate::plain::{Came, refused};
 
 // A line so far: its numbers, the number that is being read, whether there is one, and whether a letter stood there.
-#[derive(Drop)]
+#[derive(Clone, Copy)]
 pub struct Line {
     pub numbers: [u64; 9],
     pub count: usize,

@@ -7,7 +7,7 @@ use augment::next::{Next, next_wire};
 use channel::copy::copy;
 
 // One wire more is laid; or no wire more fits.
-#[derive(Drop)]
+#[derive(Clone, Copy)]
 pub enum Progress {
     Added,
     Full,

@@ -146,8 +146,7 @@ fn call_part(
     let expected = expect_part(job, at.n, at.row, at.column);
     hold_answer(rt, tally, answer, expected, b"part answers");
     if expected.kind == LISTS {
-        let again = service::part(first(rec, at.n), at.row, at.column, index);
-        hold_part(rt, tally, rec, page, again, cell(at.row, at.column), index);
+        hold_part(rt, tally, rec, page, answer, cell(at.row, at.column), index);
     }
     at.next
 }

@@ -11,7 +11,7 @@ pub const OUT: usize = 12800;
 pub const NO_LINK: usize = 24000;
 
 // A part of a wire: whether one stands there, the place that the wire comes to, the lane by which it does, and the offset behind the part.
-#[derive(Drop)]
+#[derive(Clone, Copy)]
 pub struct Part {
     pub fits: bool,
     pub at: usize,

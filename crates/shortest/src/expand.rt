@@ -10,7 +10,7 @@ use augment::reach::onward;
 use channel::{head_of, is_outside, lowest};
 
 // So many spots are in the queue, on the stack and on the rim; the moves of those on the rim leave `least` or more.
-#[derive(Drop)]
+#[derive(Clone, Copy)]
 pub struct Growth {
     pub n: usize,
     pub top: usize,
@@ -19,7 +19,7 @@ pub struct Growth {
 }
 
 // A way out: a place in the queue, a slot of the spot there, and how many spots are in the queue; or the search goes on.
-#[derive(Drop)]
+#[derive(Clone, Copy)]
 pub enum Step {
     Exit(usize, usize, usize),
     More(Growth),

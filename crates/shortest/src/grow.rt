@@ -16,7 +16,7 @@ use augment::ways::{lay_way, unmark};
 const FAR: usize = 1500000;
 
 // The way out: slot `slot` of the spot at `place` in the queue of n.
-#[derive(Drop)]
+#[derive(Clone, Copy)]
 pub struct Way {
     pub place: usize,
     pub slot: usize,

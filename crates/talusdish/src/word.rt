@@ -74,11 +74,11 @@ fn value_of(answer: Answer) -> u64
 }
 
 // The number of the refusal, 0 for an accepted call.
-fn code_of(answer: &Answer) -> u64
-    ensures { result ≡ code (as_answer answer.now) }
+fn code_of(answer: Answer) -> u64
+    ensures { result ≡ code (as_answer answer) }
 {
     match answer {
-        Answer::Refused(k) => *k as u64,
+        Answer::Refused(k) => k as u64,
         Answer::WrongText(_) => 6,
         Answer::Done => 0,
         Answer::Added => 0,
@@ -97,6 +97,5 @@ pub fn word_of(answer: Answer) -> u64
     requires { word (as_answer answer) < 2 ^ 64 }
     ensures { result ≡ word (as_answer answer) }
 {
-    let code = code_of(&answer);
-    256 * value_of(answer) + code
+    256 * value_of(answer) + code_of(answer)
 }

@@ -7,7 +7,7 @@ use line::lines::{Line, Opening, array_at, writes_side};
 use model::{Array, Capacities, in_range};
 
 // What a text is: a job's, or wrong at a line's offset.
-#[derive(Drop)]
+#[derive(Clone, Copy)]
 pub enum Judged {
     Reads,
     WrongAt(usize),
@@ -107,7 +107,7 @@ pub struct Cursor {
 }
 
 // Where the next line leads.
-#[derive(Drop)]
+#[derive(Clone, Copy)]
 pub enum Step {
     To(Cursor),
     Wrong,

@@ -43,7 +43,7 @@ const RANDOM: usize = 3;
 const WRONG: usize = 4;
 
 // What a text came to: refused at an offset, or read and written again with a length, or with too little room.
-#[derive(Drop)]
+#[derive(Clone, Copy)]
 enum Outcome {
     Refused(usize),
     Wrote(usize),

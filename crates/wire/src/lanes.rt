@@ -13,7 +13,7 @@ use channel::places::{wires_in, wires_out};
 use channel::table::PLACES;
 
 // How many wires come and leave by a slot.
-#[derive(Drop)]
+#[derive(Clone, Copy)]
 struct Both {
     come: u8,
     leave: u8,

@@ -19,14 +19,14 @@ pub mod lanes; // how many wires come and leave by the slots of an exit
 pub mod length; // how long all wires are together
 
 // The next hop of a wire.
-#[derive(Drop)]
+#[derive(Clone, Copy)]
 pub enum Hop {
     End,
     On { dart: usize, lane: usize },
 }
 
 // The entries of a wire's list. A place is given as the kind of its spot: 0 a missing pin, 1 a pin that is left directly, 2 to 5 n, e, s, w, 6 the centre.
-#[derive(Drop)]
+#[derive(Clone, Copy)]
 pub enum Part {
     Unwired,
     To {

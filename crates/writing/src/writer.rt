@@ -12,7 +12,7 @@ use line::lines::stop_of;
 use line::words::{ARRAY, ARRAY_END, CAPS, CHOSEN, CLOSED, END, GROUP_END, LAID, MISSING, OWN};
 
 // What writing a text came to: its length, or an output that is shorter.
-#[derive(Drop)]
+#[derive(Clone, Copy)]
 pub enum Written {
     Wrote(usize),
     Short,
