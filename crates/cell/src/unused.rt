@@ -8,8 +8,8 @@ fn is_clear(rec: &[u8], start: usize, n: usize) -> bool
     ensures { result ≡ is_clear rec.now start n }
 {
     let mut clear = true;
-    for i in 0..n {
-        clear = clear & (rec[start + i] == 0);
+    for b in &rec[start..start + n] {
+        clear = clear & (*b == 0);
     }
     clear
 }

@@ -7,7 +7,5 @@ pub fn copy(from: &[u8], to: &mut [u8])
     requires { (record_size ≤ length from.now) × (record_size ≤ length to.old) }
     ensures { to.new ≡ over (take record_size from.now) to.old }
 {
-    for i in 0..32768 {
-        to[i] = from[i];
-    }
+    to[..32768].copy_from_slice(&from[..32768]);
 }

@@ -104,16 +104,13 @@ pub fn side_at(r: usize, c: usize, side: usize) -> usize
     requires { (r < 39) × (c < 39) }
     ensures { (result ≡ side_offset (side_of r c side)) × (result < 32768) }
 {
-    if side == 0 {
-        return 27968 + 40 * r + c;
-    }
-    if side == 1 {
-        return 29569 + 40 * r + c;
-    }
-    if side == 2 {
-        return 28008 + 40 * r + c;
-    }
-    29568 + 40 * r + c
+    let first = match side {
+        0 => 27968,
+        1 => 29569,
+        2 => 28008,
+        _ => 29568,
+    };
+    first + 40 * r + c
 }
 
 // The count of wires already laid on a side of the tile (r, c): n, e, s, w for 0 to 3.

@@ -106,9 +106,7 @@ pub fn side_most(job: &[u8], k: usize, x: usize) -> usize
     requires { (32768 ≤ length job.now) × (k < 2) × (41 ≤ x) × (x < 1641) }
     ensures { (result ≡ size (limit_of (job_of job.now) (get_or kinds k north_side) (row_of x) (column_of x))) × (result < 256) }
 {
-    let most = orthogonal(job);
-    let laid = wide(job[27927 + 1600 * k + x]);
-    if most < laid { 0 } else { most - laid }
+    orthogonal(job).saturating_sub(wide(job[27927 + 1600 * k + x]))
 }
 
 // The limit of a side's dart.
@@ -140,9 +138,7 @@ pub fn centre_most(job: &[u8], x: usize) -> usize
     requires { (32768 ≤ length job.now) × (41 ≤ x) × (x < 1641) }
     ensures { (result ≡ centre_limit (job_of job.now).O (tile_d (job_of job.now) (row_of x) (column_of x))) × (result < 256) }
 {
-    let corners = 2 * (orthogonal(job) / 2);
-    let most = diagonal_at(job, x);
-    if most < corners { 0 } else { most - corners }
+    diagonal_at(job, x).saturating_sub(2 * (orthogonal(job) / 2))
 }
 
 // How many wires pass a missing pin at most.

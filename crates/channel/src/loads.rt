@@ -215,9 +215,7 @@ fn slots_anywhere(rec: &[u8], u: usize) -> usize
     ensures { result ≡ loaded_from rec.now u 0 }
 {
     let mut r = 0;
-    let mut k = 5;
-    while 0 < k {
-        k -= 1;
+    for k in (0..5).rev() {
         r = 2 * r + bit(carried(rec, 8 * u + k) != 0);
     }
     r

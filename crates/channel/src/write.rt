@@ -11,9 +11,7 @@ use crate::header::side_at;
 pub fn clear(part: &mut [u8])
     ensures { part.new ≡ zeros (length part.old) }
 {
-    for i in 0..part.len() {
-        part[i] = 0;
-    }
+    part.fill(0);
 }
 
 // The record of an idle, open, unwired job with the five numbers.

@@ -6,10 +6,7 @@ ghost use Rattle.model.specs.Job.{in_range, array_fits, caps_fit, caps_admitted,
 pub fn in_range(least: usize, most: usize, n: usize) -> bool
     ensures { result ≡ in_range least most n }
 {
-    if n < least {
-        return false;
-    }
-    n <= most
+    (least..=most).contains(&n)
 }
 
 // An array of pins.
@@ -29,11 +26,8 @@ impl Array {
     pub fn fits(self) -> bool
         ensures { result ≡ array_fits self.rows self.columns }
     {
-        if in_range(Array::LEAST, Array::MOST, self.rows) {
-            in_range(Array::LEAST, Array::MOST, self.columns)
-        } else {
-            false
-        }
+        in_range(Array::LEAST, Array::MOST, self.rows)
+            && in_range(Array::LEAST, Array::MOST, self.columns)
     }
 }
 
@@ -60,34 +54,22 @@ impl Capacities {
         ensures { result ≡ caps_fit self.orthogonal self.diagonal self.extra }
     {
         let o = self.orthogonal;
-        if !in_range(Capacities::O_LEAST, Capacities::O_MOST, o) {
-            return false;
-        }
-        if !in_range(o, 2 * o, self.diagonal) {
-            return false;
-        }
-        in_range(Capacities::E_LEAST, Capacities::E_MOST, self.extra)
+        in_range(Capacities::O_LEAST, Capacities::O_MOST, o)
+            && in_range(o, 2 * o, self.diagonal)
+            && in_range(Capacities::E_LEAST, Capacities::E_MOST, self.extra)
     }
 
     // Whether a new job may have them.
     pub fn admitted(self) -> bool
         ensures { result ≡ caps_admitted self.orthogonal self.diagonal self.extra }
     {
-        if self.fit() {
-            self.extra <= self.diagonal
-        } else {
-            false
-        }
+        self.fit() && self.extra <= self.diagonal
     }
 
     // How many wires a centre passes at most.
     pub fn centre_limit(self) -> usize
         ensures { result ≡ centre_limit self.orthogonal self.diagonal }
     {
-        let corners = 2 * (self.orthogonal / 2);
-        if self.diagonal < corners {
-            return 0;
-        }
-        self.diagonal - corners
+        self.diagonal.saturating_sub(2 * (self.orthogonal / 2))
     }
 }

@@ -4,10 +4,12 @@
 pub mod Falling
 use Rattle.std.specs.Prelude.{◌≡◌, ◌⊎◌, Bool, not, ◌&&◌, ◌||◌, List, [], ◌∷◌, ℕ, zero, suc, ◌+◌, ◌-◌, ◌*◌, ◌/◌, ◌%◌, ◌≤◌, ◌<◌, T, leb, ltb, length, get_or, set, replicate}
 use Rattle.std.proofs.Math.Path.{refl, sym, ap}
-use Rattle.std.proofs.Common.{subst, ◌∙◌, inl, inr, ⊎_elim, arith, lt-ltb, le-ltb, get_or-set_same, get_or-set_other}
+use Rattle.std.proofs.Common.{subst, ◌∙◌, inl, inr, ⊎_elim, arith, lt-ltb, le-ltb, take, drop, ◌++◌, rules, get_or-set_same, get_or-set_other}
+use Rattle.std.proofs.lemmas.Bool.{cases_lt}
 use Rattle.std.proofs.Math.Bool.{true, false}
 use Rattle.std.proofs.Math.Dec.{eqb}
-use Rattle.std.proofs.lemmas.List.{length-replicate, get_or-replicate}
+use Rattle.std.proofs.lemmas.List.{length-replicate, get_or-replicate, length-drop, length-take-le, get_or_append_left, get_or-append_right, get_or-take, get_or-drop}
+use borrow.Rule.Slice.PartMut.{put_mid, mid_of}
 use Rattle.sums.specs.Counting.{when}
 use Rattle.sums.specs.Tests.{Same, same, other, same?, and_left, and_right, so, so-not, below_or}
 use Rattle.model.specs.Links.{Compass, north, east, south, west, clockwise, compass_code}
@@ -112,6 +114,44 @@ put-more {old} {mid} {a} {b} {f} p l h v e = record { each = λ i m. by i m (eqb
         inr (omega arith, omega arith, rw q (get_or-set_same mid (3968 + b) v 0 h ∙ e))
     by i m false (other n) (inl o) = inl (get_or-set_other mid (3968 + b) (3968 + i) v 0 (λ z. n (omega arith)) ∙ o)
     by i m false (other n) (inr (x, y, o)) = inr (x, omega arith, get_or-set_other mid (3968 + b) (3968 + i) v 0 (λ z. n (omega arith)) ∙ o)
+
+-- a part filled with the byte of one wire
+pub put-filled : (old : List ℕ) (a b : ℕ) (f : Bool) (w : ℕ) (ys : List ℕ) → ys ≡ replicate (length (mid_of (3968 + a) (3968 + b - (3968 + a)) old)) w → w ≡ one_wire f
+    → a ≤ b → 3968 + b ≤ length old → Put old a b (λ i. f) (put_mid (3968 + a) (3968 + b - (3968 + a)) old ys)
+put-filled old a b f w ys e v h l = record { each = λ i m. ⊎_elim (below i) (λ q. ⊎_elim (within i q) (above i) (cases_lt i b)) (cases_lt i a) }
+  where
+    now : List ℕ
+    now = put_mid (3968 + a) (3968 + b - (3968 + a)) old ys
+
+    front : length (take (3968 + a) old) ≡ 3968 + a
+    front = length-take-le (3968 + a) old (omega arith)
+
+    long : length ys ≡ b - a
+    long =
+        ap length e ∙ length-replicate _ w ∙ length-take-le (3968 + b - (3968 + a)) (drop (3968 + a) old) (rw (length-drop (3968 + a) old) (omega arith)) ∙ omega arith
+
+    below : (i : ℕ) → i < a → (get_or now (3968 + i) 0 ≡ get_or old (3968 + i) 0) ⊎ ((a ≤ i) × (i < b) × (get_or now (3968 + i) 0 ≡ one_wire f))
+    below i m = inl (get_or_append_left (take (3968 + a) old) _ 0 (3968 + i) (rw front (omega arith)) ∙ get_or-take (3968 + a) old (3968 + i) 0 (omega arith))
+
+    within : (i : ℕ) → a ≤ i → i < b → (get_or now (3968 + i) 0 ≡ get_or old (3968 + i) 0) ⊎ ((a ≤ i) × (i < b) × (get_or now (3968 + i) 0 ≡ one_wire f))
+    within i m n =
+        inr (
+          m,
+          n,
+          get_or-append_right (take (3968 + a) old) _ (3968 + a) (3968 + i) 0 front (omega arith)
+              ∙ get_or_append_left ys _ 0 (3968 + i - (3968 + a)) (rw long (omega arith))
+              ∙ rw e (get_or-replicate _ (3968 + i - (3968 + a)) w 0 (rw (length-take-le (3968 + b - (3968 + a)) (drop (3968 + a) old) (rw (length-drop (3968 + a) old) (omega arith))) (omega arith)))
+              ∙ v,
+        )
+
+    above : (i : ℕ) → b ≤ i → (get_or now (3968 + i) 0 ≡ get_or old (3968 + i) 0) ⊎ ((a ≤ i) × (i < b) × (get_or now (3968 + i) 0 ≡ one_wire f))
+    above i m =
+        inl
+        (get_or-append_right (take (3968 + a) old) _ (3968 + a) (3968 + i) 0 front (omega arith)
+        ∙ get_or-append_right ys _ (b - a) (3968 + i - (3968 + a)) 0 long (omega arith)
+        ∙ get_or-drop (3968 + b - (3968 + a)) (drop (3968 + a) old) (3968 + i - (3968 + a) - (b - a)) 0
+        ∙ get_or-drop (3968 + a) old (3968 + b - (3968 + a) + (3968 + i - (3968 + a) - (b - a))) 0
+        ∙ ap (λ j. get_or old j 0) (omega arith))
 
 pub put-before : {old new : List ℕ} {a b : ℕ} {f : ℕ → Bool} → Put old a b f new → (c : ℕ) → ((i : ℕ) → a ≤ i → i < b → i < c) → Put old a c f new
 put-before p c h = record { each = λ i l. ⊎_elim inl (λ (x, y, e). inr (x, h i x y, e)) (p.each i l) }

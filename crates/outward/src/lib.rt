@@ -7,6 +7,8 @@ ghost use Rattle.sums.specs.Counting.{when};
 ghost use Rattle.model.specs.Links.{compass_code};
 ghost use Rattle.outward.specs.Outward.{Parts, sector, Middle, one_wire, Outward, Put, line_has, inset, parts};
 
+use std::array;
+
 // The byte of one wire, along its link's positive way or against it.
 fn one_wire(forth: bool) -> u8
     ensures { result ≡ one_wire forth }
@@ -16,13 +18,10 @@ fn one_wire(forth: bool) -> u8
 
 // The load bytes from a to before b become one wire each.
 fn put(old: &mut [u8], a: usize, b: usize, forth: bool)
-    requires { (32768 ≤ length old.old) × (b ≤ 24000) }
+    requires { (32768 ≤ length old.old) × (a ≤ b) × (b ≤ 24000) }
     ensures { Put old.old a b (λ i. forth) old.new }
 {
-    let wire = one_wire(forth);
-    for i in a..b {
-        old[3968 + i] = wire;
-    }
+    old[3968 + a..3968 + b].fill(one_wire(forth));
 }
 
 // Those of the row r of the k-th plane, along their links' positive way in the columns where the line has x or y.
@@ -93,22 +92,18 @@ fn row_sectors(numbers: &[u8; 40], middle: u8, left: u8, right: u8) -> [u8; 40]
 fn count_up() -> [u8; 40]
     ensures { (c : ℕ) → c < 40 → get_or result c 0 ≡ c }
 {
-    let mut line = [0u8; 40];
-    for c in 0..40 {
-        line[c] = c as u8;
-    }
-    line
+    array::from_fn(|c| c as u8)
 }
 
 // 1 for the columns east of the middle one, else 0.
 fn east_of(column: usize) -> [u8; 40]
     ensures { (c : ℕ) → c < 40 → get_or result c 0 ≡ when (ltb column c) 1 }
 {
-    let mut line = [0u8; 40];
-    for c in 0..40 {
-        line[c] = pick(column < c, 1, 0);
-    }
-    line
+    array::from_fn(
+        |c: usize| -> u8
+            ensures { result ≡ when (ltb column c) 1 }
+        { (column < c) as u8 },
+    )
 }
 
 // The corners of the tiles of the row r, beside the line of their sectors: each turns to the rim in two.
@@ -157,13 +152,6 @@ fn put_links(
     put_spokes(old, &line, r);
 }
 
-// n, but no more than 40.
-fn up_to_40(n: usize) -> usize
-    ensures { result ≤ 40 }
-{
-    if n < 40 { n } else { 40 }
-}
-
 // One wire outward along the links of the rows of an array, beside loads of 0.
 pub fn lead_outward(old: &mut [u8], rows: usize, columns: usize)
     requires { (32768 ≤ length old.old) × (rows < 256) × (columns < 256) × ((i : ℕ) → i < 32768 → get_or old.old i 0 ≡ 0) }
@@ -172,7 +160,7 @@ pub fn lead_outward(old: &mut [u8], rows: usize, columns: usize)
     let numbers = count_up();
     let east = east_of(columns / 2);
     put(old, 16000, 24000, true);
-    for r in 0..up_to_40(rows) {
+    for r in 0..rows.min(40) {
         put_links(old, &numbers, &east, rows, columns, r);
     }
 }

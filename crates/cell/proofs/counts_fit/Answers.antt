@@ -7,11 +7,8 @@ use Rattle.cell.proofs.counts_fit.Goals as goal
 
 pub returns : goal.returns
 returns c =
-    let b = c in
-    let a = b in
-    let s = a in
-    let x = s.args.x in
-    let rec = s.args.rec.now in
-    counts-read rec (row_of x) (column_of x) _ _ _ _ _ _ _ b.byte.ensures c.byte-2.ensures
-    (north-read rec _ s.requires.3 x (omega arith) (omega arith)) (west-read rec _ s.requires.3 x (omega arith) (omega arith))
-    a.orthogonal-most.ensures.0 b.held.ensures.0 c.held-2.ensures.0
+    let x = c.args.x in
+    let rec = c.args.rec.now in
+    counts-read rec (row_of x) (column_of x) _ _ _ _ _ _ _ c.byte.ensures c.byte-2.ensures
+    (north-read rec _ c.requires.3 x (omega arith) (omega arith)) (west-read rec _ c.requires.3 x (omega arith) (omega arith))
+    c.orthogonal-most.ensures.0 c.held.ensures.0 c.held-2.ensures.0

@@ -10,10 +10,7 @@ use Rattle.cell.proofs.own_fits.Goals as goal
 
 pub returns : goal.returns
 returns c =
-    let c2 = c in
-    let c4 = c2 in
-    let s = c4 in
-    let rec = s.args.rec.now in
-    let x = s.args.x in
-    own_read rec (row_of x) (column_of x) _ _ _ _ _ _ c4.byte-own.ensures (map_read (is_tile (job_of rec)) _ s.requires.in_bounds.3.map x (omega arith) (omega arith))
-    c2.orthogonal-least.ensures.0 c2.orthogonal.ensures.0 refl c.diagonal.ensures.0
+    let rec = c.args.rec.now in
+    let x = c.args.x in
+    own_read rec (row_of x) (column_of x) _ _ _ _ _ _ c.byte-own.ensures (map_read (is_tile (job_of rec)) _ c.requires.in_bounds.3.map x (omega arith) (omega arith))
+    c.orthogonal-least.ensures.0 c.orthogonal.ensures.0 refl c.diagonal.ensures.0

@@ -9,9 +9,8 @@ use Rattle.cell.proofs.values_fit.Goals as goal
 
 pub returns : goal.returns
 returns c =
-    let s = c in
-    let x = s.args.x in
-    let J = job_of s.args.rec.now in
-    values-read s.args.rec.now (row_of x) (column_of x) _ _ _ _ _ _ c.byte.ensures c.byte-2.ensures
-    (map_read (is_pin J) _ s.requires.3 x (omega arith) (omega arith)) (map_read (is_tile J) _ s.requires.4.map x (omega arith) (omega arith))
+    let x = c.args.x in
+    let J = job_of c.args.rec.now in
+    values-read c.args.rec.now (row_of x) (column_of x) _ _ _ _ _ _ c.byte.ensures c.byte-2.ensures
+    (map_read (is_pin J) _ c.requires.3 x (omega arith) (omega arith)) (map_read (is_tile J) _ c.requires.4.map x (omega arith) (omega arith))
     c.held.ensures.0 c.held-2.ensures.0

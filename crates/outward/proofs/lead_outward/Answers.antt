@@ -3,8 +3,5 @@ use mathlib.Core.Path.{refl}
 use Rattle.outward.specs.Outward.{legs-outward}
 use Rattle.outward.proofs.lead_outward.Goals as goal
 
-pub returns : goal.returns
-returns c = c.loop-r.invariant.1
-
 pub loop-r-init : goal.loop-r-init
 loop-r-init c = (refl, legs-outward _ c.put.ensures c.requires.3)

@@ -10,9 +10,6 @@ use Rattle.channel.specs.Map.{in_grid, row_of, column_of}
 use Rattle.cell.specs.Cell.Grid.{block_at, block_none}
 use Rattle.cell.proofs.grid.block.Goals as goal
 
-pub returns : goal.returns
-returns c = record { at = λ i h. c.loop-x.invariant.3 i (omega arith) }
-
 pub loop-x-init : goal.loop-x-init
 loop-x-init c = (omega arith, omega arith, refl, λ i l. get_or-replicate 1641 i false false (omega arith) ∙ block_none i _ l)
 

@@ -5,5 +5,4 @@ use Rattle.cell.proofs.grid.byte.Goals as goal
 
 pub returns : goal.returns
 returns c =
-    let s = c in
-    own-cell s.args.rec.now s.args.p s.args.x (omega arith) (omega arith)
+    own-cell c.args.rec.now c.args.p c.args.x (omega arith) (omega arith)

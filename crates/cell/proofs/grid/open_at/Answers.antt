@@ -4,5 +4,4 @@ use Rattle.cell.proofs.grid.open_at.Goals as goal
 
 pub returns : goal.returns
 returns c =
-    let s = c in
-    cc (open-read s.args.rec.now _ s.requires.2 s.args.x s.requires.1)
+    cc (open-read c.args.rec.now _ c.requires.2 c.args.x c.requires.1)

@@ -7,6 +7,5 @@ use Rattle.cell.proofs.links.direct.Goals as goal
 
 pub returns : goal.returns
 returns c =
-    let s = c in
-    let x = s.args.x in
-    direct_is s.args.rec.now (row_of x) (column_of x) _ (cc (direct-read s.args.rec.now _ _ s.requires.3 s.requires.4 x (omega arith) (omega arith)))
+    let x = c.args.x in
+    direct_is c.args.rec.now (row_of x) (column_of x) _ (cc (direct-read c.args.rec.now _ _ c.requires.3 c.requires.4 x (omega arith) (omega arith)))

@@ -8,11 +8,10 @@ use Rattle.cell.proofs.links.legs.Goals as goal
 
 pub returns : goal.returns
 returns c =
-    let s = c in
-    let J = job_of s.args.rec.now in
-    let x = s.args.x in
-    let fits = s.requires.3.array in
-    legs-read s.args.rec.now (row_of x) (column_of x) _ _ _ _ _ _ _ _ _ _ _ _ _ _ _ c.byte-mark.ensures c.leaves-away.ensures c.held-back.ensures.0
+    let J = job_of c.args.rec.now in
+    let x = c.args.x in
+    let fits = c.requires.3.array in
+    legs-read c.args.rec.now (row_of x) (column_of x) _ _ _ _ _ _ _ _ _ _ _ _ _ _ _ c.byte-mark.ensures c.leaves-away.ensures c.held-back.ensures.0
     c.byte.ensures (north-leads J fits x (omega arith) (omega arith)) c.leg_fits-n.ensures
     c.byte-2.ensures (east-leads J fits x (omega arith) (omega arith)) c.leg_fits-e.ensures
     c.byte-3.ensures (south-leads J fits x (omega arith) (omega arith)) c.leg_fits-s.ensures

@@ -8,7 +8,6 @@ use Rattle.cell.proofs.links.side_room.Goals as goal
 
 pub returns : goal.returns
 returns c =
-    let s = c in
-    let J = job_of s.args.rec.now in
-    let (a, _) = caps-range J.O J.D J.E s.requires.4 in
-    (c.side_most.ensures.0, omega (arith, c.side_most.ensures.0, side-least J s.args.k (row_of s.args.x) (column_of s.args.x) s.requires.1))
+    let J = job_of c.args.rec.now in
+    let (a, _) = caps-range J.O J.D J.E c.requires.4 in
+    (c.side_most.ensures.0, omega (arith, c.side_most.ensures.0, side-least J c.args.k (row_of c.args.x) (column_of c.args.x) c.requires.1))

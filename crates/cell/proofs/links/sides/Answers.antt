@@ -8,12 +8,11 @@ use Rattle.cell.proofs.links.sides.Goals as goal
 
 pub returns : goal.returns
 returns c =
-    let s = c in
-    let J = job_of s.args.rec.now in
-    let x = s.args.x in
-    let fits = s.requires.in_bounds.3.array in
+    let J = job_of c.args.rec.now in
+    let x = c.args.x in
+    let fits = c.requires.in_bounds.3.array in
     cc (
-      sides-are s.args.rec.now (row_of x) (column_of x),
+      sides-are c.args.rec.now (row_of x) (column_of x),
       north-go J fits x (omega arith) (omega arith),
       north-come J fits x (omega arith) (omega arith),
       west-go J fits x (omega arith) (omega arith),

@@ -5,6 +5,5 @@ use Rattle.cell.proofs.places.tile_even.Goals as goal
 
 pub returns : goal.returns
 returns c =
-    let s = c in
-    tile-read s.args.rec.now s.args.x (omega arith) (omega arith) s.requires.3.array _ c.open_at.ensures _ _ _ _ c.north_even.ensures
+    tile-read c.args.rec.now c.args.x (omega arith) (omega arith) c.requires.3.array _ c.open_at.ensures _ _ _ _ c.north_even.ensures
     c.east_even.ensures c.south_even.ensures c.west_even.ensures

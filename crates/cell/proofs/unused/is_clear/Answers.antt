@@ -1,19 +1,20 @@
--- `unused::is_clear` meets its contract. The loop's invariant: the answer is that for the bytes passed. The measure is what is left of the run. Assumes nothing.
-use mathlib.Core.Path.{◌≡◌, ap, ◌∙◌}
-use Prim.Native.Nat.{ℕ}
+-- `unused::is_clear` meets its contract. The loop's invariant: the answer is that for the bytes passed. Assumes nothing.
+use mathlib.Core.Path.{◌≡◌, ◌∙◌}
+use Prim.Native.Nat.{◌+◌, ◌-◌}
+use lib.ListN.{length, take, drop, get_or}
 use native.Mathlib.Omega.{arith}
-use Rattle.cell.specs.Unused.{is_clear, clear_none, clear-more}
+use Rattle.std.proofs.lemmas.List.{get_or-take, get_or-drop}
+use Rattle.cell.specs.Unused.{clear_none, clear-more}
 use Rattle.cell.proofs.unused.is_clear.Goals as goal
 
-pub returns : goal.returns
-returns c =
-    let l = c.loop-i in
-    let s = c.args in
-    let e : l.i ≡ s.n = omega arith in
-    l.invariant.1 ∙ ap (λ (i : ℕ). is_clear s.rec.now s.start i) e
+pub loop-b-init : goal.loop-b-init
+loop-b-init c = clear_none _ _
 
-pub loop-i-init : goal.loop-i-init
-loop-i-init c = (omega arith, clear_none _ _)
-
-pub loop-i-preserved : goal.loop-i-preserved
-loop-i-preserved c = let l = c.loop-i in (omega arith, rw l.invariant.1 (clear-more _ _ l.i))
+pub loop-b-preserved : goal.loop-b-preserved
+loop-b-preserved c =
+    let l = c.loop-b in
+    let rec = c.args.rec.now in
+    let n = c.args.start + c.args.n - c.args.start in
+    let e : get_or (take n (drop c.args.start rec)) l.b-index 0 ≡ get_or rec (c.args.start + l.b-index) 0 =
+    get_or-take n (drop c.args.start rec) l.b-index 0 (omega arith) ∙ get_or-drop c.args.start rec l.b-index 0 in
+    rw (l.invariant, e) (clear-more _ _ l.b-index)

@@ -1,16 +1,17 @@
--- `copy::copy` meets its contract: after i turns the first i bytes are those of the source. Assumes nothing.
-use mathlib.Core.Path.{◌≡◌, ◌∙◌}
+-- `copy::copy` meets its contract: as many bytes are written as are read. Assumes nothing.
+use mathlib.Core.Path.{ap, sym, ◌∙◌}
 use mathlib.Core.List.{◌++◌}
-use native.Mathlib.Omega.{arith}
-use lib.ListN.{length, take, drop}
+use lib.ListN.{take, drop}
 use lib.Seq.{length-take-le}
-use Rattle.model.specs.Record.{record_size}
 use Rattle.channel.proofs.copy.copy.Goals as goal
+
+pub copy_from_slice-requires : goal.copy_from_slice-requires
+copy_from_slice-requires c =
+    length-take-le 32768 c.args.to.now c.requires.1 ∙ sym (length-take-le 32768 c.args.from.now c.requires.0)
 
 pub returns : goal.returns
 returns c =
-    let l = c.loop-i in
     let from = c.args.from.now in
-    let i : l.i ≡ length (take record_size from) = omega (arith, length-take-le record_size from c.requires.0) in
-    let e : l.i ≡ record_size = omega arith in
-    l.invariant.2 ∙ (λ j. take (e j) from ++ drop (i j) c.args.to.now)
+    let to = c.args.to.now in
+    ap (λ xs. xs ++ drop 32768 to) c.copy_from_slice.ensures.after
+    ∙ ap (λ n. take 32768 from ++ drop n to) (sym (length-take-le 32768 from c.requires.0))

@@ -6,5 +6,4 @@ use Rattle.channel.proofs.header.byte.Goals as goal
 
 pub returns : goal.returns
 returns c =
-    let s = c in
-    (c.wide.ensures.0 ∙ cell-on s.args.rec.now s.args.p s.args.r s.args.c (omega arith) (omega arith), c.wide.ensures.1)
+    (c.wide.ensures.0 ∙ cell-on c.args.rec.now c.args.p c.args.r c.args.c (omega arith) (omega arith), c.wide.ensures.1)

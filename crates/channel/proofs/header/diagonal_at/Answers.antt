@@ -6,9 +6,8 @@ use Rattle.channel.proofs.header.diagonal_at.Goals as goal
 
 pub returns-then-own-eq0 : goal.returns-then-own-eq0
 returns-then-own-eq0 c =
-    let s = c in
     let z = sym c.wide-own.ensures.0 ∙ c.if-own-eq0.true in (
-      c.diagonal.ensures.0 ∙ tile-none s.args.rec.now s.args.x (omega arith) (omega arith) z,
+      c.diagonal.ensures.0 ∙ tile-none c.args.rec.now c.args.x (omega arith) (omega arith) z,
       c.diagonal.ensures.1,
     )
 

@@ -8,12 +8,10 @@ use Rattle.channel.proofs.header.is_tile.Goals as goal
 pub returns-then-r-ge255 : goal.returns-then-r-ge255
 unfolding job_of
 returns-then-r-ge255 c =
-    let s = c in
-    no_row s.args.r (get_or s.args.rec.now 0 0) _ (omega (arith, c.shared_slice_known-1.given 0))
+    no_row c.args.r (get_or c.args.rec.now 0 0) _ (omega (arith, c.shared_slice_known-1.given 0))
 
 pub returns-then-c-ge255 : goal.returns-then-c-ge255
 unfolding job_of
 returns-then-c-ge255 c =
-    let s = c in
-    no-column s.args.r (get_or s.args.rec.now 0 0) s.args.c (get_or s.args.rec.now 1 0)
+    no-column c.args.r (get_or c.args.rec.now 0 0) c.args.c (get_or c.args.rec.now 1 0)
     (omega (arith, c.shared_slice_known-1.given 1))

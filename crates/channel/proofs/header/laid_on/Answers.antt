@@ -9,10 +9,9 @@ use Rattle.channel.proofs.header.laid_on.Goals as goal
 
 pub returns : goal.returns
 returns c =
-    let s = c in
-    let (lr, lc) = side-inside s.args.r s.args.c s.args.side (omega arith) (omega arith) in (
+    let (lr, lc) = side-inside c.args.r c.args.c c.args.side (omega arith) (omega arith) in (
       c.wide.ensures.0
-          ∙ (ap (λ (i : ℕ). get_or s.args.rec.now i 0) c.side_at.ensures.0
-          ∙ count-byte s.args.rec.now (side_of s.args.r s.args.c s.args.side) lr lc),
+          ∙ (ap (λ (i : ℕ). get_or c.args.rec.now i 0) c.side_at.ensures.0
+          ∙ count-byte c.args.rec.now (side_of c.args.r c.args.c c.args.side) lr lc),
       c.wide.ensures.1,
     )

@@ -14,5 +14,4 @@ returns-then-x-ge1641 c = no-byte-over c.args.x _ (omega arith)
 pub returns : goal.returns
 unfolding job_of
 returns c =
-    let s = c in
-    c.wide.ensures.0 ∙ byte_at s.args.rec.now 0 s.args.x (omega arith) (omega arith)
+    c.wide.ensures.0 ∙ byte_at c.args.rec.now 0 c.args.x (omega arith) (omega arith)

@@ -10,5 +10,4 @@ returns-then-x-lt41 c = none-at c.args.x (is_missing (job_of c.args.rec.now)) (o
 
 pub returns : goal.returns
 returns c =
-    let s = c in
-    test_at s.args.x (is_missing (job_of s.args.rec.now)) _ (omega arith) (omega arith) c.is_missing.ensures
+    test_at c.args.x (is_missing (job_of c.args.rec.now)) _ (omega arith) (omega arith) c.is_missing.ensures

@@ -8,5 +8,4 @@ use Rattle.channel.proofs.header.open_in.Goals as goal
 pub returns : goal.returns
 unfolding is_open job_of
 returns c =
-    let s = c in
-    cc (c.tile_in.ensures, cell-on s.args.rec.now 1 s.args.r s.args.c (omega arith) (omega arith))
+    cc (c.tile_in.ensures, cell-on c.args.rec.now 1 c.args.r c.args.c (omega arith) (omega arith))

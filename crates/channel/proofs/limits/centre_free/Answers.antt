@@ -7,5 +7,4 @@ use Rattle.channel.proofs.limits.centre_free.Goals as goal
 
 pub returns : goal.returns
 returns c =
-    let s = c in
-    c.open_at.ensures ∙ sym (free-centre (job_of s.args.job.now) s.args.d (three-four _ s.requires.2))
+    c.open_at.ensures ∙ sym (free-centre (job_of c.args.job.now) c.args.d (three-four _ c.requires.2))

@@ -7,11 +7,9 @@ use Rattle.channel.proofs.limits.corner_limit.Goals as goal
 
 pub returns-then-open_at : goal.returns-then-open_at
 returns-then-open_at c =
-    let s = c in
-    rw (cap-corner (job_of s.args.job.now) s.args.d s.requires.2, sym c.open_at.ensures ∙ c.if-open_at.true)
+    rw (cap-corner (job_of c.args.job.now) c.args.d c.requires.2, sym c.open_at.ensures ∙ c.if-open_at.true)
     (ap (λ (n : ℕ). n / 2) c.orthogonal.ensures.0)
 
 pub returns : goal.returns
 returns c =
-    let s = c in
-    rw (cap-corner (job_of s.args.job.now) s.args.d s.requires.2, sym c.open_at.ensures ∙ c.if-open_at.false)
+    rw (cap-corner (job_of c.args.job.now) c.args.d c.requires.2, sym c.open_at.ensures ∙ c.if-open_at.false)

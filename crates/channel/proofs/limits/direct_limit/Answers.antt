@@ -13,12 +13,10 @@ returns-then-x-lt41 c = let s = c in cap-off (job_of s.args.job.now) s.args.d c.
 
 pub returns-then-may_leave : goal.returns-then-may_leave
 returns-then-may_leave c =
-    let s = c in
-    cap-out (job_of s.args.job.now) s.args.d c.if-d-ne12.false c.if-x-lt41.false (omega arith) _
+    cap-out (job_of c.args.job.now) c.args.d c.if-d-ne12.false c.if-x-lt41.false (omega arith) _
     (sym c.if-may_leave.true ∙ c.may_leave.ensures)
 
 pub returns : goal.returns
 returns c =
-    let s = c in
-    cap-out (job_of s.args.job.now) s.args.d c.if-d-ne12.false c.if-x-lt41.false (omega arith) _
+    cap-out (job_of c.args.job.now) c.args.d c.if-d-ne12.false c.if-x-lt41.false (omega arith) _
     (sym c.if-may_leave.false ∙ c.may_leave.ensures)

@@ -11,5 +11,4 @@ overflow_add-d c = omega (arith, owner-bound (c.args.d % 64) (omega arith), c.ow
 
 pub returns : goal.returns
 returns c =
-    let s = c in
-    owner-mark (job_of s.args.job.now) s.args.d _ c.owner_of.ensures _ c.mark_at.ensures
+    owner-mark (job_of c.args.job.now) c.args.d _ c.owner_of.ensures _ c.mark_at.ensures

@@ -8,36 +8,29 @@ use Rattle.channel.proofs.limits.leg_open.Goals as goal
 
 pub returns-then-k-eq11 : goal.returns-then-k-eq11
 returns-then-k-eq11 c =
-    let s = c in
-    c.open_in.ensures ∙ east-leg (job_of s.args.job.now) s.args.k s.args.r s.args.c (omega arith)
+    c.open_in.ensures ∙ east-leg (job_of c.args.job.now) c.args.k c.args.r c.args.c (omega arith)
 
 pub returns-then-c-eq0 : goal.returns-then-c-eq0
 returns-then-c-eq0 c =
-    let s = c in
-    south-rim-leg (job_of s.args.job.now) s.args.k s.args.r s.args.c (omega arith) (omega arith)
+    south-rim-leg (job_of c.args.job.now) c.args.k c.args.r c.args.c (omega arith) (omega arith)
 
 pub returns-then-k-eq12 : goal.returns-then-k-eq12
 returns-then-k-eq12 c =
-    let s = c in
-    c.open_in-then-k-eq12.ensures ∙ south-leg (job_of s.args.job.now) s.args.k s.args.r s.args.c (s.args.c - 1) (omega arith) (omega arith)
+    c.open_in-then-k-eq12.ensures ∙ south-leg (job_of c.args.job.now) c.args.k c.args.r c.args.c (c.args.c - 1) (omega arith) (omega arith)
 
 pub returns-then-r-eq0 : goal.returns-then-r-eq0
 returns-then-r-eq0 c =
-    let s = c in
-    north-rim-leg (job_of s.args.job.now) s.args.k s.args.r s.args.c (omega arith) (omega arith) (omega arith) (omega arith) (omega arith)
+    north-rim-leg (job_of c.args.job.now) c.args.k c.args.r c.args.c (omega arith) (omega arith) (omega arith) (omega arith) (omega arith)
 
 pub returns-then-k-eq10 : goal.returns-then-k-eq10
 returns-then-k-eq10 c =
-    let s = c in
-    c.open_in-then-k-eq10.ensures ∙ north-leg (job_of s.args.job.now) s.args.k s.args.r (s.args.r - 1) s.args.c (omega arith) (omega arith)
+    c.open_in-then-k-eq10.ensures ∙ north-leg (job_of c.args.job.now) c.args.k c.args.r (c.args.r - 1) c.args.c (omega arith) (omega arith)
 
 pub returns-then-c-eq0-2 : goal.returns-then-c-eq0-2
 returns-then-c-eq0-2 c =
-    let s = c in
-    west-rim-leg (job_of s.args.job.now) s.args.k s.args.r (s.args.r - 1) s.args.c (omega arith) (omega arith) (omega arith)
+    west-rim-leg (job_of c.args.job.now) c.args.k c.args.r (c.args.r - 1) c.args.c (omega arith) (omega arith) (omega arith)
 
 pub returns : goal.returns
 returns c =
-    let s = c in
     c.open_in-2.ensures
-    ∙ west-leg (job_of s.args.job.now) s.args.k s.args.r (s.args.r - 1) s.args.c (s.args.c - 1) (omega arith) (omega arith) (omega arith)
+    ∙ west-leg (job_of c.args.job.now) c.args.k c.args.r (c.args.r - 1) c.args.c (c.args.c - 1) (omega arith) (omega arith) (omega arith)

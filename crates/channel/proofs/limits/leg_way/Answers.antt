@@ -11,16 +11,13 @@ overflow_add-o c = omega (arith, owner-bound (c.args.d % 64) (omega arith), c.ow
 
 pub returns-then-o-lt41 : goal.returns-then-o-lt41
 returns-then-o-lt41 c =
-    let s = c in
-    reach-low (job_of s.args.job.now) s.args.d _ c.owner_of.ensures c.if-o-lt41.true
+    reach-low (job_of c.args.job.now) c.args.d _ c.owner_of.ensures c.if-o-lt41.true
 
 pub returns-then-o-ge1641 : goal.returns-then-o-ge1641
 returns-then-o-ge1641 c =
-    let s = c in
-    reach-high (job_of s.args.job.now) s.args.d _ c.owner_of.ensures c.if-o-ge1641.true
+    reach-high (job_of c.args.job.now) c.args.d _ c.owner_of.ensures c.if-o-ge1641.true
 
 pub returns : goal.returns
 returns c =
-    let s = c in
-    reach-in (job_of s.args.job.now) s.args.d _ c.owner_of.ensures _ c.kind_of.ensures
+    reach-in (job_of c.args.job.now) c.args.d _ c.owner_of.ensures _ c.kind_of.ensures
     (omega arith) (omega arith) _ c.leg_open.ensures

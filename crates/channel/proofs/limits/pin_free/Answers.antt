@@ -19,8 +19,7 @@ returns-then-leg_mark-ne2 c =
 
 pub leg_way-requires : goal.leg_way-requires
 leg_way-requires c =
-    let s = c in
-    omega (arith, leg-kind (s.args.d % 64) (omega arith) s.requires.2)
+    omega (arith, leg-kind (c.args.d % 64) (omega arith) c.requires.2)
 
 pub returns : goal.returns
 returns c =

@@ -11,13 +11,11 @@ overflow_add-o c = omega (arith, owner-bound (c.args.d % 64) (omega arith), c.ow
 
 pub returns-then-o-lt41 : goal.returns-then-o-lt41
 returns-then-o-lt41 c =
-    let s = c in
-    (kept_low s.args.rec.now s.args.d _ c.owner_of.ensures c.if-o-lt41.true, omega arith)
+    (kept_low c.args.rec.now c.args.d _ c.owner_of.ensures c.if-o-lt41.true, omega arith)
 
 pub returns-then-o-ge1641 : goal.returns-then-o-ge1641
 returns-then-o-ge1641 c =
-    let s = c in
-    (kept_high s.args.rec.now s.args.d _ c.owner_of.ensures c.if-o-ge1641.true, omega arith)
+    (kept_high c.args.rec.now c.args.d _ c.owner_of.ensures c.if-o-ge1641.true, omega arith)
 
 pub overflow_mul-kind_of : goal.overflow_mul-kind_of
 overflow_mul-kind_of c = omega (arith, kind-bound (c.args.d % 64) (omega arith), c.kind_of.ensures)
@@ -38,9 +36,8 @@ bounds-rec-kind_of c = omega (
 
 pub returns : goal.returns
 returns c =
-    let s = c in
     let o = c in (
       c.wide.ensures.0
-          ∙ kept_in s.args.rec.now s.args.d _ o.owner_of.ensures _ c.kind_of.ensures (omega arith) (omega arith),
+          ∙ kept_in c.args.rec.now c.args.d _ o.owner_of.ensures _ c.kind_of.ensures (omega arith) (omega arith),
       omega arith,
     )

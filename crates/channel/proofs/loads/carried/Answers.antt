@@ -21,10 +21,9 @@ returns-then-carries_load c =
 
 pub returns-then-is_pass_dart : goal.returns-then-is_pass_dart
 returns-then-is_pass_dart c =
-    let s = c in
     let k = c in (
       c.passing.ensures.0
-          ∙ view-pass s.args.rec.now s.args.d
+          ∙ view-pass c.args.rec.now c.args.d
           (ap carries (sym k.code_of.ensures) ∙ sym c.carries_load.ensures ∙ c.if-carries_load.false)
           (sym c.is_pass_dart.ensures ∙ c.if-is_pass_dart.true),
       omega arith,
@@ -32,9 +31,8 @@ returns-then-is_pass_dart c =
 
 pub returns : goal.returns
 returns c =
-    let s = c in
     let k = c in (
-      view-none s.args.rec.now s.args.d
+      view-none c.args.rec.now c.args.d
           (ap carries (sym k.code_of.ensures) ∙ sym c.carries_load.ensures ∙ c.if-carries_load.false)
           (sym c.is_pass_dart.ensures ∙ c.if-is_pass_dart.false),
       omega arith,

@@ -4,6 +4,5 @@ use Rattle.channel.proofs.loads.loaded_at.Goals as goal
 
 pub returns : goal.returns
 returns c d h e =
-    let s = c in
-    let (_, _, p, l, m) = s.requires in
-    laden s.args.rec.now d _ e _ h p l m _ c.wide-b.ensures.0
+    let (_, _, p, l, m) = c.requires in
+    laden c.args.rec.now d _ e _ h p l m _ c.wide-b.ensures.0

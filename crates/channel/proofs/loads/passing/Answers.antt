@@ -8,8 +8,7 @@ use Rattle.channel.proofs.loads.passing.Goals as goal
 
 pub through_centre-requires : goal.through_centre-requires
 through_centre-requires c =
-    let s = c in
-    omega (arith, pass-bounds s.args.d s.requires.2)
+    omega (arith, pass-bounds c.args.d c.requires.2)
 
 pub returns-then-code_of-eq5 : goal.returns-then-code_of-eq5
 returns-then-code_of-eq5 c =
@@ -21,8 +20,7 @@ returns-then-code_of-eq5 c =
 
 pub through_missing-requires : goal.through_missing-requires
 through_missing-requires c =
-    let s = c in
-    omega (arith, pass-bounds s.args.d s.requires.2)
+    omega (arith, pass-bounds c.args.d c.requires.2)
 
 pub returns : goal.returns
 returns c =

@@ -23,11 +23,10 @@ loaded_at-requires-5 c = let (l, h, m, p) = c.requires in let (b, n) = fifth-lin
 
 pub returns : goal.returns
 returns c =
-    let s = c in
-    let p = s.requires.3 in
-    let e0 = c.bit-a.ensures.0 ∙ slot-test s.args.rec.now s.args.u 0 (s.args.w % 65536) _ (omega arith) (omega (arith, p.four 0 (omega arith))) c.loaded_at.ensures in
-    let e1 = c.bit-b.ensures.0 ∙ slot-test s.args.rec.now s.args.u 1 _ _ (omega arith) (p.four 1 (omega arith)) c.loaded_at-2.ensures in
-    let e2 = c.bit-c.ensures.0 ∙ slot-test s.args.rec.now s.args.u 2 _ _ (omega arith) (p.four 2 (omega arith)) c.loaded_at-3.ensures in
-    let e3 = c.bit-d.ensures.0 ∙ slot-test s.args.rec.now s.args.u 3 _ _ (omega arith) (p.four 3 (omega arith)) c.loaded_at-4.ensures in
-    let e4 = c.bit-e.ensures.0 ∙ slot-test s.args.rec.now s.args.u 4 _ _ (omega arith) p.fifth c.loaded_at-5.ensures in
-    omega (arith, from-five s.args.rec.now s.args.u)
+    let p = c.requires.3 in
+    let e0 = c.bit-a.ensures.0 ∙ slot-test c.args.rec.now c.args.u 0 (c.args.w % 65536) _ (omega arith) (omega (arith, p.four 0 (omega arith))) c.loaded_at.ensures in
+    let e1 = c.bit-b.ensures.0 ∙ slot-test c.args.rec.now c.args.u 1 _ _ (omega arith) (p.four 1 (omega arith)) c.loaded_at-2.ensures in
+    let e2 = c.bit-c.ensures.0 ∙ slot-test c.args.rec.now c.args.u 2 _ _ (omega arith) (p.four 2 (omega arith)) c.loaded_at-3.ensures in
+    let e3 = c.bit-d.ensures.0 ∙ slot-test c.args.rec.now c.args.u 3 _ _ (omega arith) (p.four 3 (omega arith)) c.loaded_at-4.ensures in
+    let e4 = c.bit-e.ensures.0 ∙ slot-test c.args.rec.now c.args.u 4 _ _ (omega arith) p.fifth c.loaded_at-5.ensures in
+    omega (arith, from-five c.args.rec.now c.args.u)

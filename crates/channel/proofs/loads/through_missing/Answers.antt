@@ -5,5 +5,4 @@ use Rattle.channel.proofs.loads.through_missing.Goals as goal
 
 pub returns : goal.returns
 returns c =
-    let s = c in
-    (rw c.back_sum.ensures.0 (missing-arrivals s.args.rec.now s.args.x (omega arith) (omega arith)), omega arith)
+    (rw c.back_sum.ensures.0 (missing-arrivals c.args.rec.now c.args.x (omega arith) (omega arith)), omega arith)

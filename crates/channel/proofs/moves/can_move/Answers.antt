@@ -15,20 +15,17 @@ below_last n l h = omega arith
 
 pub returns-in-0 : goal.returns-in-0
 returns-in-0 c =
-    let s = c in
-    none_moves (job_of s.args.job.now) s.args.loads.now s.args.d (is-dart s.requires.2) (sym c.code_of.ensures ∙ c.in-0.is)
+    none_moves (job_of c.args.job.now) c.args.loads.now c.args.d (is-dart c.requires.2) (sym c.code_of.ensures ∙ c.in-0.is)
 
 pub returns-in-11 : goal.returns-in-11
 returns-in-11 c =
-    let s = c in
-    centre-back-moves (job_of s.args.job.now) s.args.loads.now s.args.d (is-dart s.requires.2)
+    centre-back-moves (job_of c.args.job.now) c.args.loads.now c.args.d (is-dart c.requires.2)
     (sym c.code_of.ensures ∙ c.in-11.is) _
     c.centre_back.ensures
 
 pub returns-in-14 : goal.returns-in-14
 returns-in-14 c =
-    let s = c in
-    missing-back-moves (job_of s.args.job.now) s.args.loads.now s.args.d (is-dart s.requires.2)
+    missing-back-moves (job_of c.args.job.now) c.args.loads.now c.args.d (is-dart c.requires.2)
     (sym c.code_of.ensures ∙ c.in-14.is) _
     c.missing_back.ensures
 

@@ -9,15 +9,12 @@ use Rattle.channel.proofs.moves.centre_back.Goals as goal
 
 pub through_centre-requires : goal.through_centre-requires
 through_centre-requires c =
-    let s = c in
-    omega (arith, grid-bounds (s.args.d / 64) (so (sym c.in_grid.ensures ∙ c.if-in_grid.true)))
+    omega (arith, grid-bounds (c.args.d / 64) (so (sym c.in_grid.ensures ∙ c.if-in_grid.true)))
 
 pub returns-then-in_grid : goal.returns-then-in_grid
 returns-then-in_grid c =
-    let s = c in
-    centre-some s.args.loads.now (s.args.d / 64) (sym c.in_grid.ensures ∙ c.if-in_grid.true) _ c.through_centre.ensures.0
+    centre-some c.args.loads.now (c.args.d / 64) (sym c.in_grid.ensures ∙ c.if-in_grid.true) _ c.through_centre.ensures.0
 
 pub returns : goal.returns
 returns c =
-    let s = c in
-    centre-off s.args.loads.now (s.args.d / 64) (sym c.in_grid.ensures ∙ c.if-in_grid.false)
+    centre-off c.args.loads.now (c.args.d / 64) (sym c.in_grid.ensures ∙ c.if-in_grid.false)

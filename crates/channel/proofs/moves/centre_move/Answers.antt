@@ -15,12 +15,10 @@ centre_most-requires c = omega (arith, grid-of _ _ _ c.open_at.ensures c.if-open
 
 pub returns-then-open_at : goal.returns-then-open_at
 returns-then-open_at c =
-    let s = c in
-    centre-open (job_of s.args.job.now) s.args.loads.now s.args.d (is-dart s.requires.2) s.requires.3
+    centre-open (job_of c.args.job.now) c.args.loads.now c.args.d (is-dart c.requires.2) c.requires.3
     (sym c.open_at.ensures ∙ c.if-open_at.true) _ _
     c.through_centre.ensures.0 c.centre_most.ensures.0
 
 pub returns : goal.returns
 returns c =
-    let s = c in
-    centre-shut (job_of s.args.job.now) s.args.loads.now s.args.d (is-dart s.requires.2) s.requires.3 (sym c.open_at.ensures ∙ c.if-open_at.false)
+    centre-shut (job_of c.args.job.now) c.args.loads.now c.args.d (is-dart c.requires.2) c.requires.3 (sym c.open_at.ensures ∙ c.if-open_at.false)

@@ -7,13 +7,11 @@ use Rattle.channel.proofs.moves.corner_move.Goals as goal
 
 pub returns-then-load_against-gt0 : goal.returns-then-load_against-gt0
 returns-then-load_against-gt0 c =
-    let s = c in
-    plain_back (job_of s.args.job.now) s.args.loads.now s.args.d (is-dart s.requires.2) (inr (inl s.requires.3)) _ c.load_against.ensures.0
+    plain_back (job_of c.args.job.now) c.args.loads.now c.args.d (is-dart c.requires.2) (inr (inl c.requires.3)) _ c.load_against.ensures.0
     c.if-load_against-gt0.true
 
 pub returns : goal.returns
 returns c =
-    let s = c in
-    plain-room (job_of s.args.job.now) s.args.loads.now s.args.d (is-dart s.requires.2) (inr (inl s.requires.3)) _ _ _
+    plain-room (job_of c.args.job.now) c.args.loads.now c.args.d (is-dart c.requires.2) (inr (inl c.requires.3)) _ _ _
     c.load_against.ensures.0
     c.if-load_against-gt0.false c.load_along.ensures.0 c.corner_limit.ensures

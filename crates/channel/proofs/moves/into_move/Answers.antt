@@ -6,12 +6,10 @@ use Rattle.channel.proofs.moves.into_move.Goals as goal
 
 pub returns-then-pin_free : goal.returns-then-pin_free
 returns-then-pin_free c =
-    let s = c in
-    into-open (job_of s.args.job.now) s.args.loads.now s.args.d (is-dart s.requires.2) s.requires.3 _ _ c.pin_free.ensures
+    into-open (job_of c.args.job.now) c.args.loads.now c.args.d (is-dart c.requires.2) c.requires.3 _ _ c.pin_free.ensures
     c.if-pin_free.true
     c.load_against.ensures.0
 
 pub returns : goal.returns
 returns c =
-    let s = c in
-    into-shut (job_of s.args.job.now) s.args.loads.now s.args.d (is-dart s.requires.2) s.requires.3 _ c.pin_free.ensures c.if-pin_free.false
+    into-shut (job_of c.args.job.now) c.args.loads.now c.args.d (is-dart c.requires.2) c.requires.3 _ c.pin_free.ensures c.if-pin_free.false

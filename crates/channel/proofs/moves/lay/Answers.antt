@@ -14,59 +14,44 @@ is_stored-requires c = omega (arith, code-bound (c.args.d % 64) (omega arith), c
 
 pub returns-then-not-is_stored : goal.returns-then-not-is_stored
 returns-then-not-is_stored c =
-    let s = c in
-    laid_none s.args.loads.now s.args.d _ (c.is_stored.ensures ∙ ap is_stored c.code_of.ensures)
+    laid_none c.args.loads.now c.args.d _ (c.is_stored.ensures ∙ ap is_stored c.code_of.ensures)
     c.if-not-is_stored.true
 
 pub overflow_add-o : goal.overflow_add-o
 overflow_add-o c =
-    let s = c in
-    omega (arith, owner-bound (s.args.d % 64) (omega arith), c.owner_of.ensures)
+    omega (arith, owner-bound (c.args.d % 64) (omega arith), c.owner_of.ensures)
 
 pub returns-then-not-in_grid : goal.returns-then-not-in_grid
 returns-then-not-in_grid c =
-    let s = c in
-    laid-off s.args.loads.now s.args.d _ _ c.owner_of.ensures c.in_grid.ensures c.if-not-in_grid.true
+    laid-off c.args.loads.now c.args.d _ _ c.owner_of.ensures c.in_grid.ensures c.if-not-in_grid.true
 
 pub overflow_mul-a : goal.overflow_mul-a
 overflow_mul-a c =
-    let s = c in
-    omega (arith, kind-bound (s.args.d % 64) (omega arith), c.kind_of.ensures)
+    omega (arith, kind-bound (c.args.d % 64) (omega arith), c.kind_of.ensures)
 
 pub overflow_add-a : goal.overflow_add-a
 overflow_add-a c =
-    let s = c in
-    omega (arith, kind-bound (s.args.d % 64) (omega arith), c.kind_of.ensures)
+    omega (arith, kind-bound (c.args.d % 64) (omega arith), c.kind_of.ensures)
 
 pub overflow_add-a-2 : goal.overflow_add-a-2
 overflow_add-a-2 c =
-    let s = c in
-    let o = c in
-    omega (arith, kind-bound (s.args.d % 64) (omega arith), c.kind_of.ensures, owner-bound (s.args.d % 64) (omega arith), o.owner_of.ensures)
+    omega (arith, kind-bound (c.args.d % 64) (omega arith), c.kind_of.ensures, owner-bound (c.args.d % 64) (omega arith), c.owner_of.ensures)
 
 pub bounds-loads-a : goal.bounds-loads-a
 bounds-loads-a c =
-    let s = c in
-    let o = c in
-    let g = grid-bounds (s.args.d / 64 + o.owner_of.result)
+    let g = grid-bounds (c.args.d / 64 + c.owner_of.result)
     (so (sym c.in_grid.ensures ∙ c.if-not-in_grid.false)) in
-    omega (arith, kind-bound (s.args.d % 64) (omega arith), c.kind_of.ensures, g, s.requires)
+    omega (arith, kind-bound (c.args.d % 64) (omega arith), c.kind_of.ensures, g, c.requires)
 
 pub bounds-loads-a-2 : goal.bounds-loads-a-2
 bounds-loads-a-2 c =
-    let s = c in
-    let o = c in
-    let g = grid-bounds (s.args.d / 64 + o.owner_of.result)
+    let g = grid-bounds (c.args.d / 64 + c.owner_of.result)
     (so (sym c.in_grid.ensures ∙ c.if-not-in_grid.false)) in
-    omega (arith, kind-bound (s.args.d % 64) (omega arith), c.kind_of.ensures, g, s.requires)
+    omega (arith, kind-bound (c.args.d % 64) (omega arith), c.kind_of.ensures, g, c.requires)
 
 pub returns : goal.returns
 returns c =
-    let s = c in
-    let o = c in
-    let b = c in
-    let k = c in
-    laid_on_lem s.args.loads.now s.args.d _ _ _ _ _ _ o.owner_of.ensures c.kind_of.ensures
+    laid_on_lem c.args.loads.now c.args.d _ _ _ _ _ _ c.owner_of.ensures c.kind_of.ensures
     c.sign_of.ensures
-    (b.is_stored.ensures ∙ ap is_stored k.code_of.ensures) c.if-not-is_stored.false
+    (c.is_stored.ensures ∙ ap is_stored c.code_of.ensures) c.if-not-is_stored.false
     c.in_grid.ensures c.if-not-in_grid.false c.bumped.ensures

@@ -9,15 +9,12 @@ use Rattle.channel.proofs.moves.missing_back.Goals as goal
 
 pub through_missing-requires : goal.through_missing-requires
 through_missing-requires c =
-    let s = c in
-    omega (arith, grid-bounds (s.args.d / 64) (so (sym c.in_grid.ensures ∙ c.if-in_grid.true)))
+    omega (arith, grid-bounds (c.args.d / 64) (so (sym c.in_grid.ensures ∙ c.if-in_grid.true)))
 
 pub returns-then-in_grid : goal.returns-then-in_grid
 returns-then-in_grid c =
-    let s = c in
-    missing-some s.args.loads.now (s.args.d / 64) (sym c.in_grid.ensures ∙ c.if-in_grid.true) _ c.through_missing.ensures.0
+    missing-some c.args.loads.now (c.args.d / 64) (sym c.in_grid.ensures ∙ c.if-in_grid.true) _ c.through_missing.ensures.0
 
 pub returns : goal.returns
 returns c =
-    let s = c in
-    missing-off s.args.loads.now (s.args.d / 64) (sym c.in_grid.ensures ∙ c.if-in_grid.false)
+    missing-off c.args.loads.now (c.args.d / 64) (sym c.in_grid.ensures ∙ c.if-in_grid.false)

@@ -12,12 +12,10 @@ through_missing-requires c =
 
 pub returns-then-missing_at : goal.returns-then-missing_at
 returns-then-missing_at c =
-    let s = c in
-    missing-open (job_of s.args.job.now) s.args.loads.now s.args.d (is-dart s.requires.2) s.requires.3
+    missing-open (job_of c.args.job.now) c.args.loads.now c.args.d (is-dart c.requires.2) c.requires.3
     (sym c.missing_at.ensures ∙ c.if-missing_at.true) _ _
     c.through_missing.ensures.0 c.missing_most.ensures.0
 
 pub returns : goal.returns
 returns c =
-    let s = c in
-    missing-shut (job_of s.args.job.now) s.args.loads.now s.args.d (is-dart s.requires.2) s.requires.3 (sym c.missing_at.ensures ∙ c.if-missing_at.false)
+    missing-shut (job_of c.args.job.now) c.args.loads.now c.args.d (is-dart c.requires.2) c.requires.3 (sym c.missing_at.ensures ∙ c.if-missing_at.false)

@@ -9,29 +9,24 @@ use Rattle.channel.proofs.moves.pin_move.Goals as goal
 
 pub leg_way-requires : goal.leg_way-requires
 leg_way-requires c =
-    let s = c in
-    omega (arith, seven-kind (s.args.d % 64) (omega arith) s.requires.3)
+    omega (arith, seven-kind (c.args.d % 64) (omega arith) c.requires.3)
 
 pub returns-then-m-eq1 : goal.returns-then-m-eq1
 returns-then-m-eq1 c =
-    let s = c in
-    chosen-moves (job_of s.args.job.now) s.args.loads.now s.args.d (is-dart s.requires.2) s.requires.3 _ _ _ c.leg_mark-m.ensures
+    chosen-moves (job_of c.args.job.now) c.args.loads.now c.args.d (is-dart c.requires.2) c.requires.3 _ _ _ c.leg_mark-m.ensures
     c.if-m-eq1.true c.load_along.ensures.0 c.leg_way.ensures
 
 pub leg_way-requires-then-m-eq2 : goal.leg_way-requires-then-m-eq2
 leg_way-requires-then-m-eq2 c =
-    let s = c in
-    omega (arith, seven-kind (s.args.d % 64) (omega arith) s.requires.3)
+    omega (arith, seven-kind (c.args.d % 64) (omega arith) c.requires.3)
 
 pub returns-then-m-eq2 : goal.returns-then-m-eq2
 returns-then-m-eq2 c =
-    let s = c in
-    missing-moves (job_of s.args.job.now) s.args.loads.now s.args.d (is-dart s.requires.2) s.requires.3 _ _ _
+    missing-moves (job_of c.args.job.now) c.args.loads.now c.args.d (is-dart c.requires.2) c.requires.3 _ _ _
     c.leg_mark-m.ensures
     c.if-m-eq2.true c.load_against.ensures.0 c.leg_way-then-m-eq2.ensures
 
 pub returns : goal.returns
 returns c =
-    let s = c in
-    idle-moves (job_of s.args.job.now) s.args.loads.now s.args.d (is-dart s.requires.2) s.requires.3 _ c.leg_mark-m.ensures
+    idle-moves (job_of c.args.job.now) c.args.loads.now c.args.d (is-dart c.requires.2) c.requires.3 _ c.leg_mark-m.ensures
     c.if-m-eq1.false c.if-m-eq2.false

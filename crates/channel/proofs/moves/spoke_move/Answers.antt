@@ -11,6 +11,5 @@ use Rattle.channel.proofs.moves.spoke_move.Goals as goal
 
 pub returns : goal.returns
 returns c =
-    let s = c in
     ap₂ (λ (b : Bool) (n : ℕ). b && eqb n 0) c.centre_free.ensures c.load_against.ensures.0
-    ∙ sym (spoke-moves (job_of s.args.job.now) s.args.loads.now s.args.d (is-dart s.requires.2) (three-four _ s.requires.3))
+    ∙ sym (spoke-moves (job_of c.args.job.now) c.args.loads.now c.args.d (is-dart c.requires.2) (three-four _ c.requires.3))

@@ -7,16 +7,13 @@ use Rattle.channel.proofs.moves.wire_starts.Goals as goal
 
 pub out_of_pin-requires : goal.out_of_pin-requires
 out_of_pin-requires c =
-    let s = c in
-    omega (arith, start-bounds (job_of s.args.job.now) s.args.u (sym c.is_start.ensures ∙ c.if-is_start.true))
+    omega (arith, start-bounds (job_of c.args.job.now) c.args.u (sym c.is_start.ensures ∙ c.if-is_start.true))
 
 pub returns-then-is_start : goal.returns-then-is_start
 returns-then-is_start c =
-    let s = c in
-    c.out_of_pin.ensures.0 ∙ starts-some (job_of s.args.job.now) s.args.u s.args.loads.now
+    c.out_of_pin.ensures.0 ∙ starts-some (job_of c.args.job.now) c.args.u c.args.loads.now
     (sym c.is_start.ensures ∙ c.if-is_start.true)
 
 pub returns : goal.returns
 returns c =
-    let s = c in
-    starts_none (job_of s.args.job.now) s.args.u s.args.loads.now (sym c.is_start.ensures ∙ c.if-is_start.false)
+    starts_none (job_of c.args.job.now) c.args.u c.args.loads.now (sym c.is_start.ensures ∙ c.if-is_start.false)

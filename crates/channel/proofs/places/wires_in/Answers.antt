@@ -12,12 +12,10 @@ carries_load-requires c = omega (arith, code-bound (c.args.d % 64) (omega arith)
 
 pub returns-then-carries_load : goal.returns-then-carries_load
 returns-then-carries_load c =
-    let s = c in
-    against-wires s.args.rec.now s.args.d _
+    against-wires c.args.rec.now c.args.d _
     (ap carries (sym c.code_of.ensures) ∙ sym c.carries_load.ensures ∙ c.if-carries_load.true)
     c.load_against.ensures.0
 
 pub returns : goal.returns
 returns c =
-    let s = c in
-    no-wires s.args.d 0 _ (ap carries (sym c.code_of.ensures) ∙ sym c.carries_load.ensures ∙ c.if-carries_load.false)
+    no-wires c.args.d 0 _ (ap carries (sym c.code_of.ensures) ∙ sym c.carries_load.ensures ∙ c.if-carries_load.false)

@@ -9,16 +9,14 @@ use Rattle.channel.proofs.table.seat_of.Goals as goal
 
 pub returns-then-forth : goal.returns-then-forth
 returns-then-forth c =
-    let s = c in
-    let k = s.args.k in
-    let q : 8 * (k / 8 % 2) + k % 8 ≡ k = omega (arith, s.requires) in
+    let k = c.args.k in
+    let q : 8 * (k / 8 % 2) + k % 8 ≡ k = omega (arith, c.requires) in
     let e = c.seat_word.ensures (k % 8) (omega arith) ∙ ap₂ seat_of q (lt-ltb (k / 8) 2 (omega arith) ∙ sym c.if-forth.true) in
-    (e, omega (arith, e, seat-small k s.requires s.args.forth))
+    (e, omega (arith, e, seat-small k c.requires c.args.forth))
 
 pub returns : goal.returns
 returns c =
-    let s = c in
-    let k = s.args.k in
-    let q : 8 * ((2 + k / 8) % 2) + k % 8 ≡ k = omega (arith, s.requires) in
+    let k = c.args.k in
+    let q : 8 * ((2 + k / 8) % 2) + k % 8 ≡ k = omega (arith, c.requires) in
     let e = c.seat_word-2.ensures (k % 8) (omega arith) ∙ ap₂ seat_of q (le-ltb (2 + k / 8) 2 (omega arith) ∙ sym c.if-forth.false) in
-    (e, omega (arith, e, seat-small k s.requires s.args.forth))
+    (e, omega (arith, e, seat-small k c.requires c.args.forth))

@@ -4,5 +4,4 @@ use Rattle.channel.proofs.write.unwire.Goals as goal
 
 pub returns : goal.returns
 returns c =
-    let s = c in
-    unwired-put s.args.rec.now s.requires c.clear.new.part c.clear.ensures
+    unwired-put c.args.rec.now c.requires c.clear.new.part c.clear.ensures

@@ -9,9 +9,8 @@ use Rattle.channel.proofs.write.write_fresh.Goals as goal
 
 pub returns : goal.returns
 returns c =
-    let s = c in
-    let a = s.args in
+    let a = c.args in
     let front : c.clear.new.part ≡ zeros 32768 = c.clear.ensures ∙ ap zeros
-    (length-take-le 32768 a.rec.now s.requires.record_size_in_bounds) in
+    (length-take-le 32768 a.rec.now c.requires.record_size_in_bounds) in
     ap (λ (l : List ℕ). set (set (set (set (set (l ++ drop 32768 a.rec.now) 0 a.rows) 1 a.columns) 2 a.o) 3 a.d) 4 a.e) front
-    ∙ fresh-written a.rec.now a.rows a.columns a.o a.d a.e s.requires.record_size_in_bounds
+    ∙ fresh-written a.rec.now a.rows a.columns a.o a.d a.e c.requires.record_size_in_bounds

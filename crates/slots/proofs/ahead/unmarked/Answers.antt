@@ -14,6 +14,5 @@ returns-then-u c =
 
 pub returns : goal.returns
 returns c =
-    let s = c in
-    let (m, h) = between s.args.u 336 12800 c.if-u.false in
-    bits-near s.args.marks.now s.args.u m h c.kind_near.ensures
+    let (m, h) = between c.args.u 336 12800 c.if-u.false in
+    bits-near c.args.marks.now c.args.u m h c.kind_near.ensures

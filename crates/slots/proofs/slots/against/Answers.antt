@@ -6,7 +6,6 @@ use Rattle.slots.proofs.slots.against.Goals as goal
 
 pub returns : goal.returns
 returns c d h e =
-    let s = c in
-    let (_, g, _, l, m) = s.requires in
+    let (_, g, _, l, m) = c.requires in
     c.one_way.ensures.0
-    ∙ word-against s.args.loads.now d s.args.w e s.args.x h (omega arith) (omega arith) l m _ c.wide.ensures.0
+    ∙ word-against c.args.loads.now d c.args.w e c.args.x h (omega arith) (omega arith) l m _ c.wide.ensures.0

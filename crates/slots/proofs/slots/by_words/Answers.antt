@@ -7,56 +7,42 @@ use Rattle.slots.proofs.slots.by_words.Goals as goal
 
 pub room-side-requires : goal.room-side-requires
 room-side-requires c =
-    let s = c in
-    let (z, l, m, g, h, w) = s.requires in
-    let (a, b) = first_word s.args.u g h w 0 (omega arith) in
+    let (z, l, m, g, h, w) = c.requires in
+    let (a, b) = first_word c.args.u g h w 0 (omega arith) in
     (z, omega arith, omega arith, l, m)
 
 pub room-right-requires : goal.room-right-requires
 room-right-requires c =
-    let s = c in
-    let (z, l, m, g, h, w) = s.requires in
-    let (a, b) = first_word s.args.u g h w 1 (omega arith) in
+    let (z, l, m, g, h, w) = c.requires in
+    let (a, b) = first_word c.args.u g h w 1 (omega arith) in
     (z, a, b, l, m)
 
 pub against-spoke-requires : goal.against-spoke-requires
 against-spoke-requires c =
-    let s = c in
-    let (z, l, m, g, h, w) = s.requires in
-    let (a, b) = first_word s.args.u g h w 2 (omega arith) in
+    let (z, l, m, g, h, w) = c.requires in
+    let (a, b) = first_word c.args.u g h w 2 (omega arith) in
     (z, a, b, l, m)
 
 pub room-left-requires : goal.room-left-requires
 room-left-requires c =
-    let s = c in
-    let (z, l, m, g, h, w) = s.requires in
-    let (a, b) = first_word s.args.u g h w 3 (omega arith) in
+    let (z, l, m, g, h, w) = c.requires in
+    let (a, b) = first_word c.args.u g h w 3 (omega arith) in
     (z, a, b, l, m)
 
 pub against-leg-requires : goal.against-leg-requires
 against-leg-requires c =
-    let s = c in
-    let (z, l, m, g, h, w) = s.requires in
-    let (a, b) = last_word s.args.u g h w in
+    let (z, l, m, g, h, w) = c.requires in
+    let (a, b) = last_word c.args.u g h w in
     (z, a, b, l, m)
 
 pub returns : goal.returns
 returns c J v ea eh ec ep =
-    let c1 = c in
-    let c2 = c1 in
-    let c3 = c2 in
-    let c4 = c3 in
-    let c5 = c4 in
-    let c6 = c5 in
-    let c7 = c6 in
-    let c8 = c7 in
-    let s = c8 in
-    let (z, l, m, g, h, w) = s.requires in
-    let u = s.args.u in
-    side-bits u g h J s.args.loads.now v (omega arith) ea eh ec ep
-    (c6.against-spoke.ensures (8 * u + 2) (omega arith) (first-row u g h w (8 * u + 2) 2 (omega arith) refl))
-    (c4.against-leg.ensures (8 * u + 4) (omega arith) (last_row u g h w))
-    (c8.room-side.ensures.0 (8 * u) (omega arith) (first-row u g h w (8 * u) 0 (omega arith) (omega arith) ∙ omega arith), c8.room-side.ensures.1)
-    (c7.room-right.ensures.0 (8 * u + 1) (omega arith) (first-row u g h w (8 * u + 1) 1 (omega arith) refl), c7.room-right.ensures.1) c3.bit-into.ensures
-    (c5.room-left.ensures.0 (8 * u + 3) (omega arith) (first-row u g h w (8 * u + 3) 3 (omega arith) refl), c5.room-left.ensures.1) c2.bit-to.ensures
-    c1.bit.ensures c.bit-2.ensures
+    let (z, l, m, g, h, w) = c.requires in
+    let u = c.args.u in
+    side-bits u g h J c.args.loads.now v (omega arith) ea eh ec ep
+    (c.against-spoke.ensures (8 * u + 2) (omega arith) (first-row u g h w (8 * u + 2) 2 (omega arith) refl))
+    (c.against-leg.ensures (8 * u + 4) (omega arith) (last_row u g h w))
+    (c.room-side.ensures.0 (8 * u) (omega arith) (first-row u g h w (8 * u) 0 (omega arith) (omega arith) ∙ omega arith), c.room-side.ensures.1)
+    (c.room-right.ensures.0 (8 * u + 1) (omega arith) (first-row u g h w (8 * u + 1) 1 (omega arith) refl), c.room-right.ensures.1) c.bit-into.ensures
+    (c.room-left.ensures.0 (8 * u + 3) (omega arith) (first-row u g h w (8 * u + 3) 3 (omega arith) refl), c.room-left.ensures.1) c.bit-to.ensures
+    c.bit.ensures c.bit-2.ensures

@@ -10,11 +10,8 @@ use Rattle.slots.proofs.slots.four_moves.Goals as goal
 
 pub returns : goal.returns
 returns c =
-    let c1 = c in
-    let c2 = c1 in
-    let c3 = c2 in
-    let s = c3.args in
+    let s = c.args in
     four-bits
-    (c3.wanted_move-a.ensures.0 ∙ ap₂ (λ (w d : ℕ). min (w % 2) (when (moves (job_of s.job.now) s.loads.now d) 1)) (omega arith) (omega arith))
-    c2.wanted_move-b.ensures.0 c1.wanted_move-c.ensures.0 c.wanted_move-e.ensures.0
-    c3.wanted_move-a.ensures.1 c2.wanted_move-b.ensures.1 c1.wanted_move-c.ensures.1 c.wanted_move-e.ensures.1
+    (c.wanted_move-a.ensures.0 ∙ ap₂ (λ (w d : ℕ). min (w % 2) (when (moves (job_of s.job.now) s.loads.now d) 1)) (omega arith) (omega arith))
+    c.wanted_move-b.ensures.0 c.wanted_move-c.ensures.0 c.wanted_move-e.ensures.0
+    c.wanted_move-a.ensures.1 c.wanted_move-b.ensures.1 c.wanted_move-c.ensures.1 c.wanted_move-e.ensures.1

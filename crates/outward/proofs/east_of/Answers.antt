@@ -1,6 +1,0 @@
--- `east_of` meets its contract: every column passed has its number. Assumes nothing.
-use native.Mathlib.Omega.{arith}
-use Rattle.outward.proofs.east_of.Goals as goal
-
-pub returns : goal.returns
-returns c i h = c.loop-c.invariant.2 i (omega arith)
