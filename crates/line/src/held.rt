@@ -3,6 +3,7 @@ ghost use Rattle.std.specs.Prelude.{◌≡◌, ◌≤◌, length};
 ghost use Rattle.line.specs.Lines.{LineAt};
 
 use crate::lines::{Line, line_at};
+use crate::scan::Read;
 
 #[derive(Clone, Copy)]
 pub struct Reader<'a> {
@@ -19,7 +20,7 @@ impl<'a> Reader<'a> {
     }
 
     // Its next line: of a group, or the end line.
-    pub fn line(self) -> Line
+    pub fn line(self) -> Option<Read<Line>>
         requires { self.at ≤ length self.text.now }
         ensures { LineAt self.entry.text.now self.entry.at result }
     {
@@ -28,7 +29,7 @@ impl<'a> Reader<'a> {
 }
 
 // The line at an offset, by a reader that stands there: its callers see no reader.
-pub fn next_line(text: &[u8], at: usize) -> Line
+pub fn next_line(text: &[u8], at: usize) -> Option<Read<Line>>
     requires { at ≤ length text.now }
     ensures { LineAt text.now at result }
 {

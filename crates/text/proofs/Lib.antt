@@ -1,5 +1,4 @@
 -- whether a line may stand, and the whole text
-pub mod Tested
 pub mod Standing
 pub mod Midway
 -- the job's bytes, line by line

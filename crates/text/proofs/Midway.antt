@@ -1,10 +1,13 @@
 -- A text read up to an offset: a reader stands there whose verdict on the rest is the verdict on the whole. Each line that may stand leads on, and the text
 -- ends well where the reader is finished and nothing is left. Assumes nothing.
 use mathlib.Core.Path.{◌≡◌, refl, sym, ap, subst, ◌∙◌}
+use mathlib.Core.Logic.{◌≢◌}
 use mathlib.Core.Bool.{Bool, true, false, not, ◌&&◌}
 use mathlib.Core.List.{List, [], ◌∷◌, ◌++◌}
 use mathlib.Core.Option.{some}
-use Prim.Native.Nat.{ℕ, ◌+◌, ◌*◌, ◌/◌, ◌≤◌, ◌<◌}
+use Rattle.std.specs.Prelude.{Some, None, Ok, Err}
+use Rattle.line.specs.declared.group.Group.{Group as CodeGroup}
+use Prim.Native.Nat.{ℕ, ◌+◌, ◌*◌, ◌≤◌, ◌<◌}
 use native.Mathlib.Omega.{arith}
 use lib.Dec.{T, eqb, leb, ltb, eqb→eq, leb→le, ltb→lt}
 use lib.ListN.{length, get_or, drop, set, replicate, length-append, length-drop, length-set, length-replicate, get_or-replicate, drop_of_length-le}
@@ -12,21 +15,25 @@ use lib.Seq.{get_or-set_same, get_or-set_other}
 use Rattle.sums.specs.Counting.{when}
 use Rattle.sums.specs.Tests.{Same, same, other, same?, and_left, and_right, and_both}
 use Rattle.model.specs.Job.{fresh, put, array_fits, caps_admitted, is_pin}
-use Rattle.model.specs.Text.{Group, chosen_pins, missing_pins, closed_tiles, own_ds, laid_sides, Line, array_line, group_line, end_line, line_bytes, Stage, begin, after_array, finished}
+use Rattle.model.specs.Text.{Group, chosen_pins, missing_pins, Line, array_line, group_line, end_line, line_bytes, after_array, finished}
 use Rattle.model.specs.Text.{within, rank, Reader, start, asking, in_turn, names, named, admit, Verdict, reads, wrong_at, Reads, ended, line, wrong}
 use Rattle.model.specs.Text.{Reading, says, key_of}
 use Rattle.model.proofs.Admitted.{caps-small}
 use Rattle.model.proofs.TextUnique.{line-some}
 use Rattle.model.proofs.TextProper.{asked, by_word, names-says}
-use Rattle.model.proofs.TextNames.{rank-group, names-inside, Alike, named-alike}
+use Rattle.model.proofs.TextNames.{rank-group, says_some, names-inside, Alike, named-alike}
 use Rattle.model.proofs.Sides.{put-at, put-else}
-use Rattle.line.specs.declared.lines.Opening.TheVariants.{Array}
+use Rattle.line.specs.declared.group.Group.TheVariants.{Chosen, Missing, Closed, Own, Laid}
+use Rattle.line.specs.declared.scan.Read.{Read}
+use Rattle.line.specs.declared.lines.Entry.{Entry}
+use Rattle.line.specs.declared.lines.Heading.{Heading}
+use Rattle.line.specs.declared.lines.Line.TheVariants.{Tells, End}
+use Rattle.line.specs.Groups.{text_group}
+use Rattle.line.specs.Lines.{entry_line, heading_line}
 use Rattle.text.specs.declared.reader.Cursor.{Cursor}
-use Rattle.text.specs.declared.reader.Step.{Step}
-use Rattle.text.specs.declared.reader.Step.TheVariants.{To, Wrong}
-use Rattle.text.specs.declared.reader.Judged.TheVariants.{Reads as ReadsWell, WrongAt}
-use Rattle.text.specs.Reader.{Opens, Follows, after_group, after_end, Stepped, by_group, by_end, stops, Judges}
+use Rattle.text.specs.Reader.{Opens, Follows, after_group, after_end, LeadsOn, Stepped, Judges}
 use Rattle.line.proofs.Ranges.{array-small}
+use Rattle.text.proofs.Standing.{going}
 
 -- ---- a line of the text
 
@@ -46,12 +53,6 @@ line-length text at next l a b e =
     (q, omega (arith, line-long l))
 
 -- ---- the last stage
-
-rank-last : (t : Stage) → 7 ≤ rank t → t ≡ finished
-rank-last begin l = absurd (omega arith)
-rank-last after_array l = absurd (omega arith)
-rank-last (within g) l = absurd (omega (arith, (rank-group g).1))
-rank-last finished l = refl
 
 -- after the end line none may stand
 pub finished-none : (R : Reader) (l : Line) (R' : Reader) → R.stage ≡ finished → admit R l ≡ some R' → ⊥
@@ -79,21 +80,21 @@ asking-so false R t = absurd t
 
 -- ---- a text read up to an offset
 
-pub record Midway (text : List ℕ) (at s f rows columns o D : ℕ) (chosen : List ℕ) : Type 0 where
+pub record Midway (text : List ℕ) (k : Cursor) (h : Heading) (chosen : List ℕ) : Type 0 where
   pub reader : Reader
-  pub follows : Follows reader s f rows columns o D chosen
-  pub begun : 1 ≤ s
-  pub within : at ≤ length text
-  pub high : rows ≤ 40
-  pub wide : columns ≤ 40
-  pub most : o ≤ 8
+  pub follows : Follows reader k h chosen
+  pub within : k.at ≤ length text
+  pub high : h.array.rows ≤ 40
+  pub wide : h.array.columns ≤ 40
+  pub most : h.capacities.orthogonal ≤ 8
   pub marked : length chosen ≡ 1600
-  pub on : (v : Verdict) → Reads reader at (drop at text) v → Reading text v
+  pub on : (v : Verdict) → Reads reader k.at (drop k.at text) v → Reading text v
 
 -- after the array line
-pub midway-open : (text : List ℕ) (a b o d e next : ℕ) → Opens text (Array a b o d e next) → Midway text next 1 0 a b o d (replicate 1600 0)
+pub midway-open : (text : List ℕ) (o : Read Heading) → Opens text (Some o)
+    → Midway text (record { at = o.next; group = None; from = 0 }) o.value (replicate 1600 0)
 unfolding admit
-midway-open text a b o d e next (s, t, l, q) =
+midway-open text o (s, t, l, q) =
     record {
       reader = R;
       follows = record {
@@ -105,170 +106,185 @@ midway-open text a b o d e next (s, t, l, q) =
         usual = refl;
         marks = λ r c lr lc. ap (λ (x : ℕ). eqb x 1) (get_or-replicate 1600 (40 * r + c) 0 0 (omega arith));
       };
-      begun = omega arith;
       within = l;
-      high = (array-small a b s).0;
-      wide = (array-small a b s).1;
-      most = (caps-small o d e t).0;
+      high = (array-small h.array.rows h.array.columns s).0;
+      wide = (array-small h.array.rows h.array.columns s).1;
+      most = (caps-small h.capacities.orthogonal h.capacities.diagonal h.capacities.extra t).0;
       marked = length-replicate {A = ℕ} 1600 0;
-      on = λ v h. line (array_line a b o d e) R (drop next text) stands q
-          (subst (λ (n : ℕ). Reads R n (drop next text) v) (line-length text 0 next (array_line a b o d e) (omega arith) l q).0 h);
+      on = λ v r. line (heading_line h) R (drop o.next text) stands q
+          (subst (λ (n : ℕ). Reads R n (drop o.next text) v) (line-length text 0 o.next (heading_line h) (omega arith) l q).0 r);
     }
   where
+    h : Heading
+    h = o.value
+
     R : Reader
-    R = record { stage = after_array; from = 0; job = fresh a b o d e }
+    R = record { stage = after_array; from = 0; job = fresh h.array.rows h.array.columns h.capacities.orthogonal h.capacities.diagonal h.capacities.extra }
 
-    stands : admit start (array_line a b o d e) ≡ some R
-    stands = asking-so (array_fits a b && caps_admitted o d e) R (and_both (array_fits a b) (caps_admitted o d e) s t)
+    fits : Bool
+    fits = array_fits h.array.rows h.array.columns
 
-module _ {text : List ℕ} {at s f rows columns o D : ℕ} {chosen : List ℕ} (m : Midway text at s f rows columns o D chosen) where
+    admitted : Bool
+    admitted = caps_admitted h.capacities.orthogonal h.capacities.diagonal h.capacities.extra
+
+    stands : admit start (heading_line h) ≡ some R
+    stands = asking-so (fits && admitted) R (and_both fits admitted s t)
+
+module _ {text : List ℕ} {k : Cursor} {h : Heading} {chosen : List ℕ} (m : Midway text k h chosen) where
   abbrev R : Reader
   R = m.reader
 
-  abbrev w : Follows R s f rows columns o D chosen
+  abbrev w : Follows R k h chosen
   w = m.follows
 
-  -- where the line leads, by an answer for every reader that stands there
-  pub midway-step : {x y : Step} → ((S : Reader) → Follows S s f rows columns o D chosen → Stepped text S at x) → x ≡ y → Stepped text R at y
-  midway-step a e = subst (Stepped text R at) e (a R w)
-
   -- a line that may not stand
-  pub midway-wrong : s < 7 → Stepped text R at Wrong → Reading text (wrong_at at)
-  midway-wrong l (stops n) = m.on (wrong_at at) (wrong (λ e. absurd (omega (arith, w.stage, ap rank e))) n)
+  pub midway-wrong : ((S : Reader) → Follows S k h chosen → Stepped text S k.at None) → Reading text (wrong_at k.at)
+  midway-wrong f =
+      m.on (wrong_at k.at) (wrong (λ e. absurd (omega (arith, ap rank e, going w m.high m.wide m.most))) (f R w))
 
   -- ---- a line that may stand
 
   -- the reader that the line leaves goes on with the rest
-  goes_on_lem : (l : Line) (R' : Reader) (next : ℕ) → admit R l ≡ some R' → next ≤ length text → drop at text ≡ line_bytes l ++ drop next text → (v : Verdict)
+  goes_on_lem : (l : Line) (R' : Reader) (next : ℕ) → admit R l ≡ some R' → next ≤ length text → drop k.at text ≡ line_bytes l ++ drop next text → (v : Verdict)
       → Reads R' next (drop next text) v → Reading text v
-  goes_on_lem l R' next a k q v h =
+  goes_on_lem l R' next a i q v r =
       m.on v (line l R' (drop next text) a q
-      (subst (λ (n : ℕ). Reads R' n (drop next text) v) (line-length text at next l m.within k q).0 h))
+      (subst (λ (n : ℕ). Reads R' n (drop next text) v) (line-length text k.at next l m.within i q).0 r))
 
-  pub step-further : {k : Cursor} → Stepped text R at (To k) → (at < k.at) × (k.at ≤ length text)
-  step-further {k} (by_group g r c d v a i j l q) = ((line-length text at k.at (group_line g r c d v) m.within l q).1, l)
-  step-further {k} (by_end a i j l q) = ((line-length text at k.at end_line m.within l q).1, l)
+  module _ (e : Entry) (next : ℕ) (f : (S : Reader) → Follows S k h chosen → LeadsOn text S k.at (Tells e) next) where
+    abbrev g : Group
+    g = text_group e.group
 
-  -- what an admitted line of a group names
-  group-named : (g : Group) (r c d v : ℕ) → admit R (group_line g r c d v) ≡ some (after_group R g r c d v)
-      → T (names R.job g r c d v) × (r < 40) × (c < 40)
-  unfolding admit
-  group-named g r c d v a =
-      let (t, x) = asked (in_turn R g r c d && names R.job g r c d v) _ _ a in
-      let u : T (names R.job g r c d v) = and_right (in_turn R g r c d) (names R.job g r c d v) t in
-      let (y, z, o) = names-inside R.job g r c d v u in
-      (u, omega (arith, w.high, m.high), omega (arith, w.wide, m.wide))
+    abbrev on : LeadsOn text R k.at (Tells e) next
+    on = f R w
 
-  marks-chosen : (r c : ℕ) → r < 40 → c < 40 → (i j : ℕ) → i < 40 → j < 40
-      → eqb (get_or (set chosen (40 * r + c) 1) (40 * i + j) 0) 1 ≡ eqb (put R.job.mark r c 1 i j) 1
-  marks-chosen r c lr lc i j li lj = by (eqb (40 * i + j) (40 * r + c)) (same? (40 * i + j) (40 * r + c))
-    where
-      by : (b : Bool) → Same (40 * i + j) (40 * r + c) b
-          → eqb (get_or (set chosen (40 * r + c) 1) (40 * i + j) 0) 1 ≡ eqb (put R.job.mark r c 1 i j) 1
-      by true (same e) =
-          let x : i ≡ r = omega arith in
-          let y : j ≡ c = omega arith in
-          ap (λ (n : ℕ). eqb n 1)
-          (ap (λ (n : ℕ). get_or (set chosen (40 * r + c) 1) n 0) e
-          ∙ (get_or-set_same chosen (40 * r + c) 1 0 (omega (arith, m.marked))
-          ∙ (sym (put-at R.job.mark r c 1) ∙ (λ k. put R.job.mark r c 1 (sym x k) (sym y k)))))
-      by false (other n) =
-          ap (λ (k : ℕ). eqb k 1) (get_or-set_other chosen (40 * r + c) (40 * i + j) 1 0 n)
-          ∙ (w.marks i j li lj
-          ∙ ap (λ (k : ℕ). eqb k 1) (sym (put-else R.job.mark r c 1 i j (λ x y. n (λ k. 40 * x k + y k)))))
+    pub step-further : (k.at < next) × (next ≤ length text)
+    step-further = ((line-length text k.at next (entry_line e) m.within on.1 on.2).1, on.1)
 
-  marks-missing : (r c : ℕ) → r < 40 → c < 40 → T (not (eqb (R.job.mark r c) 1)) → (i j : ℕ) → i < 40 → j < 40
-      → eqb (get_or chosen (40 * i + j) 0) 1 ≡ eqb (put R.job.mark r c 2 i j) 1
-  marks-missing r c lr lc t i j li lj = by (eqb (40 * i + j) (40 * r + c)) (same? (40 * i + j) (40 * r + c))
-    where
-      unchosen : (b : Bool) → T (not b) → b ≡ false
-      unchosen true u = absurd u
-      unchosen false u = refl
+    -- what an admitted line of a group names
+    group-named : T (names R.job g e.row e.column e.side e.value)
+    unfolding admit
+    group-named =
+        and_right (in_turn R g e.row e.column e.side) (names R.job g e.row e.column e.side e.value)
+        (asked (in_turn R g e.row e.column e.side && names R.job g e.row e.column e.side e.value) _ _ on.0).0
 
-      by : (b : Bool) → Same (40 * i + j) (40 * r + c) b → eqb (get_or chosen (40 * i + j) 0) 1 ≡ eqb (put R.job.mark r c 2 i j) 1
-      by true (same e) =
-          let x : i ≡ r = omega arith in
-          let y : j ≡ c = omega arith in
-          ap (λ (n : ℕ). eqb (get_or chosen n 0) 1) e
-          ∙ (w.marks r c lr lc
-          ∙ (unchosen (eqb (R.job.mark r c) 1) t
-          ∙ ap (λ (n : ℕ). eqb n 1) (sym (put-at R.job.mark r c 2) ∙ (λ k. put R.job.mark r c 2 (sym x k) (sym y k)))))
-      by false (other n) = w.marks i j li lj ∙ ap (λ (k : ℕ). eqb k 1) (sym (put-else R.job.mark r c 2 i j (λ x y. n (λ k. 40 * x k + y k))))
+    pub entry-cell : (e.row < 40) × (e.column < 40) × (e.side < 4)
+    entry-cell =
+        let (y, z, o) = names-inside R.job g e.row e.column e.side e.value group-named in (
+          omega (arith, w.high, m.high),
+          omega (arith, w.wide, m.wide),
+          (says_some g e.side e.value (names-says R.job g e.row e.column e.side e.value group-named)).0,
+        )
 
-  -- the reader after a line of a group, if the marks follow it
-  further : (k : Cursor) (g : Group) (r c d v : ℕ) (chosen' : List ℕ) → admit R (group_line g r c d v) ≡ some (after_group R g r c d v)
-      → k.stage ≡ rank (within g) → k.from ≡ key_of r c d + 1 → k.at ≤ length text → drop at text ≡ line_bytes (group_line g r c d v) ++ drop k.at text
-      → length chosen' ≡ 1600
-      → ((x y : ℕ) → x < 40 → y < 40 → eqb (get_or chosen' (40 * x + y) 0) 1 ≡ eqb ((named R.job g r c d v).mark x y) 1)
-      → Midway text k.at k.stage k.from rows columns o D chosen'
-  further k g r c d v chosen' a i j l q long marks =
-      let s : Alike (named R.job g r c d v) R.job = named-alike R.job R.job g r c d v (record { rows = refl; columns = refl; O = refl; D = refl; E = refl }) in
-      record {
-        reader = after_group R g r c d v;
-        follows = record { stage = i; from = j; high = s.rows ∙ w.high; wide = s.columns ∙ w.wide; most = s.O ∙ w.most; usual = s.D ∙ w.usual; marks = marks };
-        begun = omega (arith, (rank-group g).0);
-        within = l;
-        high = m.high;
-        wide = m.wide;
-        most = m.most;
-        marked = long;
-        on = goes_on_lem (group_line g r c d v) (after_group R g r c d v) k.at a l q;
-      }
+    abbrev to : Cursor
+    to = record { at = next; group = Some e.group; from = key_of e.row e.column e.side + 1 }
 
-  -- the chosen pin's mark is set
-  pub midway-chosen : {k : Cursor} → Stepped text R at (To k) → k.stage ≡ 2
-      → (k.from / 4 < 1600) × Midway text k.at k.stage k.from rows columns o D (set chosen (k.from / 4) 1)
-  midway-chosen {k} (by_end a i j l q) e = absurd (omega arith)
-  midway-chosen {k} (by_group missing_pins r c d v a i j l q) e = absurd (omega arith)
-  midway-chosen {k} (by_group closed_tiles r c d v a i j l q) e = absurd (omega arith)
-  midway-chosen {k} (by_group own_ds r c d v a i j l q) e = absurd (omega arith)
-  midway-chosen {k} (by_group laid_sides r c d v a i j l q) e = absurd (omega arith)
-  midway-chosen {k} (by_group chosen_pins r c d v a i j l q) e =
-      let (t, lr, lc) = group-named chosen_pins r c d v a in
-      let (z, one) = by_word d v 1 (names-says R.job chosen_pins r c d v t) in
-      let p : k.from / 4 ≡ 40 * r + c = omega arith in (
-        omega arith,
-        further k chosen_pins r c d v (set chosen (k.from / 4) 1) a i j l q (length-set chosen (k.from / 4) 1 ∙ m.marked)
-            (λ x y lx ly.
-            ap (λ (n : ℕ). eqb (get_or (set chosen n 1) (40 * x + y) 0) 1) p
-            ∙ (marks-chosen r c lr lc x y lx ly ∙ ap (λ (n : ℕ). eqb (put R.job.mark r c n x y) 1) (sym one))),
-      )
+    -- the reader after a line of a group, if the marks follow it
+    further : (chosen' : List ℕ) → length chosen' ≡ 1600
+        → ((x y : ℕ) → x < 40 → y < 40 → eqb (get_or chosen' (40 * x + y) 0) 1 ≡ eqb ((named R.job g e.row e.column e.side e.value).mark x y) 1)
+        → Midway text to h chosen'
+    further chosen' long marks =
+        let s : Alike (named R.job g e.row e.column e.side e.value) R.job =
+        named-alike R.job R.job g e.row e.column e.side e.value (record { rows = refl; columns = refl; O = refl; D = refl; E = refl }) in
+        record {
+          reader = after_group R g e.row e.column e.side e.value;
+          follows = record { stage = refl; from = refl; high = s.rows ∙ w.high; wide = s.columns ∙ w.wide; most = s.O ∙ w.most; usual = s.D ∙ w.usual; marks = marks };
+          within = on.1;
+          high = m.high;
+          wide = m.wide;
+          most = m.most;
+          marked = long;
+          on = goes_on_lem (entry_line e) (after_group R g e.row e.column e.side e.value) next on.0 on.1 on.2;
+        }
 
-  -- any other line leaves the marks
-  pub midway-other : {k : Cursor} → Stepped text R at (To k) → (k.stage ≡ 2 → ⊥) → Midway text k.at k.stage k.from rows columns o D chosen
-  midway-other {k} (by_group chosen_pins r c d v a i j l q) n = absurd (n i)
-  midway-other {k} (by_group missing_pins r c d v a i j l q) n =
-      let (t, lr, lc) = group-named missing_pins r c d v a in
-      let (z, two) = by_word d v 2 (names-says R.job missing_pins r c d v t) in
-      let unchosen : Bool = not (eqb (R.job.mark r c) 1) in
-      let u : T unchosen = and_right (is_pin R.job r c) unchosen (and_left (is_pin R.job r c && unchosen) (says missing_pins d v) t) in
-      further k missing_pins r c d v chosen a i j l q m.marked
-      (λ x y lx ly. marks-missing r c lr lc u x y lx ly ∙ ap (λ (n : ℕ). eqb (put R.job.mark r c n x y) 1) (sym two))
-  midway-other {k} (by_group closed_tiles r c d v a i j l q) n = further k closed_tiles r c d v chosen a i j l q m.marked w.marks
-  midway-other {k} (by_group own_ds r c d v a i j l q) n = further k own_ds r c d v chosen a i j l q m.marked w.marks
-  midway-other {k} (by_group laid_sides r c d v a i j l q) n = further k laid_sides r c d v chosen a i j l q m.marked w.marks
-  midway-other {k} (by_end a i j l q) n =
-      record {
-        reader = after_end R;
-        follows = record { stage = i; from = j; high = w.high; wide = w.wide; most = w.most; usual = w.usual; marks = w.marks };
-        begun = omega arith;
-        within = l;
-        high = m.high;
-        wide = m.wide;
-        most = m.most;
-        marked = m.marked;
-        on = goes_on_lem end_line (after_end R) k.at a l q;
-      }
+    -- a pin's mark is that of its group
+    abbrev marked-as : ℕ → ℕ → ℕ → Bool
+    marked-as n x y = eqb (put R.job.mark e.row e.column n x y) 1
 
-  -- ---- after the end line
+    marks-chosen : (i j : ℕ) → i < 40 → j < 40 → eqb (get_or (set chosen (40 * e.row + e.column) 1) (40 * i + j) 0) 1 ≡ marked-as 1 i j
+    marks-chosen i j li lj = by (eqb (40 * i + j) (40 * e.row + e.column)) (same? (40 * i + j) (40 * e.row + e.column))
+      where
+        by : (b : Bool) → Same (40 * i + j) (40 * e.row + e.column) b
+            → eqb (get_or (set chosen (40 * e.row + e.column) 1) (40 * i + j) 0) 1 ≡ marked-as 1 i j
+        by true (same q) =
+            let (lr, lc, ld) = entry-cell in
+            let x : i ≡ e.row = omega arith in
+            let y : j ≡ e.column = omega arith in
+            ap (λ (n : ℕ). eqb n 1)
+            (ap (λ (n : ℕ). get_or (set chosen (40 * e.row + e.column) 1) n 0) q
+            ∙ (get_or-set_same chosen (40 * e.row + e.column) 1 0 (omega (arith, m.marked))
+            ∙ (sym (put-at R.job.mark e.row e.column 1) ∙ (λ z. put R.job.mark e.row e.column 1 (sym x z) (sym y z)))))
+        by false (other n) =
+            ap (λ (z : ℕ). eqb z 1) (get_or-set_other chosen (40 * e.row + e.column) (40 * i + j) 1 0 n)
+            ∙ (w.marks i j li lj
+            ∙ ap (λ (z : ℕ). eqb z 1) (sym (put-else R.job.mark e.row e.column 1 i j (λ x y. n (λ z. 40 * x z + y z)))))
 
-  finished-so : 7 ≤ s → R.stage ≡ finished
-  finished-so l = rank-last R.stage (omega (arith, w.stage))
+    marks-missing : T (not (eqb (R.job.mark e.row e.column) 1)) → (i j : ℕ) → i < 40 → j < 40 → eqb (get_or chosen (40 * i + j) 0) 1 ≡ marked-as 2 i j
+    marks-missing t i j li lj = by (eqb (40 * i + j) (40 * e.row + e.column)) (same? (40 * i + j) (40 * e.row + e.column))
+      where
+        unchosen : (b : Bool) → T (not b) → b ≡ false
+        unchosen true u = absurd u
+        unchosen false u = refl
 
-  pub midway-ended : 7 ≤ s → length text ≤ at → Judges text ReadsWell
-  midway-ended l e = (R.job, m.on (reads R.job) (ended (finished-so l) (drop_of_length-le text e)))
+        by : (b : Bool) → Same (40 * i + j) (40 * e.row + e.column) b → eqb (get_or chosen (40 * i + j) 0) 1 ≡ marked-as 2 i j
+        by true (same q) =
+            let (lr, lc, ld) = entry-cell in
+            let x : i ≡ e.row = omega arith in
+            let y : j ≡ e.column = omega arith in
+            ap (λ (n : ℕ). eqb (get_or chosen n 0) 1) q
+            ∙ (w.marks e.row e.column lr lc
+            ∙ (unchosen (eqb (R.job.mark e.row e.column) 1) t
+            ∙ ap (λ (n : ℕ). eqb n 1) (sym (put-at R.job.mark e.row e.column 2) ∙ (λ z. put R.job.mark e.row e.column 2 (sym x z) (sym y z)))))
+        by false (other n) = w.marks i j li lj ∙ ap (λ (z : ℕ). eqb z 1) (sym (put-else R.job.mark e.row e.column 2 i j (λ x y. n (λ z. 40 * x z + y z))))
 
-  pub midway-longer : 7 ≤ s → at < length text → Judges text (WrongAt at)
-  midway-longer l e =
-      m.on (wrong_at at)
-      (wrong (λ x y. omega (arith, ap length y, length-drop at text)) (λ k R' rest a q. finished-none R k R' (finished-so l) a))
+    -- the chosen pin's mark is set
+    pub midway-chosen : e.group ≡ Chosen → Midway text to h (set chosen (40 * e.row + e.column) 1)
+    midway-chosen q =
+        further (set chosen (40 * e.row + e.column) 1) (length-set chosen (40 * e.row + e.column) 1 ∙ m.marked)
+        (λ x y lx ly. marks-chosen x y lx ly ∙ sym (as-chosen x y))
+      where
+        told : T (says chosen_pins e.side e.value)
+        told = subst (λ (g : CodeGroup). T (says (text_group g) e.side e.value)) q (names-says R.job g e.row e.column e.side e.value group-named)
+
+        as-chosen : (x y : ℕ) → eqb ((named R.job g e.row e.column e.side e.value).mark x y) 1 ≡ marked-as 1 x y
+        as-chosen x y =
+            ap (λ (g : CodeGroup). eqb ((named R.job (text_group g) e.row e.column e.side e.value).mark x y) 1) q
+            ∙ ap (λ (n : ℕ). marked-as n x y) (by_word e.side e.value 1 told).1
+
+    -- any other line leaves the marks
+    pub midway-other : e.group ≢ Chosen → Midway text to h chosen
+    midway-other n = further chosen m.marked (λ x y lx ly. as-before x y lx ly e.group refl)
+      where
+        as-before : (x y : ℕ) → x < 40 → y < 40 → (q : CodeGroup) → e.group ≡ q
+            → eqb (get_or chosen (40 * x + y) 0) 1 ≡ eqb ((named R.job g e.row e.column e.side e.value).mark x y) 1
+        as-before x y lx ly Chosen i = absurd (n i)
+        as-before x y lx ly Missing i =
+            let u : T (names R.job missing_pins e.row e.column e.side e.value) =
+            subst (λ (g : CodeGroup). T (names R.job (text_group g) e.row e.column e.side e.value)) i group-named in
+            let unchosen : Bool = not (eqb (R.job.mark e.row e.column) 1) in
+            let t : T unchosen =
+            and_right (is_pin R.job e.row e.column) unchosen (and_left (is_pin R.job e.row e.column && unchosen) (says missing_pins e.side e.value) u) in
+            marks-missing t x y lx ly
+            ∙ (ap (λ (v : ℕ). marked-as v x y) (sym (by_word e.side e.value 2 (names-says R.job missing_pins e.row e.column e.side e.value u)).1)
+            ∙ ap (λ (g : CodeGroup). eqb ((named R.job (text_group g) e.row e.column e.side e.value).mark x y) 1) (sym i))
+        as-before x y lx ly Closed i =
+            w.marks x y lx ly ∙ ap (λ (g : CodeGroup). eqb ((named R.job (text_group g) e.row e.column e.side e.value).mark x y) 1) (sym i)
+        as-before x y lx ly Own i =
+            w.marks x y lx ly ∙ ap (λ (g : CodeGroup). eqb ((named R.job (text_group g) e.row e.column e.side e.value).mark x y) 1) (sym i)
+        as-before x y lx ly Laid i =
+            w.marks x y lx ly ∙ ap (λ (g : CodeGroup). eqb ((named R.job (text_group g) e.row e.column e.side e.value).mark x y) 1) (sym i)
+
+  -- ---- the end line
+
+  module _ (next : ℕ) (f : (S : Reader) → Follows S k h chosen → LeadsOn text S k.at End next) where
+    abbrev ending : LeadsOn text R k.at End next
+    ending = f R w
+
+    pub midway-ended : length text ≤ next → Judges text (Ok tt)
+    midway-ended l =
+        (R.job, goes_on_lem end_line (after_end R) next ending.0 ending.1 ending.2 (reads R.job) (ended refl (drop_of_length-le text l)))
+
+    pub midway-longer : next < length text → Judges text (Err (record { offset = next }))
+    midway-longer l =
+        goes_on_lem end_line (after_end R) next ending.0 ending.1 ending.2 (wrong_at next)
+        (wrong (λ x y. omega (arith, ap length y, length-drop next text)) (λ l R' rest a q. finished-none (after_end R) l R' refl a))

@@ -3,29 +3,24 @@ ghost use Rattle.std.specs.Prelude.{◌≡◌, ◌≤◌, ◌<◌, length};
 ghost use Rattle.model.specs.Record.{record_size};
 ghost use Rattle.text.specs.Into.{Names, Readable, Holds, ReadsInto};
 
-use crate::reader::{Judged, judge};
+use crate::reader::{WrongLine, judge};
+use line::group::Group;
 use line::held::next_line;
-use line::lines::{Line, Opening, array_at};
+use line::lines::{Entry, Line, array_at};
 
-// The value of a group's line in the record: a side's count, a tile's own D, a closed tile's state, or a pin's mark.
-fn write_line(rec: &mut [u8], group: usize, row: usize, column: usize, side: usize, value: usize)
+// The value of an entry in the record: a pin's mark, a closed tile's state, a tile's own D, or a side's count.
+fn write_entry(rec: &mut [u8], entry: Entry)
     requires record_size_in_bounds { record_size ≤ length rec.old }
-    requires row_bound { (row < 40) × (column < 40) × (group ≡ 6 → (row < 39) × (column < 39)) × (value < 100) }
-    ensures { Names rec.old group row column side value rec.new }
+    requires cell { (entry.row < 40) × (entry.column < 40) × (entry.group ≡ Group.Laid → (entry.row < 39) × (entry.column < 39)) × (entry.value < 100) }
+    ensures { Names rec.old entry rec.new }
 {
-    if group == 6 {
-        channel::set_laid(rec, row, column, side, value);
-        return;
+    let (row, column, value) = (entry.row, entry.column, entry.value);
+    match entry.group {
+        Group::Chosen | Group::Missing => channel::set_mark(rec, row, column, value),
+        Group::Closed => channel::set_state(rec, row, column, value),
+        Group::Own => channel::set_own(rec, row, column, value),
+        Group::Laid => channel::set_laid(rec, row, column, entry.side, value),
     }
-    if group == 5 {
-        channel::set_own(rec, row, column, value);
-        return;
-    }
-    if group == 4 {
-        channel::set_state(rec, row, column, value);
-        return;
-    }
-    channel::set_mark(rec, row, column, value);
 }
 
 // The job of a text that reads, line by line.
@@ -34,45 +29,35 @@ fn write_job(text: &[u8], rec: &mut [u8])
     requires readable { Readable text.now }
     ensures { Holds text.now rec.old rec.new }
 {
-    let Opening::Array {
-        rows,
-        columns,
-        o,
-        d,
-        e,
-        next,
-    } = array_at(text)
-    else {
+    let Some(opening) = array_at(text) else {
         return;
     };
-    channel::write_fresh(rec, rows, columns, o, d, e);
-    let mut at = next;
-    loop {
-        let Line::Group {
-            group,
-            row,
-            column,
-            side,
-            value,
-            next,
-        } = next_line(text, at)
-        else {
+    let array = opening.value.array;
+    let capacities = opening.value.capacities;
+    channel::write_fresh(
+        rec,
+        array.rows,
+        array.columns,
+        capacities.orthogonal,
+        capacities.diagonal,
+        capacities.extra,
+    );
+    let mut at = opening.next;
+    while let Some(line) = next_line(text, at) {
+        let Line::Tells(entry) = line.value else {
             return;
         };
-        write_line(rec, group, row, column, side, value);
-        at = next;
+        write_entry(rec, entry);
+        at = line.next;
     }
 }
 
 // The judgement of a text, and its job in the record if it reads.
-pub fn read_into(text: &[u8], rec: &mut [u8]) -> Judged
+pub fn read_into(text: &[u8], rec: &mut [u8]) -> Result<(), WrongLine>
     requires { record_size ≤ length rec.old }
     ensures { ReadsInto text.now rec.old rec.new result }
 {
-    let judged = judge(text);
-    let Judged::Reads = judged else {
-        return judged;
-    };
+    judge(text)?;
     write_job(text, rec);
-    Judged::Reads
+    Ok(())
 }

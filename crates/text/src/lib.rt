@@ -5,5 +5,5 @@ pub mod reader; // which line may stand where, and the judgement of a whole text
 pub mod into; // the job of a text in a record
 
 pub use into::read_into;
-pub use reader::{Judged, judge};
-pub use writing::{Written, write_text};
+pub use reader::{WrongLine, judge};
+pub use writing::write_text;

@@ -1,213 +1,158 @@
 // The reader of a job text: a cursor by value, which takes each line that may stand where it stands, and the judgement of a whole text.
 ghost use Rattle.std.specs.Prelude.{◌≡◌, ◌&&◌, suc, ◌+◌, ◌*◌, ◌≤◌, ◌<◌, length, get_or, eqb, ltb};
-ghost use Rattle.text.specs.Reader.{turn_fits, names_fit, Opens, Leads, Judges};
+ghost use Rattle.model.specs.Text.{rank, within, key_of};
+ghost use Rattle.line.specs.Groups.{text_group};
+ghost use Rattle.text.specs.Reader.{stage_of, turn_fits, names_fit, Opens, Leads, Judges};
 
+use line::group::Group;
 use line::held::next_line;
-use line::lines::{Line, Opening, array_at, writes_side};
-use model::{Array, Capacities, in_range};
+use line::lines::{Entry, Heading, Line, array_at, writes_side};
+use line::scan::Read;
+use model::{Array, in_range};
 
-// What a text is: a job's, or wrong at a line's offset.
-#[derive(Clone, Copy)]
-pub enum Judged {
-    Reads,
-    WrongAt(usize),
+// The first line of a text that may not stand there, by its offset.
+#[derive(Debug, Clone, Copy, PartialEq, Eq)]
+pub struct WrongLine {
+    pub offset: usize,
 }
 
 // The array line, if it may stand at the start.
-pub fn opened(text: &[u8]) -> Opening
+pub fn opened(text: &[u8]) -> Option<Read<Heading>>
     ensures { Opens text.now result }
 {
-    let Opening::Array {
-        rows,
-        columns,
-        o,
-        d,
-        e,
-        next,
-    } = array_at(text)
-    else {
-        return Opening::Wrong;
-    };
-    let array = Array { rows, columns };
-    if !array.fits() {
-        return Opening::Wrong;
+    let opening = array_at(text)?;
+    if !opening.value.array.fits() {
+        return None;
     }
-    let capacities = Capacities {
-        orthogonal: o,
-        diagonal: d,
-        extra: e,
-    };
-    if !capacities.admitted() {
-        return Opening::Wrong;
+    if !opening.value.capacities.admitted() {
+        return None;
     }
-    Opening::Array {
-        rows,
-        columns,
-        o,
-        d,
-        e,
-        next,
-    }
+    Some(opening)
+}
+
+// Whether the array has a pin.
+fn has_pin(array: Array, row: usize, column: usize) -> bool
+    ensures { result ≡ (ltb row array.rows && ltb column array.columns) }
+{
+    (row < array.rows) & (column < array.columns)
 }
 
 // Whether the array has a tile.
-fn has_tile(rows: usize, columns: usize, row: usize, column: usize) -> bool
+fn has_tile(array: Array, row: usize, column: usize) -> bool
     requires { (row < 100) × (column < 100) }
-    ensures { result ≡ (ltb (suc row) rows && ltb (suc column) columns) }
+    ensures { result ≡ (ltb (suc row) array.rows && ltb (suc column) array.columns) }
 {
-    (row + 1 < rows) & (column + 1 < columns)
+    (row + 1 < array.rows) & (column + 1 < array.columns)
 }
 
 // Whether the array has the pin, tile or side that a line of a group names, and no other group names the pin; an own D is in range and not the job's, a count at
 // most O.
-fn names(
-    rows: usize,
-    columns: usize,
-    o: usize,
-    diagonal: usize,
-    chosen: &[u8; 1600],
-    group: usize,
-    row: usize,
-    column: usize,
-    side: usize,
-    value: usize,
-) -> bool
-    requires { (rows ≤ 40) × (columns ≤ 40) × (row < 100) × (column < 100) × (o ≤ 8) }
-    ensures { result ≡ names_fit rows columns o diagonal (eqb (get_or chosen.now (40 * row + column) 0) 1) group row column side value }
+fn names(heading: Heading, chosen: &[u8; 1600], entry: Entry) -> bool
+    requires array { (heading.array.rows ≤ 40) × (heading.array.columns ≤ 40) × (heading.capacities.orthogonal ≤ 8) }
+    requires cell { (entry.row < 100) × (entry.column < 100) }
+    ensures { result ≡ names_fit heading (eqb (get_or chosen.now (40 * entry.row + entry.column) 0) 1) (text_group entry.group) entry.row entry.column entry.side entry.value }
 {
-    if group == 6 {
-        let counted = writes_side(row, column, side) & (value <= o);
-        return has_tile(rows, columns, row, column) & counted;
+    let (row, column, value) = (entry.row, entry.column, entry.value);
+    let array = heading.array;
+    let o = heading.capacities.orthogonal;
+    match entry.group {
+        Group::Chosen => has_pin(array, row, column),
+        Group::Missing => {
+            if has_pin(array, row, column) {
+                chosen[40 * row + column] != 1
+            } else {
+                false
+            }
+        }
+        Group::Closed => has_tile(array, row, column),
+        Group::Own => {
+            let own = in_range(o, 2 * o, value) & (value != heading.capacities.diagonal);
+            has_tile(array, row, column) & own
+        }
+        Group::Laid => {
+            let counted = writes_side(row, column, entry.side) & (value <= o);
+            has_tile(array, row, column) & counted
+        }
     }
-    if group == 5 {
-        let own = in_range(o, 2 * o, value) & (value != diagonal);
-        return has_tile(rows, columns, row, column) & own;
-    }
-    if group == 4 {
-        return has_tile(rows, columns, row, column);
-    }
-    if row >= rows {
-        return false;
-    }
-    if column >= columns {
-        return false;
-    }
-    if group == 3 {
-        return chosen[40 * row + column] != 1;
-    }
-    true
 }
 
-// The offset of the next line; the stage: 1 after the array, 2 to 6 in a group, 7 after the end; the least key that the group may still have.
+// The offset of the next line, the group of the last line, none after the array line, and the least key that this group may still have.
 #[derive(Clone, Copy)]
 pub struct Cursor {
     pub at: usize,
-    pub stage: usize,
+    pub group: Option<Group>,
     pub from: usize,
 }
 
-// Where the next line leads.
-#[derive(Clone, Copy)]
-pub enum Step {
-    To(Cursor),
-    Wrong,
+// The place of an entry among those of its group: by row, then column, then side.
+fn key(entry: Entry) -> usize
+    requires { (entry.row < 100) × (entry.column < 100) × (entry.side < 4) }
+    ensures { result ≡ key_of entry.row entry.column entry.side }
+{
+    4 * (40 * entry.row + entry.column) + entry.side
 }
 
 impl Cursor {
     // Whether a group's line with a key is in turn.
-    fn in_turn(self, group: usize, key: usize) -> bool
-        ensures { result ≡ turn_fits self.stage self.from group key }
+    fn in_turn(self, group: Group, key: usize) -> bool
+        ensures { result ≡ turn_fits (rank (stage_of self.group)) self.from (rank (within (text_group group))) key }
     {
-        if group < self.stage {
-            return false;
+        match self.group {
+            None => true,
+            Some(last) if last == group => self.from <= key,
+            Some(last) => last < group,
         }
-        if group == self.stage {
-            return self.from <= key;
-        }
-        true
     }
 
     // The next line, if it may stand there.
-    pub fn next(
-        self,
-        text: &[u8],
-        rows: usize,
-        columns: usize,
-        o: usize,
-        diagonal: usize,
-        chosen: &[u8; 1600],
-    ) -> Step
-        requires { (self.at ≤ length text.now) × (1 ≤ self.stage) × (self.stage < 7) × (rows ≤ 40) × (columns ≤ 40) × (o ≤ 8) }
-        ensures { Leads text.now self rows columns o diagonal chosen.now result }
+    pub fn next(self, text: &[u8], heading: Heading, chosen: &[u8; 1600]) -> Option<Read<Line>>
+        requires { (self.at ≤ length text.now) × (heading.array.rows ≤ 40) × (heading.array.columns ≤ 40) × (heading.capacities.orthogonal ≤ 8) }
+        ensures { Leads text.now self heading chosen.now result }
     {
-        let at = self.at;
-        match next_line(text, at) {
-            Line::Group {
-                group,
-                row,
-                column,
-                side,
-                value,
-                next,
-            } => {
-                let key = 4 * (40 * row + column) + side;
-                if !self.in_turn(group, key) {
-                    return Step::Wrong;
-                }
-                if !names(
-                    rows, columns, o, diagonal, chosen, group, row, column, side, value,
-                ) {
-                    return Step::Wrong;
-                }
-                Step::To(Cursor {
-                    at: next,
-                    stage: group,
-                    from: key + 1,
-                })
+        let line = next_line(text, self.at)?;
+        if let Line::Tells(entry) = line.value {
+            if !self.in_turn(entry.group, key(entry)) {
+                return None;
             }
-            Line::End { next } => Step::To(Cursor {
-                at: next,
-                stage: 7,
-                from: 0,
-            }),
-            Line::Wrong => Step::Wrong,
+            if !names(heading, chosen, entry) {
+                return None;
+            }
         }
+        Some(line)
     }
 }
 
-// The judgement of a text: a job's, or the offset of the first line that may not stand there.
-pub fn judge(text: &[u8]) -> Judged
+// The judgement of a text: a job's, or its first line that may not stand there.
+pub fn judge(text: &[u8]) -> Result<(), WrongLine>
     ensures { Judges text.now result }
 {
-    let Opening::Array {
-        rows,
-        columns,
-        o,
-        d,
-        e: _,
-        next,
-    } = opened(text)
-    else {
-        return Judged::WrongAt(0);
+    let Some(opening) = opened(text) else {
+        return Err(WrongLine { offset: 0 });
     };
     let mut chosen = [0u8; 1600];
     let mut cursor = Cursor {
-        at: next,
-        stage: 1,
+        at: opening.next,
+        group: None,
         from: 0,
     };
-    while cursor.stage < 7 {
-        let Step::To(then) = cursor.next(text, rows, columns, o, d, &chosen) else {
-            return Judged::WrongAt(cursor.at);
+    loop {
+        let Some(line) = cursor.next(text, opening.value, &chosen) else {
+            return Err(WrongLine { offset: cursor.at });
         };
-        if then.stage == 2 {
-            let cell = then.from / 4;
-            chosen[cell] = 1;
+        let Line::Tells(entry) = line.value else {
+            return if line.next < text.len() {
+                Err(WrongLine { offset: line.next })
+            } else {
+                Ok(())
+            };
+        };
+        if entry.group == Group::Chosen {
+            chosen[40 * entry.row + entry.column] = 1;
         }
-        cursor = then;
+        cursor = Cursor {
+            at: line.next,
+            group: Some(entry.group),
+            from: key(entry) + 1,
+        };
     }
-    if cursor.at < text.len() {
-        return Judged::WrongAt(cursor.at);
-    }
-    Judged::Reads
 }

@@ -1,7 +1,6 @@
 -- The parts of a job's text by their lengths: a number has one digit or two, a line is as long as its parts, and a list made entry by entry has room for
 -- each entry behind those before it. Assumes nothing.
 use mathlib.Core.Path.{◌≡◌, refl, sym, ap, ◌∙◌}
-use mathlib.Core.Logic.{◌≢◌}
 use mathlib.Core.Bool.{Bool, true, false}
 use mathlib.Core.List.{List, [], ◌∷◌, ◌++◌, append_assoc, append-nil}
 use Prim.Native.Nat.{ℕ, zero, suc, ◌+◌, ◌≤◌, ◌<◌}
@@ -9,18 +8,19 @@ use native.Mathlib.Nat.{not-suc-le-zero}
 use native.Mathlib.Numerals.{add-one}
 use native.Mathlib.Omega.{arith}
 use lib.Dec.{eqb}
-use lib.ListN.{length, length-append}
+use lib.ListN.{length, get_or, length-append}
 use Rattle.sums.specs.Counting.{each}
 use Rattle.sums.specs.Tests.{Same, same, other, same?}
 use Rattle.model.specs.Job.{Job}
-use Rattle.model.specs.Text.{Group, chosen_pins, missing_pins, closed_tiles, own_ds, laid_sides, decimal, side_letter, array_line, group_line, end_line, line_bytes, value_at, value_line}
+use Rattle.model.specs.Text.{Group, chosen_pins, missing_pins, closed_tiles, own_ds, laid_sides, decimal, array_line, group_line, end_line, line_bytes, value_at, value_line}
 use Rattle.model.specs.Text.{group_text, text_of, group_of}
 use Rattle.model.proofs.TextNames.{value_line_lem}
+use Rattle.line.specs.declared.group.Group.TheVariants.{Chosen, Missing, Closed, Own, Laid}
+use Rattle.line.specs.Groups.{text_group}
 use Rattle.line.specs.Scan.{two}
 use Rattle.line.specs.Lines.{opening, stop, after_stop}
 use Rattle.writing.specs.Writer.{ended, array_text, line_parts, side_text, cell_text, row_text, groups_text}
-use Rattle.line.proofs.Scanned.{decimal-one, decimal-two}
-use Rattle.line.proofs.Lined.{by_number, group-five, group-bytes, behind-two, pins_part, caps_part, end_part}
+use Rattle.line.proofs.Lined.{group-bytes, behind-two, pins_part, caps_part, end_part}
 
 -- ---- entry by entry
 
@@ -43,17 +43,8 @@ each-room {A} (suc n) i f l = by (eqb i n) (same? i n) (each-room n i f)
 
 -- ---- numbers
 
-pub digits-one : (n : ℕ) → n < 10 → length (decimal n) ≡ 1
-digits-one n l = omega (arith, ap length (decimal-one n [] l), length-append (decimal n) [])
-
-pub digits-two : (n : ℕ) → 10 ≤ n → length (decimal n) ≡ 2
-digits-two n l = omega (arith, ap length (decimal-two n [] l), length-append (decimal n) [])
-
 pub ended-length : (n e : ℕ) → length (ended n e) ≡ length (decimal n) + 1
 ended-length n e = length-append (decimal n) (e ∷ [])
-
-pub two-parts : (a b e : ℕ) → ended a 32 ++ ended b e ≡ two a b e []
-two-parts a b e = append_assoc (decimal a) (32 ∷ []) (ended b e)
 
 pub two-length : (a b e : ℕ) → length (two a b e []) ≡ length (decimal a) + length (decimal b) + 2
 two-length a b e = omega (arith, length-append (decimal a) (32 ∷ ended b e), ended-length b e)
@@ -68,28 +59,6 @@ tail-parts closed_tiles d v X = refl
 tail-parts own_ds d v X = simp append_assoc
 tail-parts laid_sides d v X = simp append_assoc
 
--- it is a number of the own diagonals; where a space stands after the column of another group, a side and a number
-pub tail-own : (n d v : ℕ) → n ≡ 5 → ended v 41 ≡ after_stop (group_of n) d v []
-tail-own n d v e = group-five (λ g. ended v 41 ≡ after_stop g d v []) n e refl
-
-pub tail-laid : (n d v : ℕ) → n ≢ 5 → stop (group_of n) ≡ 32 → (side_letter d ∷ 32 ∷ []) ++ ended v 41 ≡ after_stop (group_of n) d v []
-tail-laid n d v f =
-    by_number (λ g. stop g ≡ 32 → (side_letter d ∷ 32 ∷ []) ++ ended v 41 ≡ after_stop g d v []) n (λ x e. absurd (omega arith)) (λ x e. absurd (omega arith))
-    (λ x e. absurd (omega arith)) (λ x. absurd (f x)) (λ x y z w e. refl)
-
-pub tail_none : (g : Group) (d v : ℕ) → stop g ≢ 32 → [] ≡ after_stop g d v []
-tail_none chosen_pins d v n = refl
-tail_none missing_pins d v n = refl
-tail_none closed_tiles d v n = refl
-tail_none own_ds d v n = absurd (n refl)
-tail_none laid_sides d v n = absurd (n refl)
-
-pub own-counted : (n d v : ℕ) → n ≡ 5 → length (decimal v) + 1 ≡ length (after_stop (group_of n) d v [])
-own-counted n d v e = sym (ended-length v 41) ∙ ap length (tail-own n d v e)
-
-pub laid-counted : (n d v : ℕ) → n ≢ 5 → stop (group_of n) ≡ 32 → 2 + length (decimal v) + 1 ≡ length (after_stop (group_of n) d v [])
-laid-counted n d v f e = omega (arith, ap length (tail-laid n d v f e), ended-length v 41)
-
 line-parts : (g : Group) (r c d v : ℕ) → line_bytes (group_line g r c d v) ≡ line_parts g r c d v
 line-parts g r c d v =
     let X : List ℕ = after_stop g d v (10 ∷ []) in
@@ -97,17 +66,6 @@ line-parts g r c d v =
     sym (append-nil (line_bytes (group_line g r c d v)))
     ∙ (group-bytes g r c d v []
     ∙ ap (λ (Y : List ℕ). opening g ++ Y) (behind-two g r c d v [] ∙ (e ∙ ap (λ (Y : List ℕ). two r c (stop g) [] ++ Y) (tail-parts g d v (10 ∷ [])))))
-
-pub line-counted : (g : Group) (r c d v : ℕ)
-    → length (line_parts g r c d v) ≡ length (opening g) + (length (decimal r) + length (decimal c) + 2) + length (after_stop g d v []) + 1
-line-counted g r c d v =
-    omega (
-      arith,
-      length-append (opening g) (two r c (stop g) [] ++ (after_stop g d v [] ++ (10 ∷ []))),
-      length-append (two r c (stop g) []) (after_stop g d v [] ++ (10 ∷ [])),
-      length-append (after_stop g d v []) (10 ∷ []),
-      two-length r c (stop g),
-    )
 
 -- the array line: what follows O, the word of the caps, the pins, the first word
 abbrev pub after_o : ℕ → ℕ → List ℕ
@@ -159,6 +117,16 @@ side-none K g r c d n e l =
 pub group-rows : (K : Job) (g : Group) → each K.rows (row_text K g) ≡ group_text K g
 unfolding row_text cell_text side_text
 group-rows K g = refl
+
+-- the groups in their order are those of the ranks from 2
+pub in-order : (k : ℕ) → k < 5 → text_group (get_or (Chosen ∷ Missing ∷ Closed ∷ Own ∷ Laid ∷ []) k Chosen) ≡ group_of (2 + k)
+unfolding group_of
+in-order zero l = refl
+in-order (suc zero) l = refl
+in-order (suc (suc zero)) l = refl
+in-order (suc (suc (suc zero))) l = refl
+in-order (suc (suc (suc (suc zero)))) l = refl
+in-order (suc (suc (suc (suc (suc k))))) l = absurd (omega arith)
 
 -- ---- the text
 

@@ -1,2 +1,3 @@
 -- the text of a job in an output
 pub mod Writer
+pub mod Output

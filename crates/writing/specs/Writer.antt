@@ -1,6 +1,6 @@
 -- What is written of a job: the parts of its text, cell by cell, what a part put at an offset of an output leaves there, and the paper's answer for each
 -- outcome of writing. Assumes nothing.
-use Rattle.std.specs.Prelude.{◌≡◌, List, [], ◌∷◌, ◌++◌, ℕ, ◌+◌, ◌≤◌, length}
+use Rattle.std.specs.Prelude.{◌≡◌, List, [], ◌∷◌, ◌++◌, Option, Some, None, ℕ, ◌+◌, ◌≤◌, length}
 use Rattle.std.proofs.lemmas.List.Edits.{sets}
 use Rattle.sums.specs.Counting.{each}
 use Rattle.model.specs.Job.{Job, Proper}
@@ -9,8 +9,6 @@ use Rattle.model.specs.Text.{Group, decimal, array_line, line_bytes, value_at, v
 use Rattle.model.specs.Calls.{Answer, refused, wrote, After, after}
 use Rattle.line.specs.Scan.{two}
 use Rattle.line.specs.Lines.{opening, stop, after_stop}
-use Rattle.writing.specs.declared.writer.Written.{Written}
-use Rattle.writing.specs.declared.writer.Written.TheVariants.{Wrote, Short}
 
 -- ---- the parts of a text
 
@@ -58,10 +56,10 @@ pub record Puts (out : List ℕ) (at : ℕ) (part : List ℕ) (out' : List ℕ) 
   pub past : next ≡ at + length part
 
 -- "7 output shorter than the text. Gives the length."
-abbrev pub answer_of : Written → Answer
-answer_of (Wrote n) = wrote n
-answer_of Short = refused 7
+abbrev pub answer_of : Option ℕ → Answer
+answer_of (Some n) = wrote n
+answer_of None = refused 7
 
 -- the answer, the record and the output afterwards
-abbrev pub wrote_text : Written → List ℕ → List ℕ → After
+abbrev pub wrote_text : Option ℕ → List ℕ → List ℕ → After
 wrote_text r rec out = after (answer_of r) rec [] out

@@ -4,11 +4,13 @@ ghost use Rattle.sums.specs.Counting.{when};
 ghost use Rattle.model.specs.Job.{is_tile};
 ghost use Rattle.model.specs.Record.{job_of};
 ghost use Rattle.model.specs.Text.{laid_sides, decimal, value_at, group_text, text_of, group_of};
-ghost use Rattle.line.specs.Lines.{opening, after_stop};
+ghost use Rattle.line.specs.Groups.{text_group};
+ghost use Rattle.line.specs.Lines.{after_stop};
 ghost use Rattle.writing.specs.Writer.{array_text, line_parts, side_text, cell_text, row_text, groups_text, Sized};
 
-use line::lines::{stop_of, writes_side};
-use line::words::{ARRAY, ARRAY_END, CAPS, CHOSEN, CLOSED, END, GROUP_END, LAID, MISSING, OWN};
+use line::group::Group;
+use line::lines::writes_side;
+use line::words::{ARRAY, ARRAY_END, CAPS, END, GROUP_END};
 
 // The digits of a number.
 fn digits(n: usize) -> usize
@@ -50,74 +52,56 @@ fn laid_at(rec: &[u8], row: usize, column: usize, side: usize) -> usize
 }
 
 // The value that the job has in a group, at a pin or tile and on a side: 0 for none.
+pub fn value_in(rec: &[u8], group: Group, row: usize, column: usize, side: usize) -> usize
+    requires { Sized rec.now × (side < 4) }
+    ensures { result ≡ value_at (job_of rec.now) (text_group group) row column side }
+{
+    match group {
+        Group::Chosen => number_if((side == 0) & channel::is_chosen(rec, row, column), 1),
+        Group::Missing => number_if((side == 0) & channel::is_missing(rec, row, column), 2),
+        Group::Closed => {
+            let closed = channel::is_tile(rec, row, column)
+                & (channel::state_of(rec, row, column) == 1);
+            number_if((side == 0) & closed, 1)
+        }
+        Group::Own => number_if(side == 0, own_at(rec, row, column)),
+        Group::Laid => laid_at(rec, row, column, side),
+    }
+}
+
+// The same in the group of a rank.
 pub fn value_at(rec: &[u8], group: usize, row: usize, column: usize, side: usize) -> usize
     requires { Sized rec.now × (side < 4) }
     ensures { result ≡ value_at (job_of rec.now) (group_of group) row column side }
 {
-    if group == 2 {
-        return number_if((side == 0) & channel::is_chosen(rec, row, column), 1);
-    }
-    if group == 3 {
-        return number_if((side == 0) & channel::is_missing(rec, row, column), 2);
-    }
-    if group == 4 {
-        let closed = channel::is_tile(rec, row, column)
-            & (channel::state_of(rec, row, column) == 1);
-        return number_if((side == 0) & closed, 1);
-    }
-    if group == 5 {
-        return number_if(side == 0, own_at(rec, row, column));
-    }
-    laid_at(rec, row, column, side)
-}
-
-// The length of a group's first word, with its parenthesis and its space.
-fn count_opening(group: usize) -> usize
-    ensures { (result ≡ length (opening (group_of group))) × (result ≤ 9) }
-{
-    if group == 2 {
-        return CHOSEN.len();
-    }
-    if group == 3 {
-        return MISSING.len();
-    }
-    if group == 4 {
-        return CLOSED.len();
-    }
-    if group == 5 {
-        return OWN.len();
-    }
-    LAID.len()
+    value_in(rec, Group::from(group), row, column, side)
 }
 
 // The length of a line's tail behind the byte after the column: nothing, a value, or a side and a value.
-fn count_tail(group: usize, value: usize) -> usize
-    ensures { ((d : ℕ) → result ≡ length (after_stop (group_of group) d value [])) × (result ≤ 5) }
+fn count_tail(group: Group, value: usize) -> usize
+    ensures { ((d : ℕ) → result ≡ length (after_stop (text_group group) d value [])) × (result ≤ 5) }
 {
-    if group == 5 {
-        return digits(value) + 1;
-    }
-    if stop_of(group) == b' ' {
-        2 + digits(value) + 1
-    } else {
-        0
+    match group {
+        Group::Chosen | Group::Missing | Group::Closed => 0,
+        Group::Own => digits(value) + 1,
+        Group::Laid => 2 + digits(value) + 1,
     }
 }
 
 // The length of a group's line.
-fn count_line(group: usize, row: usize, column: usize, value: usize) -> usize
-    ensures { ((d : ℕ) → result ≡ length (line_parts (group_of group) row column d value)) × (result ≤ 32) }
+fn count_line(group: Group, row: usize, column: usize, value: usize) -> usize
+    ensures { ((d : ℕ) → result ≡ length (line_parts (text_group group) row column d value)) × (result ≤ 32) }
 {
     let two = digits(row) + digits(column) + 2;
-    count_opening(group) + two + count_tail(group, value) + GROUP_END.len()
+    group.opening().len() + two + count_tail(group, value) + GROUP_END.len()
 }
 
 // The length of what a group has on a side of a cell: its line, or nothing.
-fn count_side(rec: &[u8], group: usize, row: usize, column: usize, side: usize) -> usize
+fn count_side(rec: &[u8], group: Group, row: usize, column: usize, side: usize) -> usize
     requires { Sized rec.now × (side < 4) }
-    ensures { (result ≡ length (side_text (job_of rec.now) (group_of group) row column side)) × (result ≤ 32) }
+    ensures { (result ≡ length (side_text (job_of rec.now) (text_group group) row column side)) × (result ≤ 32) }
 {
-    let value = value_at(rec, group, row, column, side);
+    let value = value_in(rec, group, row, column, side);
     if value > 0 {
         count_line(group, row, column, value)
     } else {
@@ -126,9 +110,9 @@ fn count_side(rec: &[u8], group: usize, row: usize, column: usize, side: usize) 
 }
 
 // The length of what a group has at a cell, side by side.
-fn count_cell(rec: &[u8], group: usize, row: usize, column: usize) -> usize
+fn count_cell(rec: &[u8], group: Group, row: usize, column: usize) -> usize
     requires { Sized rec.now }
-    ensures { (result ≡ length (cell_text (job_of rec.now) (group_of group) row column)) × (result ≤ 128) }
+    ensures { (result ≡ length (cell_text (job_of rec.now) (text_group group) row column)) × (result ≤ 128) }
 {
     let mut n = 0;
     for side in 0..4 {
@@ -138,9 +122,9 @@ fn count_cell(rec: &[u8], group: usize, row: usize, column: usize) -> usize
 }
 
 // The length of a group's lines of a row.
-fn count_row(rec: &[u8], group: usize, row: usize) -> usize
+fn count_row(rec: &[u8], group: Group, row: usize) -> usize
     requires { Sized rec.now }
-    ensures { (result ≡ length (row_text (job_of rec.now) (group_of group) row)) × (result ≤ 32768) }
+    ensures { (result ≡ length (row_text (job_of rec.now) (text_group group) row)) × (result ≤ 32768) }
 {
     let columns = channel::columns(rec);
     let mut n = 0;
@@ -151,9 +135,9 @@ fn count_row(rec: &[u8], group: usize, row: usize) -> usize
 }
 
 // The length of a group's lines.
-fn count_group(rec: &[u8], group: usize) -> usize
+fn count_group(rec: &[u8], group: Group) -> usize
     requires { Sized rec.now }
-    ensures { (result ≡ length (group_text (job_of rec.now) (group_of group))) × (result ≤ 8388608) }
+    ensures { (result ≡ length (group_text (job_of rec.now) (text_group group))) × (result ≤ 8388608) }
 {
     let rows = channel::rows(rec);
     let mut n = 0;
@@ -169,8 +153,8 @@ fn count_groups(rec: &[u8]) -> usize
     ensures { (result ≡ length (groups_text (job_of rec.now) 5)) × (result ≤ 41943040) }
 {
     let mut n = 0;
-    for k in 0..5 {
-        n += count_group(rec, 2 + k);
+    for &group in &Group::ALL {
+        n += count_group(rec, group);
     }
     n
 }

@@ -2,7 +2,7 @@
 #![tactic(auto)]
 
 pub mod count; // the length of a job's text
-pub mod put; // words and numbers put at an offset
+pub mod output; // words and numbers put in an output
 pub mod writer; // the text of a record's job
 
-pub use writer::{Written, write_text};
+pub use writer::write_text;

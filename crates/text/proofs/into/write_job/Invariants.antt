@@ -8,9 +8,9 @@ use Rattle.model.specs.Text.{reads, Reading}
 use Rattle.text.proofs.Writing.{Writing}
 use Rattle.text.proofs.into.write_job.Given as goal
 
-abbrev pub invariant-loop-group : goal.invariant-loop-group
-invariant-loop-group l =
+abbrev pub invariant-loop-line : goal.invariant-loop-line
+invariant-loop-line l =
     (record_size ≤ length l.initial.rec) × (length l.rec ≡ length l.initial.rec) × (l.at ≤ length l.text) × ((K : Job) → Reading l.text (reads K) → Writing l.text l.initial.rec K l.at l.rec)
 
-abbrev pub decreases-loop-group : goal.decreases-loop-group
-decreases-loop-group l = length l.text - l.at
+abbrev pub decreases-loop-line : goal.decreases-loop-line
+decreases-loop-line l = length l.text - l.at

@@ -5,13 +5,10 @@ use native.Mathlib.Omega.{arith}
 use lib.ListN.{length}
 use Rattle.sums.specs.Counting.{each}
 use Rattle.model.specs.Record.{job_of}
-use Rattle.model.specs.Text.{group_of}
+use Rattle.line.specs.Groups.{text_group}
 use Rattle.writing.specs.Writer.{side_text, cell_text}
 use Rattle.writing.proofs.Counted.{each-length}
 use Rattle.writing.proofs.count.count_cell.Goals as goal
-
-pub overflow_add-n : goal.overflow_add-n
-overflow_add-n c = omega (arith, c.count_side-n.ensures.1)
 
 pub loop-side-init : goal.loop-side-init
 unfolding each
@@ -22,7 +19,7 @@ loop-side-preserved c =
     let l = c.loop-side in
     let a = c.args in (
       omega arith,
-      omega (arith, l.invariant.1, c.count_side-n.ensures.0, each-length l.side (side_text (job_of a.rec.now) (group_of a.group) a.row a.column)),
+      omega (arith, l.invariant.1, c.count_side-n.ensures.0, each-length l.side (side_text (job_of a.rec.now) (text_group a.group) a.row a.column)),
       omega (arith, c.count_side-n.ensures.1),
     )
 
@@ -32,4 +29,4 @@ returns c =
     let l = c.loop-side in
     let a = c.args in
     let e : l.side ≡ 4 = omega arith in
-    (l.invariant.1 ∙ ap (λ (n : ℕ). length (each n (side_text (job_of a.rec.now) (group_of a.group) a.row a.column))) e, omega arith)
+    (l.invariant.1 ∙ ap (λ (n : ℕ). length (each n (side_text (job_of a.rec.now) (text_group a.group) a.row a.column))) e, omega arith)

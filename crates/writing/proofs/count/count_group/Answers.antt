@@ -5,13 +5,10 @@ use native.Mathlib.Omega.{arith}
 use lib.ListN.{length}
 use Rattle.sums.specs.Counting.{each}
 use Rattle.model.specs.Record.{job_of}
-use Rattle.model.specs.Text.{group_of}
+use Rattle.line.specs.Groups.{text_group}
 use Rattle.writing.specs.Writer.{row_text}
 use Rattle.writing.proofs.Counted.{each-length, group-rows}
 use Rattle.writing.proofs.count.count_group.Goals as goal
-
-pub overflow_add-n : goal.overflow_add-n
-overflow_add-n c = omega (arith, c.rows-rows.ensures.1, c.count_row-n.ensures.1)
 
 pub loop-row-init : goal.loop-row-init
 unfolding each
@@ -22,7 +19,7 @@ loop-row-preserved c =
     let l = c.loop-row in
     let a = c.args in (
       omega arith,
-      omega (arith, l.invariant.1, c.count_row-n.ensures.0, each-length l.row (row_text (job_of a.rec.now) (group_of a.group))),
+      omega (arith, l.invariant.1, c.count_row-n.ensures.0, each-length l.row (row_text (job_of a.rec.now) (text_group a.group))),
       omega (arith, c.count_row-n.ensures.1),
     )
 
@@ -31,7 +28,7 @@ returns c =
     let l = c.loop-row in
     let a = c.args in
     let e : l.row ≡ c.rows-rows.result = omega arith in (
-      l.invariant.1 ∙ (ap (λ (n : ℕ). length (each n (row_text (job_of a.rec.now) (group_of a.group)))) (e ∙ c.rows-rows.ensures.0)
-          ∙ ap length (group-rows (job_of a.rec.now) (group_of a.group))),
+      l.invariant.1 ∙ (ap (λ (n : ℕ). length (each n (row_text (job_of a.rec.now) (text_group a.group)))) (e ∙ c.rows-rows.ensures.0)
+          ∙ ap length (group-rows (job_of a.rec.now) (text_group a.group))),
       omega (arith, c.rows-rows.ensures.1),
     )

@@ -6,5 +6,5 @@ use Rattle.model.specs.Record.{job_of}
 use Rattle.writing.specs.Writer.{groups_text}
 use Rattle.writing.proofs.count.count_groups.Given as goal
 
-abbrev pub invariant-loop-k : goal.invariant-loop-k
-invariant-loop-k l = (l.k ≤ 5) × (l.n ≡ length (groups_text (job_of l.rec) l.k)) × (l.n ≤ 8388608 * l.k)
+abbrev pub invariant-loop-group : goal.invariant-loop-group
+invariant-loop-group l = (l.group-index ≤ 5) × (l.n ≡ length (groups_text (job_of l.rec) l.group-index)) × (l.n ≤ 8388608 * l.group-index)
