@@ -4,6 +4,7 @@ pub mod Near
 -- Laying bytes on a page.
 pub mod Spread
 pub mod Puts
+pub mod Writes
 pub mod Tens
 pub mod Counts
 pub mod Walked

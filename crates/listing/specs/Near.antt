@@ -1,7 +1,7 @@
 -- Document 01, "The listing": the bytes of a short job's listing and of a refusal. `near` are the bytes that Shortfall gives: the byte of kind k of the
 -- cell (r, c) stands at `spot k r c`. Assumes nothing.
-use Rattle.std.specs.Prelude.{◌≡◌, refl, List, [], ◌∷◌, ◌++◌, ℕ, zero, suc, ◌-◌, ◌/◌, ◌%◌, ◌≤◌, eqb, get_or}
-use Rattle.std.proofs.Common.{arith}
+use Rattle.std.specs.Prelude.{◌≡◌, refl, List, [], ◌∷◌, ◌++◌, ℕ, zero, suc, ◌-◌, ◌/◌, ◌%◌, ◌≤◌, ◌<◌, eqb, get_or, Option, Some, None, IfSome}
+use Rattle.std.proofs.Common.{ap, arith}
 use Rattle.sums.specs.Counting.{only}
 use Rattle.model.specs.Job.{Job, is_chosen, is_missing}
 use Rattle.model.specs.Near.{spot}
@@ -85,6 +85,26 @@ near_at J near q = group_lines J near (q / 1600) (q % 1600)
 -- those from q on
 abbrev pub near_from : Job → List ℕ → ℕ → List ℕ
 near_from J near q = spread (near_at J near) q (4800 - q)
+
+-- those from an entry on, and none where there is no entry
+abbrev pub near_left : Job → List ℕ → Option ℕ → List ℕ
+near_left J near None = []
+near_left J near (Some q) = near_from J near q
+
+-- the next entry, 4,800 behind the last
+abbrev pub entry_of : Option ℕ → ℕ
+entry_of None = 4800
+entry_of (Some q) = q
+
+-- a page leads further, and not past the end
+pub near-further : (q : ℕ) (o : Option ℕ) → q < 4800 → IfSome o (λ n. (q < n) × (n < 4800)) → (q < entry_of o) × IfSome o (λ n. n < 4800)
+near-further q None l h = (l, tt)
+near-further q (Some n) l h = h
+
+-- behind the last entry nothing is left
+pub near-done : (J : Job) (near : List ℕ) (q : ℕ) → q ≡ 4800 → near_from J near q ≡ []
+unfolding spread
+near-done J near q e = ap (near_from J near) e
 
 -- "A wrong text prints (refused 6 45), number and offset."
 unfoldable pub refused_listing : ℕ → List ℕ

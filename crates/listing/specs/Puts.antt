@@ -1,6 +1,6 @@
 -- Bytes laid on a page one after another. Assumes nothing.
 use Rattle.std.specs.Prelude.{◌≡◌, refl, Bool, true, false, List, [], ◌∷◌, ◌++◌, ℕ, suc, ◌+◌, ◌≤◌, ◌<◌, length, get_or, set, take, drop}
-use Rattle.std.proofs.Common.{sym, ap, ap₂, subst, ◌∙◌, append-nil, append_assoc, add-zero, add-suc, suc-add, add-one, arith, length-append, take-suc, length-take-le}
+use Rattle.std.proofs.Common.{sym, ap, ap₂, subst, ◌∙◌, drop-drop, append-nil, append_assoc, add-zero, add-suc, suc-add, add-one, arith, length-append, take-suc, length-take-le}
 use Rattle.std.proofs.lemmas.List.Edits.{sets, sets-eq}
 use Rattle.std.proofs.Math.Seq.{length-sets, take-append_seam}
 use Rattle.sums.specs.Counting.{only}
@@ -47,6 +47,15 @@ sets_more w l at k h =
     ap (λ (n : ℕ). set (sets l at (take k w)) (at + n) (get_or w k 0)) (sym (length-take-le k w (omega arith)))
     ∙ (sym (sets-append (take k w) (get_or w k 0 ∷ []) l at) ∙ ap (sets l at) (sym (take-suc w k 0 h) ∙ ap (λ (n : ℕ). take n w) (sym (add-one k))))
 
+-- bytes in place of as many
+pub sets-part : (a k : ℕ) (xs ys : List ℕ) → k ≡ length ys → a + k ≤ length xs → take a xs ++ (ys ++ drop k (drop a xs)) ≡ sets xs a ys
+sets-part a k xs ys e h =
+    let n : a + length ys ≡ a + k = omega arith in
+    sym
+    (sets-eq ys xs a (omega arith)
+    ∙ (append_assoc (take a xs) ys (drop (a + length ys) xs)
+    ∙ ap (λ (r : List ℕ). take a xs ++ (ys ++ r)) (ap (λ (m : ℕ). drop m xs) n ∙ sym (drop-drop k a xs))))
+
 pub puts-length : {bs old new : List ℕ} {at r : ℕ} → Puts bs at old new r → length new ≡ length old
 puts-length {bs} {old} {at = at} P = ap length P.bytes ∙ length-sets old at bs
 
@@ -65,6 +74,10 @@ parts_then {rest = rest} P Q =
 
 pub parts_all : {before rest old new : List ℕ} {at r : ℕ} → Parts before rest at old new r → rest ≡ [] → Puts before at old new r
 parts_all P z = puts-as (sym (P.split ∙ (ap (λ (x : List ℕ). P.bytes ++ x) z ∙ append-nil P.bytes))) P.puts
+
+-- what is left by another name
+pub parts-as : {before rest rest' old new : List ℕ} {at r : ℕ} → rest ≡ rest' → Parts before rest at old new r → Parts before rest' at old new r
+parts-as {before} {at = at} {r = r} e P = record { bytes = P.bytes; puts = P.puts; split = P.split ∙ ap (λ (x : List ℕ). P.bytes ++ x) e }
 
 -- as many as were laid
 pub parts-length : {before rest old new : List ℕ} {at r : ℕ} → Parts before rest at old new r → at + length before ≡ r + length rest

@@ -1,9 +1,9 @@
 -- The pages together are the listing, and what it leaves in an output. Assumes nothing.
-use Rattle.std.specs.Prelude.{◌≡◌, ◌≢◌, Bool, true, false, length, take, drop}
+use Rattle.std.specs.Prelude.{◌≡◌, ◌≢◌, Bool, true, false, length, take, drop, Option, Some, None}
 use Rattle.std.proofs.Math.Path.{refl, ap}
 use Rattle.std.proofs.Common.{sym, ap₂, ◌∙◌, arith, length-append, le-leb, lt-ltb}
 use mathlib.Core.List.{List, [], ◌++◌}
-use Prim.Native.Nat.{ℕ, zero, suc, ◌+◌, ◌/◌, ◌%◌, ◌≤◌, ◌<◌}
+use Prim.Native.Nat.{ℕ, ◌+◌, ◌/◌, ◌%◌, ◌≤◌, ◌<◌}
 use Rattle.std.proofs.lemmas.List.Edits.{sets-eq}
 use Rattle.std.proofs.lemmas.Bool.{lt-leb}
 use Rattle.sums.specs.Counting.{when}
@@ -11,19 +11,19 @@ use Rattle.model.specs.Job.{Job}
 use Rattle.model.specs.Links.{Step}
 use Rattle.model.specs.Record.{job_of, load, over}
 use Rattle.model.specs.Length.{held_length}
-use Rattle.model.specs.Listing.{close, line, pair_line, spread, length_word, mean_word, mean_quotient, mean_rest, wires_line, wires_from, length_line, mean_line, wires_listing}
+use Rattle.model.specs.Listing.{close, line, pair_line, length_word, mean_word, mean_quotient, mean_rest, wires_line, wires_from, length_line, mean_line, wires_listing}
 use Rattle.model.specs.Wires.{wire_count}
 use Rattle.model.specs.Calls.{refused, wrote, After, after, listed_out}
-use Rattle.listing.specs.declared.whole.Listed.{Listed}
-use Rattle.listing.specs.declared.whole.Listed.TheVariants.{Wrote, Short}
 use Rattle.listing.specs.Puts.{Puts, Parts, puts-as, puts_then, puts-page}
-use Rattle.listing.specs.Left.{left, Stands}
+use Rattle.listing.specs.declared.wires.Position.{Position}
+use Rattle.listing.specs.declared.wires.Cursor.{Cursor}
+use Rattle.listing.specs.Left.{index_of, left, left_at}
 use Rattle.listing.specs.Passed.{left-first}
 
 -- "7 output shorter than the text. Gives the length": the answer, the record and the output afterwards
-abbrev pub listed_as : Listed → List ℕ → List ℕ → After
-listed_as (Wrote n) rec out = after (wrote n) rec [] out
-listed_as Short rec out = after (refused 7) rec [] out
+abbrev pub listed_as : Option ℕ → List ℕ → List ℕ → After
+listed_as (Some n) rec out = after (wrote n) rec [] out
+listed_as None rec out = after (refused 7) rec [] out
 
 -- ---- from the first page to the last
 
@@ -32,35 +32,35 @@ module _ (J : Job) (f : Step → ℕ) where
   abbrev pub total_lines : List ℕ
   total_lines = length_line J f ++ mean_line J f
 
+  -- what is left at the first cursor is all
+  first-left : (c : Cursor) → c.cell ≡ 0 → c.inside ≡ None → left_at J f (Some c) ≡ wires_from J f 0
+  first-left c a b = ap₂ (λ (p : ℕ) (o : Option Position). left J f p (index_of o)) a b ∙ left-first J f 0 0 refl
+
   -- the first line, all wires, and the lines behind them
-  listing-first : (p i : ℕ) → p ≡ 0 → i ≡ 0 → wires_listing J f ≡ wires_line J f ++ (left J f p i ++ total_lines)
+  pub listing-first : (c : Cursor) → c.cell ≡ 0 → c.inside ≡ None → wires_listing J f ≡ wires_line J f ++ (left_at J f (Some c) ++ total_lines)
   unfolding wires_listing
-  listing-first p i a b = ap (λ (l : List ℕ). wires_line J f ++ (l ++ total_lines)) (sym (left-first J f p i b ∙ ap (wires_from J f) a))
+  listing-first c a b = ap (λ (l : List ℕ). wires_line J f ++ (l ++ total_lines)) (sym (first-left c a b))
 
   -- the first line is laid; so much is left
-  pub listing-begun : {at r p i : ℕ} {old new : List ℕ} → p ≡ 0 → i ≡ 0 → Puts (wires_line J f) at old new r
-      → r + (length (left J f p i) + length total_lines) ≡ at + length (wires_listing J f)
-  listing-begun {p = p} {i = i} a b P =
+  pub listing-begun : {at r : ℕ} {c : Cursor} {old new : List ℕ} → c.cell ≡ 0 → c.inside ≡ None → Puts (wires_line J f) at old new r
+      → r + (length (left_at J f (Some c)) + length total_lines) ≡ at + length (wires_listing J f)
+  listing-begun {c = c} a b P =
       omega (
         arith,
         P.next,
-        ap length (listing-first p i a b),
-        length-append (wires_line J f) (left J f p i ++ total_lines),
-        length-append (left J f p i) total_lines,
+        ap length (listing-first c a b),
+        length-append (wires_line J f) (left_at J f (Some c) ++ total_lines),
+        length-append (left_at J f (Some c)) total_lines,
       )
 
   -- the first line, all wires and the lines behind them, each laid behind the other
-  pub listing-laid : {at m n r p i : ℕ} {old mid more new : List ℕ} → p ≡ 0 → i ≡ 0 → Puts (wires_line J f) at old mid m → Puts (left J f p i) m mid more n
-      → Puts total_lines n more new r → Puts (wires_listing J f) at old new r
-  listing-laid {p = p} {i = i} a b P Q R = puts-as (sym (listing-first p i a b)) (puts_then P (puts_then Q R))
+  pub listing-laid : {at m n r : ℕ} {c : Cursor} {old mid more new : List ℕ} → c.cell ≡ 0 → c.inside ≡ None → Puts (wires_line J f) at old mid m
+      → Puts (left_at J f (Some c)) m mid more n → Puts total_lines n more new r → Puts (wires_listing J f) at old new r
+  listing-laid {c = c} a b P Q R = puts-as (sym (listing-first c a b)) (puts_then P (puts_then Q R))
 
-  -- behind the last cell nothing is left
-  pub left-done : (rec : List ℕ) (p i d l : ℕ) → Stands rec p i d l → 1600 ≤ p → left J f p i ≡ []
-  unfolding spread
-  left-done rec p zero d l s k =
-      let none : 1600 ≡ p = omega (arith, s.within) in
-      left-first J f p 0 refl ∙ ap (wires_from J f) (sym none)
-  left-done rec p (suc i) d l s k = absurd (omega (arith, (s.inside (omega arith)).cell))
+  -- where there is no cursor nothing is left
+  pub left-done : (c : Option Cursor) → c ≡ None → left_at J f c ≡ []
+  left-done c e = ap (left_at J f) e
 
 -- ---- the mean
 
@@ -105,10 +105,10 @@ module _ (rec out : List ℕ) where
   abbrev picked : Bool → After
   picked b = elim b [ false ↦ after (refused 7) rec [] out | true ↦ after (wrote (length text)) rec [] (over text out) ]
 
-  pub lists-short : length out < length text → listed_as Short rec out ≡ listed_out out rec
+  pub lists-short : length out < length text → listed_as None rec out ≡ listed_out out rec
   lists-short l = sym (ap picked (lt-leb (length text) (length out) l))
 
-  pub lists-whole : {out' : List ℕ} {n : ℕ} → length text ≤ length out → Puts text 0 out out' n → listed_as (Wrote n) rec out' ≡ listed_out out rec
+  pub lists-whole : {out' : List ℕ} {n : ℕ} → length text ≤ length out → Puts text 0 out out' n → listed_as (Some n) rec out' ≡ listed_out out rec
   lists-whole {out'} {n} l p =
       let e : n ≡ length text = omega (arith, p.next) in
       let k : 0 + length text ≡ length text = omega arith in

@@ -7,8 +7,8 @@ pub mod wires; // the wires of a legal record
 pub mod totals; // the total length and the mean, behind the wires
 pub mod whole; // the whole listing in one output
 
-pub use near::{NearFilled, near_page, refused_page, short_page};
+pub use near::{near_page, refused_page, short_page};
 pub use page::Page;
 pub use totals::totals_page;
-pub use whole::{Listed, write};
-pub use wires::{Cursor, Filled, count_page, first_wire, wires_page};
+pub use whole::write;
+pub use wires::{Cursor, Position, count_page, first_wire, wires_page};

@@ -1,106 +1,117 @@
-// Bytes on a page. Each function writes from `at` on and gives the place after what it wrote; every other byte of the page stays.
-ghost use Rattle.std.specs.Prelude.{[], ◌∷◌, ◌+◌, ◌≤◌, ◌<◌, length};
+// A page of bytes, and what is written behind what stands on it: a byte, a word, a number and a line.
+ghost use Rattle.std.specs.Prelude.{◌≡◌, [], ◌∷◌, ◌+◌, ◌≤◌, ◌<◌, length, take};
 ghost use Rattle.model.specs.Listing.{digit, tens, decimal, spaced, line, pair_line};
-ghost use Rattle.listing.specs.Puts.{Puts};
+ghost use Rattle.listing.specs.Writes.{Writes};
 
-pub type Page = [u8; 32768];
-
-// One byte.
-pub fn byte(out: &mut Page, at: usize, b: u8) -> usize
-    requires { at < 32768 }
-    ensures { Puts (b ∷ []) at out.old out.new result }
-{
-    out[at] = b;
-    at + 1
+// A page that is filled from its start.
+#[derive(Drop)]
+pub struct Page {
+    pub bytes: [u8; 32768],
+    pub length: usize,
 }
 
-// The bytes of a word.
-pub fn word(out: &mut Page, at: usize, w: &[u8]) -> usize
-    requires { at + length w.now ≤ 32768 }
-    ensures { Puts w.now at out.old out.new result }
-{
-    let mut k: usize = 0;
-    while k < w.len() {
-        out[at + k] = w[k];
-        k += 1;
+impl Page {
+    // An empty page.
+    pub fn new() -> Page
+        ensures { result.length ≡ 0 }
+    {
+        Page {
+            bytes: [0; 32768],
+            length: 0,
+        }
     }
-    at + w.len()
-}
 
-// The digit of a number at a power of ten, where the number has one there.
-fn digit_at(out: &mut Page, at: usize, n: usize, power: usize) -> usize
-    requires { (at < 32768) × (0 < power) }
-    ensures { Puts (digit power n) at out.old out.new result × (result ≤ at + 1) }
-{
-    if n < power {
-        return at;
+    // The bytes that stand on the page.
+    pub fn filled(&self) -> &[u8]
+        requires { self.now.length ≤ 32768 }
+        ensures { result.now ≡ take self.now.length self.now.bytes }
+    {
+        &self.bytes[..self.length]
     }
-    byte(out, at, (48 + n / power % 10) as u8)
-}
 
-// The digits of a number but for the last, from the power 10^19 down.
-fn tens_of(out: &mut Page, at: usize, n: usize) -> usize
-    requires { at + 19 ≤ 32768 }
-    ensures { Puts (tens 19 n) at out.old out.new result × (result ≤ at + 19) }
-{
-    let mut a = at;
-    let mut k: usize = 19;
-    let mut power: usize = 10000000000000000000;
-    while k > 0 {
-        a = digit_at(out, a, n, power);
-        power /= 10;
-        k -= 1;
+    // One byte.
+    pub fn put_byte(&mut self, b: u8)
+        requires { self.old.length < 32768 }
+        ensures { Writes (b ∷ []) self.old self.new }
+    {
+        self.bytes[self.length] = b;
+        self.length += 1;
     }
-    a
-}
 
-// A number.
-pub fn number(out: &mut Page, at: usize, n: usize) -> usize
-    requires { at + 20 ≤ 32768 }
-    ensures { Puts (decimal n) at out.old out.new result × (result ≤ at + 20) }
-{
-    if n < 100 {
-        let a = digit_at(out, at, n, 10);
-        return byte(out, a, (48 + n % 10) as u8);
+    // The bytes of a word.
+    pub fn put_word(&mut self, w: &[u8])
+        requires { self.old.length + length w.now ≤ 32768 }
+        ensures { Writes w.now self.old self.new }
+    {
+        let end = self.length + w.len();
+        self.bytes[self.length..end].copy_from_slice(w);
+        self.length = end;
     }
-    let a = tens_of(out, at, n);
-    byte(out, a, (48 + n % 10) as u8)
-}
 
-// A space and a number.
-pub fn space_number(out: &mut Page, at: usize, n: usize) -> usize
-    requires { at + 21 ≤ 32768 }
-    ensures { Puts (spaced n) at out.old out.new result × (result ≤ at + 21) }
-{
-    let a = byte(out, at, b' ');
-    number(out, a, n)
-}
+    // The digit of a number at a power of ten, where the number has one there.
+    fn put_digit(&mut self, n: usize, power: usize)
+        requires { (self.old.length < 32768) × (0 < power) }
+        ensures { Writes (digit power n) self.old self.new × (self.new.length ≤ self.old.length + 1) }
+    {
+        if n < power {
+            return;
+        }
+        self.put_byte((48 + n / power % 10) as u8);
+    }
 
-// A line with one number: what stands before it, the number, and the end.
-pub fn number_line(out: &mut Page, at: usize, front: &[u8], n: usize) -> usize
-    requires { (length front.now ≤ 10) × (at + 33 ≤ 32768) }
-    ensures { Puts (line front.now n) at out.old out.new result × (result ≤ at + 33) }
-{
-    let a = word(out, at, front);
-    let b = space_number(out, a, n);
-    word(out, b, b")\n")
-}
+    // The digits of a number but for the last, from the power 10^19 down.
+    fn put_tens(&mut self, n: usize)
+        requires { self.old.length + 19 ≤ 32768 }
+        ensures { Writes (tens 19 n) self.old self.new × (self.new.length ≤ self.old.length + 19) }
+    {
+        let mut power: usize = 10000000000000000000;
+        for _ in 0..19usize {
+            self.put_digit(n, power);
+            power /= 10;
+        }
+    }
 
-// A row and a column, between what stands before and behind them.
-pub fn pair_line(
-    out: &mut Page,
-    at: usize,
-    front: &[u8],
-    row: usize,
-    column: usize,
-    end: &[u8],
-) -> usize
-    requires { (length front.now ≤ 10) × (length end.now ≤ 5) × (at + 57 ≤ 32768) }
-    ensures { Puts (pair_line front.now row column end.now) at out.old out.new result
-        × (result ≤ at + 57) }
-{
-    let a = word(out, at, front);
-    let b = space_number(out, a, row);
-    let c = space_number(out, b, column);
-    word(out, c, end)
+    // A number.
+    pub fn put_number(&mut self, n: usize)
+        requires { self.old.length + 20 ≤ 32768 }
+        ensures { Writes (decimal n) self.old self.new × (self.new.length ≤ self.old.length + 20) }
+    {
+        if n < 100 {
+            self.put_digit(n, 10);
+            self.put_byte((48 + n % 10) as u8);
+            return;
+        }
+        self.put_tens(n);
+        self.put_byte((48 + n % 10) as u8);
+    }
+
+    // A space and a number.
+    pub fn put_spaced(&mut self, n: usize)
+        requires { self.old.length + 21 ≤ 32768 }
+        ensures { Writes (spaced n) self.old self.new × (self.new.length ≤ self.old.length + 21) }
+    {
+        self.put_byte(b' ');
+        self.put_number(n);
+    }
+
+    // A line with one number: what stands before it, the number, and the end.
+    pub fn put_line(&mut self, front: &[u8], n: usize)
+        requires { (length front.now ≤ 10) × (self.old.length + 33 ≤ 32768) }
+        ensures { Writes (line front.now n) self.old self.new × (self.new.length ≤ self.old.length + 33) }
+    {
+        self.put_word(front);
+        self.put_spaced(n);
+        self.put_word(b")\n");
+    }
+
+    // A row and a column, between what stands before and behind them.
+    pub fn put_pair(&mut self, front: &[u8], row: usize, column: usize, end: &[u8])
+        requires { (length front.now ≤ 10) × (length end.now ≤ 5) × (self.old.length + 57 ≤ 32768) }
+        ensures { Writes (pair_line front.now row column end.now) self.old self.new × (self.new.length ≤ self.old.length + 57) }
+    {
+        self.put_word(front);
+        self.put_spaced(row);
+        self.put_spaced(column);
+        self.put_word(end);
+    }
 }

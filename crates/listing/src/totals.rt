@@ -5,7 +5,7 @@ ghost use Rattle.model.specs.Listing.{mean_quotient, mean_rest};
 ghost use Rattle.listing.specs.Puts.{Puts};
 ghost use Rattle.listing.specs.Whole.{total_lines};
 
-use crate::page::{Page, number_line, pair_line};
+use crate::page::Page;
 use crate::wires::count_wires;
 use wire::length::total_length;
 
@@ -29,13 +29,15 @@ fn mean_rest(n: usize, w: usize) -> usize
     n % w
 }
 
-// The two lines, from the start of the page; gives their length.
-pub fn totals_page(rec: &[u8], out: &mut Page) -> usize
+// The two lines, from the start of the page.
+pub fn totals_page(rec: &[u8], page: &mut Page)
     requires { Legal rec.now }
-    ensures { Puts (total_lines (job_of rec.now) (load rec.now)) 0 out.old out.new result × (result ≤ 90) }
+    ensures { Puts (total_lines (job_of rec.now) (load rec.now)) 0 page.old.bytes page.new.bytes page.new.length
+        × (page.new.length ≤ 90) }
 {
     let n = total_length(rec);
     let w = count_wires(rec);
-    let a = number_line(out, 0, b"(length", n);
-    pair_line(out, a, b"(mean", mean(n, w), mean_rest(n, w), b")\n")
+    page.length = 0;
+    page.put_line(b"(length", n);
+    page.put_pair(b"(mean", mean(n, w), mean_rest(n, w), b")\n");
 }

@@ -11,24 +11,14 @@ use crate::page::Page;
 use crate::totals::totals_page;
 use crate::wires::{count_page, first_wire, wires_page};
 
-// What writing a listing came to: its length, or an output that is shorter.
-#[derive(Clone, Copy)]
-pub enum Listed {
-    Wrote(usize),
-    Short,
-}
-
-// The first n bytes of a page, laid into an output.
-fn copy_page(page: &Page, n: usize, out: &mut [u8], at: usize) -> usize
-    requires { (n ≤ 32768) × (n ≤ length page.now) × (at + n ≤ length out.old) }
-    ensures { Puts (take n page.now) at out.old out.new result }
+// What stands on a page, laid into an output from a place on. Gives the place after it.
+fn copy_page(page: &Page, out: &mut [u8], at: usize) -> usize
+    requires { (page.now.length ≤ 32768) × (at + page.now.length ≤ length out.old) }
+    ensures { Puts (take page.now.length page.now.bytes) at out.old out.new result }
 {
-    let mut k: usize = 0;
-    while k < n {
-        out[at + k] = page[k];
-        k += 1;
-    }
-    at + n
+    let end = at + page.length;
+    out[at..end].copy_from_slice(page.filled());
+    end
 }
 
 // The length of the listing.
@@ -36,16 +26,16 @@ fn count_listing(rec: &[u8]) -> usize
     requires { Legal rec.now }
     ensures { result ≡ length (wires_listing (job_of rec.now) (load rec.now)) }
 {
-    let mut page = [0u8; 32768];
-    let mut n = count_page(rec, &mut page);
-    let mut at = first_wire();
-    while at.cell < 1600 {
-        let filled = wires_page(rec, at, &mut page);
-        let next = filled.next;
-        n += filled.length;
-        at = next;
+    let mut page = Page::new();
+    count_page(rec, &mut page);
+    let mut n = page.length;
+    let mut next = Some(first_wire());
+    while let Some(from) = next {
+        next = wires_page(rec, from, &mut page);
+        n += page.length;
     }
-    n + totals_page(rec, &mut page)
+    totals_page(rec, &mut page);
+    n + page.length
 }
 
 // The listing, in an output that has room for it.
@@ -54,28 +44,26 @@ fn put_listing(rec: &[u8], out: &mut [u8]) -> usize
     requires rec_in_bounds { length (wires_listing (job_of rec.now) (load rec.now)) ≤ length out.old }
     ensures { Puts (wires_listing (job_of rec.now) (load rec.now)) 0 out.old out.new result }
 {
-    let mut page = [0u8; 32768];
-    let first = count_page(rec, &mut page);
-    let mut n = copy_page(&page, first, out, 0);
-    let mut at = first_wire();
-    while at.cell < 1600 {
-        let filled = wires_page(rec, at, &mut page);
-        let next = filled.next;
-        n = copy_page(&page, filled.length, out, n);
-        at = next;
+    let mut page = Page::new();
+    count_page(rec, &mut page);
+    let mut n = copy_page(&page, out, 0);
+    let mut next = Some(first_wire());
+    while let Some(from) = next {
+        next = wires_page(rec, from, &mut page);
+        n = copy_page(&page, out, n);
     }
-    let last = totals_page(rec, &mut page);
-    copy_page(&page, last, out, n)
+    totals_page(rec, &mut page);
+    copy_page(&page, out, n)
 }
 
-// The listing of the wires that the record holds, if the output has room for it.
-pub fn write(rec: &[u8], out: &mut [u8]) -> Listed
+// The listing of the wires that the record holds, if the output has room for it: its length, or `None` where the output is shorter.
+pub fn write(rec: &[u8], out: &mut [u8]) -> Option<usize>
     requires { Legal rec.now }
     ensures { listed_as result rec.now out.new ≡ listed_out out.old rec.now }
 {
     let n = count_listing(rec);
     if out.len() < n {
-        return Listed::Short;
+        return None;
     }
-    Listed::Wrote(put_listing(rec, out))
+    Some(put_listing(rec, out))
 }

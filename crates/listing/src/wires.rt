@@ -1,197 +1,168 @@
 // The listing of the wires of a legal record, page by page: the line that counts them, and a line for each chosen pin, each wire walked once. A wire's line may
 // be longer than a page, so pages end between parts. Callers have audited the record.
-ghost use Rattle.std.specs.Prelude.{◌≡◌, ◌+◌, ◌≤◌, ◌<◌, get_or};
+ghost use Rattle.std.specs.Prelude.{◌≡◌, ◌+◌, ◌≤◌, ◌<◌};
 ghost use Rattle.model.specs.Record.{job_of, load, Legal};
 ghost use Rattle.model.specs.Wires.{wire_count};
-ghost use Rattle.model.specs.Listing.{place_lane, part_bytes, wires_line, wires_from};
-ghost use Rattle.channel.specs.Map.Entered.{kind_at};
-ghost use Rattle.wire.specs.Hops.{as_part};
-ghost use Rattle.listing.specs.Letters.{letters};
+ghost use Rattle.model.specs.Listing.{letter_of, place_lane, part_bytes, wires_line, wires_from};
+ghost use Rattle.wire.specs.Hops.{as_kind, as_part};
 ghost use Rattle.listing.specs.Puts.{Puts};
-ghost use Rattle.listing.specs.Left.{Inside, Stands, hop_left, left, ahead, Passes};
+ghost use Rattle.listing.specs.Writes.{Writes};
+ghost use Rattle.listing.specs.Left.{Inside, Stands, hop_left, left_at, ahead, ahead_at, line_start, Passes};
 
-use crate::page::{Page, byte, number_line, pair_line, space_number, word};
-use wire::{Hop, Part, first_hop, next_hop, part_for};
+use crate::page::Page;
+use wire::{Hop, Part, Place, first_hop, next_hop, part_for};
 
-// The letters of the places by kind: r, p, n, e, s, w, c, c.
-const LETTERS: [u8; 8] = [114, 112, 110, 101, 115, 119, 99, 99];
-
-// The letter of a place of this kind.
-fn letter(place: usize) -> u8
-    ensures { result ≡ get_or letters place 0 }
+// The letter of a place.
+fn letter(place: Place) -> u8
+    ensures { result ≡ letter_of (as_kind place) }
 {
-    if place < 8 {
-        return LETTERS[place];
+    match place {
+        Place::Missing => b'r',
+        Place::Pin => b'p',
+        Place::North => b'n',
+        Place::East => b'e',
+        Place::South => b's',
+        Place::West => b'w',
+        Place::Centre => b'c',
     }
-    0
 }
 
 // A place, the lane and the closing parenthesis of a part.
-fn place_lane(out: &mut Page, at: usize, place: usize, lane: usize) -> usize
-    requires { at + 23 ≤ 32768 }
-    ensures { Puts (place_lane (kind_at place) lane) at out.old out.new result × (result ≤ at + 23) }
+fn put_place(page: &mut Page, place: Place, lane: usize)
+    requires { page.old.length + 23 ≤ 32768 }
+    ensures { Writes (place_lane (as_kind place) lane) page.old page.new × (page.new.length ≤ page.old.length + 23) }
 {
-    let a = byte(out, at, letter(place));
-    let b = space_number(out, a, lane);
-    byte(out, b, b')')
+    page.put_byte(letter(place));
+    page.put_spaced(lane);
+    page.put_byte(b')');
 }
 
 // A part of a wire.
-fn put_part(out: &mut Page, at: usize, part: Part) -> usize
-    requires { at + 80 ≤ 32768 }
-    ensures { Puts (part_bytes (as_part part)) at out.old out.new result × (result ≤ at + 80) }
+fn put_part(page: &mut Page, part: Part)
+    requires { page.old.length + 80 ≤ 32768 }
+    ensures { Writes (part_bytes (as_part part)) page.old page.new × (page.new.length ≤ page.old.length + 80) }
 {
-    if let Part::To {
-        row,
-        column,
-        place,
-        lane,
-    } = part
-    {
-        let a = pair_line(out, at, b" (to", row, column, b" ");
-        return place_lane(out, a, place, lane);
+    match part {
+        Part::Unwired | Part::PastTheEnd => {}
+        Part::To {
+            row,
+            column,
+            place,
+            lane,
+        } => {
+            page.put_pair(b" (to", row, column, b" ");
+            put_place(page, place, lane);
+        }
+        Part::Out { side, lane } => {
+            page.put_word(b" (out ");
+            put_place(page, side, lane);
+        }
     }
-    let Part::Out { side, lane } = part else {
-        return at;
-    };
-    let a = word(out, at, b" (out ");
-    place_lane(out, a, side, lane)
 }
 
-// Where a page begins: with the line of a cell's wire, or inside it, with the part of this index, whose hop is the dart and the lane. Cell p is the pin
-// (p / 40, p % 40); the listing ends at cell 1,600.
-#[derive(Clone, Copy)]
+// A part inside a line: its index, which is not 0 where a page begins with it, and its hop.
+#[derive(Clone, Copy, Debug, PartialEq, Eq)]
+pub struct Position {
+    pub index: usize,
+    pub hop: Hop,
+}
+
+// Where a page begins: with the line of a cell's wire, or inside it. Cell p is the pin (p / 40, p % 40).
+#[derive(Clone, Copy, Debug, PartialEq, Eq)]
 pub struct Cursor {
     pub cell: usize,
-    pub index: usize,
-    pub dart: usize,
-    pub lane: usize,
+    pub inside: Option<Position>,
 }
 
-// How much of a page is filled, and where the next one begins.
-#[derive(Clone, Copy)]
-pub struct Filled {
-    pub length: usize,
-    pub next: Cursor,
-}
-
-// The place at which a page is filled up to `at`, and what follows begins with a cell.
-fn before_cell(at: usize, cell: usize) -> Filled
-    ensures { (result.length ≡ at) × (result.next.cell ≡ cell) × (result.next.index ≡ 0) }
+// The cursor at the line of a cell, `None` behind the last cell.
+fn line_start(cell: usize) -> Option<Cursor>
+    ensures { result ≡ line_start cell }
 {
-    Filled {
-        length: at,
-        next: Cursor {
-            cell: cell,
-            index: 0,
-            dart: 0,
-            lane: 0,
-        },
+    if cell < 1600 {
+        return Some(Cursor { cell, inside: None });
     }
+    None
 }
 
-// The part of a hop inside a wire, and the end of the line behind the last.
-fn put_hop(
-    rec: &[u8],
-    cell: usize,
-    index: usize,
-    dart: usize,
-    lane: usize,
-    out: &mut Page,
-    at: usize,
-) -> Filled
-    requires legal { Legal rec.now × Inside rec.now cell index dart lane }
-    requires at_bound { at + 82 ≤ 32768 }
-    ensures passes { Passes rec.now (hop_left (job_of rec.now) (load rec.now) cell index) at out.old out.new
-        result.length result.next.cell result.next.index result.next.dart result.next.lane }
-    ensures length_bound { (result.length ≤ at + 82) × (ahead result.next.cell result.next.index < ahead cell index) }
+// The part at a position inside a wire, and the end of the line behind the last.
+fn put_hop(rec: &[u8], cell: usize, at: Position, page: &mut Page) -> Option<Cursor>
+    requires legal { Legal rec.now × Inside rec.now cell at.index at.hop.dart at.hop.lane }
+    requires page_bound { page.old.length + 82 ≤ 32768 }
+    ensures passes { Passes rec.now (hop_left (job_of rec.now) (load rec.now) cell at.index) page.old.length page.old.bytes
+        page.new.bytes page.new.length result }
+    ensures length_bound { (page.new.length ≤ page.old.length + 82) × (ahead_at result < ahead cell at.index) }
 {
-    let a = put_part(out, at, part_for(rec, dart, lane));
-    let Hop::On { dart: d, lane: l } = next_hop(rec, dart, lane) else {
-        let b = word(out, a, b")\n");
-        return before_cell(b, cell + 1);
+    put_part(page, part_for(rec, at.hop));
+    let Some(hop) = next_hop(rec, at.hop) else {
+        page.put_word(b")\n");
+        return line_start(cell + 1);
     };
-    Filled {
-        length: a,
-        next: Cursor {
-            cell: cell,
-            index: index + 1,
-            dart: d,
-            lane: l,
-        },
-    }
+    let index = at.index + 1;
+    Some(Cursor {
+        cell,
+        inside: Some(Position { index, hop }),
+    })
 }
 
 // The first part of a cell's wire, if it is that of a chosen pin.
-fn put_cell(rec: &[u8], cell: usize, out: &mut Page, at: usize) -> Filled
+fn put_cell(rec: &[u8], cell: usize, page: &mut Page) -> Option<Cursor>
     requires legal { Legal rec.now × (cell < 1600) }
-    requires at_bound { at + 160 ≤ 32768 }
-    ensures passes { Passes rec.now (wires_from (job_of rec.now) (load rec.now) cell) at out.old out.new
-        result.length result.next.cell result.next.index result.next.dart result.next.lane }
-    ensures length_bound { (result.length ≤ at + 160) × (ahead result.next.cell result.next.index < ahead cell 0) }
+    requires page_bound { page.old.length + 160 ≤ 32768 }
+    ensures passes { Passes rec.now (wires_from (job_of rec.now) (load rec.now) cell) page.old.length page.old.bytes
+        page.new.bytes page.new.length result }
+    ensures length_bound { (page.new.length ≤ page.old.length + 160) × (ahead_at result < ahead cell 0) }
 {
     let row = cell / 40;
     let column = cell % 40;
     if !channel::is_chosen(rec, row, column) {
-        return before_cell(at, cell + 1);
+        return line_start(cell + 1);
     }
-    let Hop::On { dart, lane } = first_hop(rec, row, column) else {
-        return before_cell(at, cell + 1);
+    let Some(hop) = first_hop(rec, row, column) else {
+        return line_start(cell + 1);
     };
-    let a = pair_line(out, at, b"(wire (pin", row, column, b")");
-    put_hop(rec, cell, 0, dart, lane, out, a)
+    page.put_pair(b"(wire (pin", row, column, b")");
+    put_hop(rec, cell, Position { index: 0, hop }, page)
 }
 
 // What follows at a cursor: a part, with what stands before it in its line.
-fn put_next(rec: &[u8], from: Cursor, out: &mut Page, at: usize) -> Filled
-    requires legal { Legal rec.now × (from.cell < 1600) × Stands rec.now from.cell from.index from.dart from.lane }
-    requires at_bound { at + 160 ≤ 32768 }
-    ensures passes { Passes rec.now (left (job_of rec.now) (load rec.now) from.cell from.index) at out.old out.new
-        result.length result.next.cell result.next.index result.next.dart result.next.lane }
-    ensures length_bound { (result.length ≤ at + 160) × (ahead result.next.cell result.next.index < ahead from.cell from.index) }
+fn put_next(rec: &[u8], from: Cursor, page: &mut Page) -> Option<Cursor>
+    requires legal { Legal rec.now × Stands rec.now from }
+    requires page_bound { page.old.length + 160 ≤ 32768 }
+    ensures passes { Passes rec.now (left_at (job_of rec.now) (load rec.now) (Some from)) page.old.length page.old.bytes
+        page.new.bytes page.new.length result }
+    ensures length_bound { (page.new.length ≤ page.old.length + 160) × (ahead_at result < ahead_at (Some from)) }
 {
-    if from.index == 0 {
-        return put_cell(rec, from.cell, out, at);
-    }
-    put_hop(rec, from.cell, from.index, from.dart, from.lane, out, at)
+    let Some(at) = from.inside else {
+        return put_cell(rec, from.cell, page);
+    };
+    put_hop(rec, from.cell, at, page)
 }
 
-// The wires from a cursor on, as much as the page takes, from its start.
-pub fn wires_page(rec: &[u8], from: Cursor, out: &mut Page) -> Filled
-    requires { Legal rec.now × (from.cell < 1600) × Stands rec.now from.cell from.index from.dart from.lane }
-    ensures passes { Passes rec.now (left (job_of rec.now) (load rec.now) from.cell from.index) 0 out.old out.new
-        result.length result.next.cell result.next.index result.next.dart result.next.lane }
-    ensures length_bound { (result.length ≤ 32768) × (ahead result.next.cell result.next.index < ahead from.cell from.index) }
+// The wires from a cursor on, as much as the page takes, from its start. Gives where the next page begins, `None` where nothing is left.
+pub fn wires_page(rec: &[u8], from: Cursor, page: &mut Page) -> Option<Cursor>
+    requires { Legal rec.now × Stands rec.now from }
+    ensures passes { Passes rec.now (left_at (job_of rec.now) (load rec.now) (Some from)) 0 page.old.bytes page.new.bytes
+        page.new.length result }
+    ensures length_bound { (page.new.length ≤ 32768) × (ahead_at result < ahead_at (Some from)) }
 {
-    let mut n: usize = 0;
-    let mut at = from;
-    while at.cell < 1600 {
-        if n > 32600 {
-            return Filled {
-                length: n,
-                next: at,
-            };
+    page.length = 0;
+    let mut next = Some(from);
+    while let Some(at) = next {
+        if page.length > 32600 {
+            return next;
         }
-        let put = put_next(rec, at, out, n);
-        let next = put.next;
-        n = put.length;
-        at = next;
+        next = put_next(rec, at, page);
     }
-    Filled {
-        length: n,
-        next: at,
-    }
+    None
 }
 
 // Where the wires begin.
 pub fn first_wire() -> Cursor
-    ensures { (result.cell ≡ 0) × (result.index ≡ 0) }
+    ensures { (result.cell ≡ 0) × (result.inside ≡ None) }
 {
     Cursor {
         cell: 0,
-        index: 0,
-        dart: 0,
-        lane: 0,
+        inside: None,
     }
 }
 
@@ -207,11 +178,13 @@ pub fn count_wires(rec: &[u8]) -> usize
     n
 }
 
-// The first line of the listing, which counts the wires, from the start of the page; gives its length.
-pub fn count_page(rec: &[u8], out: &mut Page) -> usize
+// The first line of the listing, which counts the wires, from the start of the page.
+pub fn count_page(rec: &[u8], page: &mut Page)
     requires { Legal rec.now }
-    ensures { Puts (wires_line (job_of rec.now) (load rec.now)) 0 out.old out.new result × (result ≤ 33) }
+    ensures { Puts (wires_line (job_of rec.now) (load rec.now)) 0 page.old.bytes page.new.bytes page.new.length
+        × (page.new.length ≤ 33) }
 {
     let n = count_wires(rec);
-    number_line(out, 0, b"(wires", n)
+    page.length = 0;
+    page.put_line(b"(wires", n);
 }

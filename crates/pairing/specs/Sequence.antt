@@ -1,10 +1,11 @@
 -- The sequence round a place as the code has it: for each position an end, which is the slot, the lane and the kind as one number. Assumes nothing.
-use Rattle.std.specs.Prelude.{◌≡◌, refl, Bool, true, false, List, [], ◌∷◌, ℕ, zero, suc, ◌+◌, ◌*◌, ◌-◌, ◌/◌, ◌%◌, ◌≤◌, ◌<◌, eqb, ltb, length, get_or, set, replicate}
+use Rattle.std.specs.Prelude.{◌≡◌, refl, Bool, true, false, List, ℕ, zero, suc, ◌+◌, ◌*◌, ◌-◌, ◌/◌, ◌%◌, ◌≤◌, ◌<◌, eqb, ltb, length, map, get_or, set, replicate}
 use Rattle.std.proofs.Common.{sym, ap, subst, ◌∙◌, arith, get_or-set_same, get_or-set_other, lt-ltb, le-ltb, ltb-true, ltb-false, eqb-true}
 use Rattle.std.proofs.Math.Path.{fun_ext}
 use Rattle.std.specs.Bool.{beq}
 use Rattle.std.proofs.lemmas.Bool.{eqb-false}
 use Rattle.model.specs.Pairing.{Pair}
+use Rattle.pairing.specs.declared.Pair.{Pair as Ends}
 use Rattle.pairing.specs.Slots.{start, arrival_pos, departure_pos, arrives_at, arrival-kind, departure-kind, past-kind}
 
 -- the end of the lane i of slot k, which arrives where b is 1 and departs where it is 0
@@ -25,11 +26,12 @@ lane_of e = e % 512 / 2
 abbrev pub arriving : List ℕ → ℕ → Bool
 arriving l p = eqb (get_or l p 0 % 2) 1
 
--- two lists of positions as pairs
-abbrev pub zipped : List ℕ → List ℕ → List Pair
-zipped [] s = []
-zipped (x ∷ f) [] = []
-zipped (x ∷ f) (y ∷ s) = record { fst = x; snd = y } ∷ zipped f s
+-- the pairs of the code
+abbrev pub as_pair : Ends → Pair
+as_pair e = record { fst = e.fst; snd = e.snd }
+
+abbrev pub as_pairs : List Ends → List Pair
+as_pairs = map as_pair
 
 -- e is the end at the position p
 pub data EndAt (a d : ℕ → ℕ) (p e : ℕ) : Type 0 where

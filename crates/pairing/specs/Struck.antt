@@ -1,10 +1,10 @@
--- The rounds of document 01 on the code's arrays: what is left of the positions, those passed and those to come, and the pairs in two rows. Among the
+-- The rounds of document 01 on the code's arrays: what is left of the positions, those passed and those to come, and the pairs in a row. Among the
 -- positions passed no arrival and departure are neighbours, so that the first two that are stand at the seam. Assumes nothing.
-use Rattle.std.specs.Prelude.{◌≡◌, refl, Bool, true, false, not, List, [], ◌∷◌, ◌++◌, ℕ, zero, suc, ◌+◌, ◌*◌, ◌-◌, ◌≤◌, ◌<◌, eqb, length, take, get_or, set}
+use Rattle.std.specs.Prelude.{◌≡◌, refl, Bool, true, false, not, List, [], ◌∷◌, ◌++◌, ℕ, zero, suc, ◌+◌, ◌*◌, ◌-◌, ◌≤◌, ◌<◌, eqb, length, take, drop, get_or, set, Option as Maybe, Some, None}
 use Rattle.std.proofs.Common.{sym, ap, ap₂, subst, ◌∙◌, append_assoc, arith, add-one, take-suc, length-take-le, get_or-set_same, get_or-set_other, take-suc-set, eqb-true, eq-eqb, ne_eqb}
 use Rattle.std.specs.Bool.{beq}
 use Rattle.std.proofs.Math.Option.{Option, none, some}
-use Rattle.std.proofs.Math.Seq.{slice, slice-cons}
+use Rattle.std.proofs.lemmas.List.{length-map, map-append, take_more_set}
 use Rattle.std.proofs.lemmas.Bool.{eqb-false}
 use Rattle.sums.specs.Counting.{sum}
 use Rattle.model.specs.Pairing.{Pair, Struck, keep, strike, rounds, range, pairs_of, partner_in}
@@ -13,36 +13,37 @@ use Rattle.pairing.specs.Levels.{partner-fst, partner-snd, partner-next}
 use Rattle.pairing.specs.Perfect.{Even, Perfect, pairs-all, pairs-perfect}
 use Rattle.pairing.specs.Slots.{start, arrival_pos, departure_pos, arrives_at, start-later, arrival-kind, departure-kind, slots-even}
 use Rattle.pairing.specs.Answer.{partner_of, LaneAt, comes, leaves, Partner, Arrival}
-use Rattle.pairing.specs.Sequence.{slot_of, lane_of, arriving, zipped, EndAt, arrives, departs, Laid, laid-kinds}
+use Rattle.pairing.specs.Sequence.{slot_of, lane_of, arriving, as_pair, as_pairs, EndAt, arrives, departs, Laid, laid-kinds}
+use Rattle.pairing.specs.declared.Pair.{Pair as Ends}
 use Rattle.pairing.specs.declared.Join.{Join}
-use Rattle.pairing.specs.declared.Join.TheVariants.{Pair as Joined, Nothing}
 
 -- what is left of n positions: the first i entries of a list, and all positions from p on
 abbrev pub remaining : ℕ → List ℕ → ℕ → ℕ → List ℕ
 remaining n l i p = take i l ++ range p (n - p)
 
 -- a round's answer with what it leaves
-abbrev pub as_struck : ℕ → Join → List ℕ → Option Struck
-as_struck n (Joined a b k) l = some (record { pair = record { fst = a; snd = b }; rest = remaining n l k (b + 1) })
-as_struck n Nothing l = none
+abbrev pub as_struck : ℕ → Maybe Join → List ℕ → Option Struck
+as_struck n (Some j) l = some (record { pair = as_pair j.pair; rest = remaining n l j.before (j.pair.snd + 1) })
+as_struck n None l = none
 
 abbrev pub Below : ℕ → List ℕ → ℕ → Type 0
 Below n l i = (j : ℕ) → j < i → get_or l j 0 < n
 
 -- what a round leaves is two positions fewer, and the next round can begin after the pair
-abbrev pub Resumes : (ℕ → Bool) → ℕ → ℕ → ℕ → Join → List ℕ → Type 0
-Resumes w i p n (Joined a b k) l = (p ≤ b) × (b < n) × (k + p + 1 ≡ i + b) × Below n l k × (strike w (take k l) ≡ none)
-Resumes w i p n Nothing l = Unit {0}
+abbrev pub Resumes : (ℕ → Bool) → ℕ → ℕ → ℕ → Maybe Join → List ℕ → Type 0
+Resumes w i p n (Some j) l =
+    (p ≤ j.pair.snd) × (j.pair.snd < n) × (j.before + p + 1 ≡ i + j.pair.snd) × Below n l j.before × (strike w (take j.before l) ≡ none)
+Resumes w i p n None l = Unit {0}
 
-pub joined_as : (n : ℕ) (j : Join) (x y k : ℕ) (l : List ℕ) {o : Option Struck} → j ≡ Joined x y k → as_struck n j l ≡ o
-    → some (record { pair = record { fst = x; snd = y }; rest = remaining n l k (y + 1) }) ≡ o
-joined_as n j x y k l e g = ap (λ (z : Join). as_struck n z l) (sym e) ∙ g
+pub joined_as : (n : ℕ) (r : Maybe Join) (j : Join) (l : List ℕ) {o : Option Struck} → r ≡ Some j → as_struck n r l ≡ o
+    → some (record { pair = as_pair j.pair; rest = remaining n l j.before (j.pair.snd + 1) }) ≡ o
+joined_as n r j l e g = ap (λ (z : Maybe Join). as_struck n z l) (sym e) ∙ g
 
-pub resumes-as : (w : ℕ → Bool) (i p n : ℕ) (j : Join) (x y k : ℕ) (l : List ℕ) → j ≡ Joined x y k → Resumes w i p n j l → Resumes w i p n (Joined x y k) l
-resumes-as w i p n j x y k l e = subst (λ (z : Join). Resumes w i p n z l) e
+pub resumes-as : (w : ℕ → Bool) (i p n : ℕ) (r q : Maybe Join) (l : List ℕ) → r ≡ q → Resumes w i p n r l → Resumes w i p n q l
+resumes-as w i p n r q l e = subst (λ (z : Maybe Join). Resumes w i p n z l) e
 
-pub nothing-as : (n : ℕ) (j : Join) (l : List ℕ) {o : Option Struck} → j ≡ Nothing → as_struck n j l ≡ o → none ≡ o
-nothing-as n j l e g = ap (λ (z : Join). as_struck n z l) (sym e) ∙ g
+pub nothing-as : (n : ℕ) (r : Maybe Join) (l : List ℕ) {o : Option Struck} → r ≡ None → as_struck n r l ≡ o → none ≡ o
+nothing-as n r l e g = ap (λ (z : Maybe Join). as_struck n z l) (sym e) ∙ g
 
 -- ---- lists in which no arrival and departure are neighbours
 
@@ -154,64 +155,47 @@ module _ (w : ℕ → Bool) (n : ℕ) (l : List ℕ) (i p : ℕ) (plain : strike
 
 -- ---- the pairs
 
-zipped-last : (f s : List ℕ) (x y : ℕ) → length f ≡ length s → zipped (f ++ (x ∷ [])) (s ++ (y ∷ [])) ≡ zipped f s ++ (record { fst = x; snd = y } ∷ [])
-zipped-last [] [] x y e = refl
-zipped-last [] (b ∷ s) x y e = absurd (omega arith)
-zipped-last (a ∷ f) [] x y e = absurd (omega arith)
-zipped-last (a ∷ f) (b ∷ s) x y e = ap (λ (l : List Pair). record { fst = a; snd = b } ∷ l) (zipped-last f s x y (omega arith))
-
-zipped-length : (f s : List ℕ) → length f ≡ length s → length (zipped f s) ≡ length f
-zipped-length [] s e = refl
-zipped-length (a ∷ f) [] e = absurd (omega arith)
-zipped-length (a ∷ f) (b ∷ s) e = ap suc (zipped-length f s (omega arith))
-
-module _ (f s : List ℕ) (m : ℕ) (fits : m ≤ length f) (fits₂ : m ≤ length s) (p i : ℕ) (here : i < m) where
-  abbrev after : List Pair
-  after = zipped (slice (suc i) m f) (slice (suc i) m s)
-
+module _ (z : List Ends) (p i : ℕ) (x : Ends) (here : drop i z ≡ x ∷ drop (suc i) z) where
   abbrev pub others : ℕ → ℕ
-  others k = partner_in (zipped (slice k m f) (slice k m s)) p
+  others k = partner_in (as_pairs (drop k z)) p
 
-  abbrev this : Pair
-  this = record { fst = get_or f i 0; snd = get_or s i 0 }
+  abbrev after : List Pair
+  after = as_pairs (drop (suc i) z)
 
-  next : zipped (slice i m f) (slice i m s) ≡ this ∷ after
-  next = ap₂ zipped (slice-cons i m f 0 here fits) (slice-cons i m s 0 here fits₂)
+  next : as_pairs (drop i z) ≡ as_pair x ∷ after
+  next = ap as_pairs here
 
-  pub other-fst : p ≡ get_or f i 0 → others i ≡ get_or s i 0
-  other-fst e = ap (λ (l : List Pair). partner_in l p) next ∙ partner-fst this after p (eq-eqb p (get_or f i 0) e)
+  pub other-fst : p ≡ x.fst → others i ≡ x.snd
+  other-fst e = ap (λ (l : List Pair). partner_in l p) next ∙ partner-fst (as_pair x) after p (eq-eqb p x.fst e)
 
-  pub other-snd : ¬ (p ≡ get_or f i 0) → p ≡ get_or s i 0 → others i ≡ get_or f i 0
-  other-snd n e = ap (λ (l : List Pair). partner_in l p) next ∙ partner-snd this after p (ne_eqb p (get_or f i 0) n) (eq-eqb p (get_or s i 0) e)
+  pub other-snd : ¬ (p ≡ x.fst) → p ≡ x.snd → others i ≡ x.fst
+  other-snd n e = ap (λ (l : List Pair). partner_in l p) next ∙ partner-snd (as_pair x) after p (ne_eqb p x.fst n) (eq-eqb p x.snd e)
 
-  pub other-next : ¬ (p ≡ get_or f i 0) → ¬ (p ≡ get_or s i 0) → others i ≡ others (i + 1)
+  pub other-next : ¬ (p ≡ x.fst) → ¬ (p ≡ x.snd) → others i ≡ others (i + 1)
   other-next n o =
       ap (λ (l : List Pair). partner_in l p) next
-      ∙ (partner-next this after p (ne_eqb p (get_or f i 0) n) (ne_eqb p (get_or s i 0) o) ∙ ap others (sym (add-one i)))
+      ∙ (partner-next (as_pair x) after p (ne_eqb p x.fst n) (ne_eqb p x.snd o) ∙ ap others (sym (add-one i)))
 
 -- ---- the rounds
 
 module _ (w : ℕ → Bool) where
   -- m pairs are joined, and the rounds from l on give the others
-  abbrev pub Midway : ℕ → List ℕ → List ℕ → ℕ → List ℕ → Type 0
-  Midway n f s m l = zipped (take m f) (take m s) ++ rounds w (n - m) l ≡ pairs_of w n
+  abbrev pub Midway : ℕ → List Ends → ℕ → List ℕ → Type 0
+  Midway n z m l = as_pairs (take m z) ++ rounds w (n - m) l ≡ pairs_of w n
 
-  pub joined-more : (n m : ℕ) (f s l r : List ℕ) (x y : ℕ) → m < n → m < length f → m < length s
-      → some (record { pair = record { fst = x; snd = y }; rest = r }) ≡ strike w l → Midway n f s m l → Midway n (set f m x) (set s m y) (m + 1) r
-  joined-more n m f s l r x y h hf hs e g =
+  pub joined-more : (n m : ℕ) (z : List Ends) (l r : List ℕ) (x : Ends) → m < n → m < length z
+      → some (record { pair = as_pair x; rest = r }) ≡ strike w l → Midway n z m l → Midway n (set z m x) (m + 1) r
+  joined-more n m z l r x h fits e g =
       let k : n - m ≡ suc (n - (m + 1)) = omega arith in
-      ap₂ (λ (a b : List ℕ). zipped a b ++ rounds w (n - (m + 1)) r)
-      (ap (λ (t : ℕ). take t (set f m x)) (add-one m) ∙ take-suc-set f m x hf)
-      (ap (λ (t : ℕ). take t (set s m y)) (add-one m) ∙ take-suc-set s m y hs)
-      ∙ (ap (λ (a : List Pair). a ++ rounds w (n - (m + 1)) r)
-      (zipped-last (take m f) (take m s) x y (length-take-le m f (omega arith) ∙ sym (length-take-le m s (omega arith))))
-      ∙ (append_assoc (zipped (take m f) (take m s)) _ _
-      ∙ (ap (λ (a : List Pair). zipped (take m f) (take m s) ++ a)
+      ap (λ (a : List Ends). as_pairs a ++ rounds w (n - (m + 1)) r) (take_more_set z m x fits)
+      ∙ (ap (λ (a : List Pair). a ++ rounds w (n - (m + 1)) r) (map-append as_pair (take m z) (x ∷ []))
+      ∙ (append_assoc (as_pairs (take m z)) _ _
+      ∙ (ap (λ (a : List Pair). as_pairs (take m z) ++ a)
       (sym (ap (λ (t : ℕ). rounds w t l) k ∙ rounds-some w (n - (m + 1)) l _ (sym e)))
       ∙ g)))
 
-  pub midway_start : (n : ℕ) (f s l : List ℕ) → Midway n f s 0 (remaining n l 0 0)
-  midway_start n f s l = let z : n - 0 ≡ n = omega arith in ap₂ (λ (k m : ℕ). rounds w k (range 0 m)) z z
+  pub midway_start : (n : ℕ) (z : List Ends) (l : List ℕ) → Midway n z 0 (remaining n l 0 0)
+  midway_start n z l = let q : n - 0 ≡ n = omega arith in ap₂ (λ (k m : ℕ). rounds w k (range 0 m)) q q
 
   rounds-over : (n : ℕ) (l : List ℕ) → strike w l ≡ none → rounds w n l ≡ []
   rounds-over zero l e = refl
@@ -221,21 +205,14 @@ module _ (w : ℕ → Bool) where
   append-none [] = refl
   append-none (p ∷ l) = ap (λ (r : List Pair). p ∷ r) (append-none l)
 
-  pub joined-over : (n m : ℕ) (f s l : List ℕ) → none ≡ strike w l → Midway n f s m l → zipped (take m f) (take m s) ≡ pairs_of w n
-  joined-over n m f s l e g =
-      sym (append-none (zipped (take m f) (take m s)))
-      ∙ (ap (λ (a : List Pair). zipped (take m f) (take m s) ++ a) (sym (rounds-over (n - m) l (sym e))) ∙ g)
+  pub joined-over : (n m : ℕ) (z : List Ends) (l : List ℕ) → none ≡ strike w l → Midway n z m l → as_pairs (take m z) ≡ pairs_of w n
+  joined-over n m z l e g =
+      sym (append-none (as_pairs (take m z))) ∙ (ap (λ (a : List Pair). as_pairs (take m z) ++ a) (sym (rounds-over (n - m) l (sym e))) ∙ g)
 
   -- two positions for each pair
-  pub joined-all : (n m : ℕ) (f s : List ℕ) → m ≤ length f → m ≤ length s → zipped (take m f) (take m s) ≡ pairs_of w n → Even w n → 2 * m ≡ n
-  joined-all n m f s hf hs e even =
-      omega (
-        arith,
-        zipped-length (take m f) (take m s) (length-take-le m f hf ∙ sym (length-take-le m s hs)),
-        length-take-le m f hf,
-        ap length e,
-        pairs-all w n even,
-      )
+  pub joined-all : (n m : ℕ) (z : List Ends) → m ≤ length z → as_pairs (take m z) ≡ pairs_of w n → Even w n → 2 * m ≡ n
+  joined-all n m z fits e even =
+      omega (arith, length-map (take m z) as_pair, length-take-le m z fits, ap length e, pairs-all w n even)
 
 -- ---- the partner
 

@@ -1,5 +1,4 @@
-// The partner of a lane round a place. A place has at most five links, in clockwise order: slots 0 to 4. `arrive` and `depart` say how many lanes arrive
-// and depart on each, 0 where there is no link. The partner of an arriving lane is a departing one, by document 01's rounds: in the sequence of ends round
+// The partner of a lane round a place. A place has at most five links, in clockwise order: slots 0 to 4. The partner of an arriving lane is a departing one, by document 01's rounds: in the sequence of ends round
 // the place the first neighbouring arrival and departure are joined and struck out, until nothing is left. docs/PAIRING.md has the steps beside the paper's.
 #![tactic(auto)]
 
@@ -9,22 +8,36 @@ ghost use Rattle.sums.specs.Counting.{sum};
 ghost use Rattle.model.specs.Pairing.{range, strike, pairs_of, partner_in};
 ghost use Rattle.pairing.specs.Perfect.{Even};
 ghost use Rattle.pairing.specs.Slots.{start};
-ghost use Rattle.pairing.specs.Sequence.{end_of, link_end, slot_of, lane_of, arriving, zipped, Blank, Laid, Differs};
+ghost use Rattle.pairing.specs.Sequence.{end_of, link_end, slot_of, lane_of, arriving, as_pairs, Blank, Laid, Differs};
 ghost use Rattle.pairing.specs.Struck.{as_struck, Below, Resumes};
 ghost use Rattle.pairing.specs.Answer.{lanes, partner_of, LaneAt, Partner, Arrival};
 
 // A lane of the link of a slot.
-#[derive(Clone, Copy)]
+#[derive(Clone, Copy, Debug, PartialEq, Eq)]
 pub struct Lane {
     pub slot: usize,
     pub lane: usize,
 }
 
-// What a round gives: the positions of the two ends that it joins and how many ends are left before them, or that nothing is left to join.
+// How many lanes arrive and depart on the link of each slot, 0 where there is no link.
 #[derive(Clone, Copy)]
-enum Join {
-    Pair { fst: u8, snd: u8, before: usize },
-    Nothing,
+pub struct Lanes {
+    pub arrive: [u8; 5],
+    pub depart: [u8; 5],
+}
+
+// The positions of two ends that are joined.
+#[derive(Clone, Copy)]
+struct Pair {
+    fst: u8,
+    snd: u8,
+}
+
+// What a round joins, and how many ends are left before the pair.
+#[derive(Clone, Copy)]
+struct Join {
+    pair: Pair,
+    before: usize,
 }
 
 fn wide(x: u8) -> usize
@@ -50,15 +63,13 @@ fn lanes_at(counts: &[u8; 5], k: usize) -> usize
 }
 
 // The position at which slot k starts.
-fn start_of(arrive: &[u8; 5], depart: &[u8; 5], k: usize) -> usize
+fn start_of(around: &Lanes, k: usize) -> usize
     requires { k ≤ 5 }
-    ensures { (result ≡ start (lanes arrive.now) (lanes depart.now) k) × (result ≤ 510 * k) }
+    ensures { (result ≡ start (lanes around.now.arrive) (lanes around.now.depart) k) × (result ≤ 510 * k) }
 {
     let mut n: usize = 0;
-    let mut j: usize = 0;
-    while j < k {
-        n += lanes_at(arrive, j) + lanes_at(depart, j);
-        j += 1;
+    for j in 0..k {
+        n += lanes_at(&around.arrive, j) + lanes_at(&around.depart, j);
     }
     n
 }
@@ -83,33 +94,29 @@ fn link_end(slot: usize, come: usize, i: usize) -> u16
 }
 
 // Lays the ends of the link of a slot from a position on. Gives the next position.
-fn lay_link(arrive: &[u8; 5], depart: &[u8; 5], slot: usize, from: usize, ends: &mut [u16]) -> usize
-    requires slot_bound { (slot < 5) × (from ≡ start (lanes arrive.now) (lanes depart.now) slot) × (155 ≤ length ends.old) }
-    requires depart_bound { (start (lanes arrive.now) (lanes depart.now) 5 ≤ 155) × Laid (lanes arrive.now) (lanes depart.now) from ends.old }
-    ensures value { result ≡ start (lanes arrive.now) (lanes depart.now) (slot + 1) }
-    ensures laid { Laid (lanes arrive.now) (lanes depart.now) result ends.new }
+fn lay_link(around: &Lanes, slot: usize, from: usize, ends: &mut [u16]) -> usize
+    requires slot_bound { (slot < 5) × (from ≡ start (lanes around.now.arrive) (lanes around.now.depart) slot) × (155 ≤ length ends.old) }
+    requires depart_bound { (start (lanes around.now.arrive) (lanes around.now.depart) 5 ≤ 155) × Laid (lanes around.now.arrive) (lanes around.now.depart) from ends.old }
+    ensures value { result ≡ start (lanes around.now.arrive) (lanes around.now.depart) (slot + 1) }
+    ensures laid { Laid (lanes around.now.arrive) (lanes around.now.depart) result ends.new }
 {
-    let come = lanes_at(arrive, slot);
-    let all = come + lanes_at(depart, slot);
-    let mut i: usize = 0;
-    while i < all {
+    let come = lanes_at(&around.arrive, slot);
+    let all = come + lanes_at(&around.depart, slot);
+    for i in 0..all {
         ends[from + i] = link_end(slot, come, i);
-        i += 1;
     }
     from + all
 }
 
 // Lays the sequence of ends round the place, link by link. Gives its length.
-fn lay(arrive: &[u8; 5], depart: &[u8; 5], ends: &mut [u16]) -> usize
-    requires { Blank ends.old × (155 ≤ length ends.old) × (start (lanes arrive.now) (lanes depart.now) 5 ≤ 155) }
-    ensures value { result ≡ start (lanes arrive.now) (lanes depart.now) 5 }
-    ensures laid { Laid (lanes arrive.now) (lanes depart.now) result ends.new }
+fn lay(around: &Lanes, ends: &mut [u16]) -> usize
+    requires { Blank ends.old × (155 ≤ length ends.old) × (start (lanes around.now.arrive) (lanes around.now.depart) 5 ≤ 155) }
+    ensures value { result ≡ start (lanes around.now.arrive) (lanes around.now.depart) 5 }
+    ensures laid { Laid (lanes around.now.arrive) (lanes around.now.depart) result ends.new }
 {
     let mut n: usize = 0;
-    let mut k: usize = 0;
-    while k < 5 {
-        n = lay_link(arrive, depart, k, n, ends);
-        k += 1;
+    for k in 0..5 {
+        n = lay_link(around, k, n, ends);
     }
     n
 }
@@ -135,70 +142,63 @@ fn differs(ends: &[u16], left: &[u8], i: usize, p: usize) -> bool
 
 // A round. Left are the first `passed` positions in `left` and all from `next` up to n; no arrival and departure are neighbours among those passed. It goes
 // on past neighbours of one kind to the first arrival and departure, joins these and strikes both out: left are those before and those after them.
-fn round(ends: &[u16], left: &mut [u8], passed: usize, next: usize, n: usize) -> Join
+fn round(ends: &[u16], left: &mut [u8], passed: usize, next: usize, n: usize) -> Option<Join>
     requires passed_le_next { (passed ≤ next) × (next ≤ n) × (n ≤ 155) × (n ≤ length left.old) × (n ≤ length ends.now) }
     requires below { Below n left.old passed × (strike (arriving ends.now) (take passed left.old) ≡ none) }
     ensures left_after { as_struck n result left.new ≡ strike (arriving ends.now) (take passed left.old ++ range next (n - next)) }
     ensures resumes { Resumes (arriving ends.now) passed next n result left.new }
 {
     let mut i = passed;
-    let mut p = next;
-    while p < n {
+    for p in next..n {
         if differs(ends, left, i, p) {
-            let fst = left[i - 1];
-            return Join::Pair {
-                fst: fst,
-                snd: p as u8,
+            return Some(Join {
+                pair: Pair {
+                    fst: left[i - 1],
+                    snd: p as u8,
+                },
                 before: i - 1,
-            };
+            });
         }
         left[i] = p as u8;
         i += 1;
-        p += 1;
     }
-    Join::Nothing
+    None
 }
 
 // Rounds until nothing is left to join: the pairs in the order in which they are joined. Gives their number; where as many lanes arrive as depart, no
 // position is left. Each round begins where the last one struck out: what is left before that has no arrival beside a departure.
-fn join_all(ends: &[u16], n: usize, first: &mut [u8], second: &mut [u8]) -> usize
-    requires { (n ≤ 155) × (n ≤ length ends.now) × (n ≤ 2 * length first.old) × (n ≤ 2 * length second.old) }
-    ensures second_after { zipped (take result first.new) (take result second.new) ≡ pairs_of (arriving ends.now) n }
-    ensures result_value { (Even (arriving ends.now) n → 2 * result ≡ n) × (result ≤ length first.old) × (result ≤ length second.old) }
+fn join_all(ends: &[u16], n: usize, pairs: &mut [Pair]) -> usize
+    requires { (n ≤ 155) × (n ≤ length ends.now) × (n ≤ 2 * length pairs.old) }
+    ensures pairs_after { as_pairs (take result pairs.new) ≡ pairs_of (arriving ends.now) n }
+    ensures result_value { (Even (arriving ends.now) n → 2 * result ≡ n) × (result ≤ length pairs.old) }
 {
     let mut left = [0u8; 155];
     let mut passed: usize = 0;
     let mut next: usize = 0;
     let mut m: usize = 0;
     while next < n {
-        let Join::Pair { fst, snd, before } = round(ends, &mut left, passed, next, n) else {
+        let Some(join) = round(ends, &mut left, passed, next, n) else {
             return m;
         };
-        first[m] = fst;
-        second[m] = snd;
+        pairs[m] = join.pair;
         m += 1;
-        passed = before;
-        next = wide(snd) + 1;
+        passed = join.before;
+        next = wide(join.pair.snd) + 1;
     }
     m
 }
 
-// The other position of the pair that has p, of m pairs; p where none has it.
-fn other_end(first: &[u8], second: &[u8], m: usize, p: usize) -> usize
-    requires { (m ≤ length first.now) × (m ≤ length second.now) }
-    ensures { result ≡ partner_in (zipped (take m first.now) (take m second.now)) p }
+// The other position of the pair that has p; p where none has it.
+fn other_end(pairs: &[Pair], p: usize) -> usize
+    ensures { result ≡ partner_in (as_pairs pairs.now) p }
 {
-    let mut k: usize = 0;
-    while k < m {
-        let fst = wide(first[k]);
-        let snd = wide(second[k]);
-        if p == fst {
-            return snd;
+    for pair in pairs {
+        if p == wide(pair.fst) {
+            return wide(pair.snd);
         }
-        if p == snd {
-            return fst;
+        if p == wide(pair.snd) {
+            return wide(pair.fst);
         }
-        k += 1;
     }
     p
 }
@@ -218,41 +218,38 @@ fn lane_at(ends: &[u16], p: usize) -> Lane
 }
 
 // The lane that is joined with the one at the position p, where as many lanes arrive as depart. At most 31 wires are on a link: a place has at most 155 ends.
-fn joined(arrive: &[u8; 5], depart: &[u8; 5], p: usize) -> Lane
-    requires { (p < start (lanes arrive.now) (lanes depart.now) 5) × (start (lanes arrive.now) (lanes depart.now) 5 ≤ 155) }
-    ensures { sum 5 (lanes arrive.now) ≡ sum 5 (lanes depart.now)
-        → LaneAt (lanes arrive.now) (lanes depart.now) (partner_of (lanes arrive.now) (lanes depart.now) 5 p) result.slot result.lane }
+fn joined(around: &Lanes, p: usize) -> Lane
+    requires { (p < start (lanes around.now.arrive) (lanes around.now.depart) 5) × (start (lanes around.now.arrive) (lanes around.now.depart) 5 ≤ 155) }
+    ensures { sum 5 (lanes around.now.arrive) ≡ sum 5 (lanes around.now.depart)
+        → LaneAt (lanes around.now.arrive) (lanes around.now.depart) (partner_of (lanes around.now.arrive) (lanes around.now.depart) 5 p) result.slot result.lane }
 {
     let mut ends = [0u16; 155];
-    let n = lay(arrive, depart, &mut ends);
-    let mut first = [0u8; 78];
-    let mut second = [0u8; 78];
-    let m = join_all(&ends, n, &mut first, &mut second);
-    lane_at(&ends, other_end(&first, &second, m, p))
+    let n = lay(around, &mut ends);
+    let mut pairs = [Pair { fst: 0, snd: 0 }; 78];
+    let m = join_all(&ends, n, &mut pairs);
+    lane_at(&ends, other_end(&pairs[..m], p))
 }
 
-// The partner of the arriving lane `lane` of slot `slot`.
-pub fn partner(arrive: &[u8; 5], depart: &[u8; 5], slot: usize, lane: usize) -> Lane
-    requires { (slot < 5) × (lane < lanes arrive.now slot) × (start (lanes arrive.now) (lanes depart.now) 5 ≤ 155) }
-    ensures { sum 5 (lanes arrive.now) ≡ sum 5 (lanes depart.now)
-        → Partner (lanes arrive.now) (lanes depart.now) slot lane result.slot result.lane }
+// The partner of an arriving lane.
+pub fn partner(around: &Lanes, lane: Lane) -> Lane
+    requires { (lane.slot < 5) × (lane.lane < lanes around.now.arrive lane.slot) × (start (lanes around.now.arrive) (lanes around.now.depart) 5 ≤ 155) }
+    ensures { sum 5 (lanes around.now.arrive) ≡ sum 5 (lanes around.now.depart)
+        → Partner (lanes around.now.arrive) (lanes around.now.depart) lane.slot lane.lane result.slot result.lane }
 {
     joined(
-        arrive,
-        depart,
-        start_of(arrive, depart, slot) + (lanes_at(arrive, slot) - 1 - lane),
+        around,
+        start_of(around, lane.slot) + (lanes_at(&around.arrive, lane.slot) - 1 - lane.lane),
     )
 }
 
-// The arriving lane whose partner is the departing lane `lane` of slot `slot`.
-pub fn partner_back(arrive: &[u8; 5], depart: &[u8; 5], slot: usize, lane: usize) -> Lane
-    requires { (slot < 5) × (lane < lanes depart.now slot) × (start (lanes arrive.now) (lanes depart.now) 5 ≤ 155) }
-    ensures { sum 5 (lanes arrive.now) ≡ sum 5 (lanes depart.now)
-        → Arrival (lanes arrive.now) (lanes depart.now) slot lane result.slot result.lane }
+// The arriving lane whose partner a departing lane is.
+pub fn partner_back(around: &Lanes, lane: Lane) -> Lane
+    requires { (lane.slot < 5) × (lane.lane < lanes around.now.depart lane.slot) × (start (lanes around.now.arrive) (lanes around.now.depart) 5 ≤ 155) }
+    ensures { sum 5 (lanes around.now.arrive) ≡ sum 5 (lanes around.now.depart)
+        → Arrival (lanes around.now.arrive) (lanes around.now.depart) lane.slot lane.lane result.slot result.lane }
 {
     joined(
-        arrive,
-        depart,
-        start_of(arrive, depart, slot) + (lanes_at(arrive, slot) + lane),
+        around,
+        start_of(around, lane.slot) + (lanes_at(&around.arrive, lane.slot) + lane.lane),
     )
 }

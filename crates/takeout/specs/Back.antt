@@ -1,6 +1,6 @@
 -- From a hop of a wire back to its pin: the hop before it has the lane whose partner it leaves by, and going on from there comes to it again. Where a chosen
 -- pin is left, the hop is the first of that pin's wire. No wire has more than 11,201 hops, so the walk ends. Assumes nothing.
-use Rattle.std.specs.Prelude.{◌≡◌, refl, ◌⊎◌, Bool, true, false, ◌&&◌, List, eqb}
+use Rattle.std.specs.Prelude.{◌≡◌, refl, ◌⊎◌, Bool, true, false, ◌&&◌, List, eqb, Option as Maybe, Some, None}
 use Rattle.std.proofs.Common.{sym, subst, ◌∙◌, inl, inr, eq-eqb}
 use Rattle.std.proofs.Math.Path.{ap}
 use Rattle.std.proofs.Math.Option.{Option, none, some}
@@ -26,10 +26,9 @@ use Rattle.pairing.specs.Answer.{lanes, Arrival}
 use Rattle.pairing.specs.Lanes.{load_of}
 use Rattle.pairing.specs.Onward.{Counts, counts-even, onward-leaves}
 use Rattle.wire.specs.declared.Hop.{Hop as Taken}
-use Rattle.wire.specs.declared.Hop.TheVariants.{End, On}
 use Rattle.wire.specs.Around.{around-leaves}
 use Rattle.wire.specs.Filled.{OnWire, pin-or-entered, pin-first, lane-wired}
-use Rattle.wire.specs.Hops.{hop, Runs, lanes_of}
+use Rattle.wire.specs.Hops.{hop, hop_of, Runs, lanes_of}
 use Rattle.wire.specs.Lengths.{places-few}
 use Rattle.wire.specs.Walks.{run-may, counts-at}
 use Rattle.keep.specs.Staying.{hop-below}
@@ -44,12 +43,13 @@ pub record FirstOf (J : Job) (d : ℕ) : Type 0 where
   pub from : tail J (step_of d) ≡ at pin row column
 
 -- the answer r is the hop before the hop d, i, and it carries a wire; or d, i is the first of a wire
-abbrev pub Precedes : List ℕ → Taken → ℕ → ℕ → Type 0
-Precedes rec End d i = FirstOf (job_of rec) d
-Precedes rec (On e j) d i = Runs rec e j × (onward (job_of rec) (load rec) (some (hop e j)) ≡ some (hop d i))
+abbrev pub Precedes : List ℕ → Maybe Taken → ℕ → ℕ → Type 0
+Precedes rec None d i = FirstOf (job_of rec) d
+Precedes rec (Some h) d i =
+    Runs rec h.dart h.lane × (onward (job_of rec) (load rec) (some (hop_of h)) ≡ some (hop d i))
 
-pub precedes-as : (rec : List ℕ) (r q : Taken) (d i : ℕ) → r ≡ q → Precedes rec r d i → Precedes rec q d i
-precedes-as rec r q d i e = subst (λ (z : Taken). Precedes rec z d i) e
+pub precedes-as : (rec : List ℕ) (r q : Maybe Taken) (d i : ℕ) → r ≡ q → Precedes rec r d i → Precedes rec q d i
+precedes-as rec r q d i e = subst (λ (z : Maybe Taken). Precedes rec z d i) e
 
 -- the x-th cell is that of the pin whose wire has the hop d, i
 pub record Home (rec : List ℕ) (d i x : ℕ) : Type 0 where
@@ -183,7 +183,7 @@ module _ (rec : List ℕ) (g : Legal rec) where
               let z : 8 * exit x + j ≡ d / 8 * 8 + j = omega (arith, place.0) in
               (subst (λ (n : ℕ). n < darts) z a, subst (λ (n : ℕ). T (is_link_dart n)) z b)
 
-          pub goes_before : (e : ℕ) → e ≡ dart_of (turn (step_of (d / 8 * 8 + j))) → Precedes rec (On e q) d i
+          pub goes_before : (e : ℕ) → e ≡ dart_of (turn (step_of (d / 8 * 8 + j))) → Precedes rec (Some (record { dart = e; lane = q })) d i
           goes_before e z =
               let (s, there, l) = came in
               let w : step_of (d / 8 * 8 + j) ≡ s = ap step_of (omega (arith, place.0)) ∙ (slot_step J fits x here j s there).2 in

@@ -87,6 +87,11 @@ module _ (was : List ℕ) (g : Legal was) where
   pub marks-none : (n : ℕ) → Marks was (replicate n 0) []
   marks-none n = record { met = λ q d w t. blank-unmarked n q d t; marked = λ q d w x m k. absurd (Memᴰ.not-nil m) }
 
+  -- marks of places from none on
+  pub marks-from : {xs : List Place} {a b taken : List ℕ} (n : ℕ) → a ≡ replicate n 0 → b ≡ taken → (Marks was a [] → Marks was b xs) → Marks was taken xs
+  marks-from {xs} n e f m =
+      subst (λ (l : List ℕ). Marks was l xs) f (m (subst (λ (l : List ℕ). Marks was l []) (sym e) (marks-none n)))
+
   -- a place more, where the marks added are those of the wires that meet it
   marks-more : (x : Place) (xs : List Place) (a b : List ℕ) → ((q d : ℕ) → T (is_marked a q d) → T (is_marked b q d))
       → ((q d : ℕ) → T (is_wired J f q d) → Meets J f q d x → T (is_marked b q d))

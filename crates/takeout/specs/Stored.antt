@@ -3,7 +3,7 @@ use Rattle.std.specs.Prelude.{◌≡◌, not, ℕ, ◌≤◌, ◌<◌, length}
 use Rattle.std.proofs.Common.{ap, ◌∙◌}
 use mathlib.Core.List.{List, [], ◌∷◌}
 use Rattle.std.proofs.Math.ListN.{set}
-use Rattle.model.specs.Job.{Job, side_of, marked, closed, laid_by, with_own_d}
+use Rattle.model.specs.Job.{Job, Side, side_of, marked, closed, laid_by, with_own_d}
 use Rattle.model.specs.Links.{centre, at, pin_at, Step, Place}
 use Rattle.model.specs.Record.{record_size, mark_plane, state_plane, own_d_plane, offset, job_of, load, Legal, record_of, over}
 use Rattle.channel.specs.Laid.{side_offset, side-inside}
@@ -15,6 +15,10 @@ use Rattle.takeout.specs.Edited.{Marks, left-avoids}
 -- rec' is rec, a copy of the record `was`, without the wires of the pins that are marked
 abbrev pub Unwired : List ℕ → List ℕ → List ℕ → List ℕ → Type 0
 Unwired was taken rec rec' = rec' ≡ over (record_of (job_of was) (left_loads (job_of was) (load was) (λ q d. not (is_marked taken q d)))) rec
+
+-- without the wires of the pins that are marked, those are left that a count n of the side leaves
+pub record LeavesLaid (was taken : List ℕ) (s : Side) (n : ℕ) : Type 0 where
+  pub left : left_loads (job_of was) (load was) (λ q d. not (is_marked taken q d)) ≡ laid_left (job_of was) (load was) s n
 
 -- for any places that the marks are of: the wires that avoid them are left
 pub unwired-avoids : (was taken rec rec' : List ℕ) (xs : List Place) → Legal was → Marks was taken xs → Unwired was taken rec rec'

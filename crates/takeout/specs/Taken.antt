@@ -1,6 +1,6 @@
 -- A wire taken out of a record, hop by hop, as it is listed in a record that is not touched: after n hops each step has as many wires less as the first n
 -- hops go by it. Where the record still has the wire, that much can be taken. Assumes nothing.
-use Rattle.std.specs.Prelude.{◌≡◌, ℕ, ◌+◌, ◌-◌, ◌≤◌, ◌<◌, T, length}
+use Rattle.std.specs.Prelude.{◌≡◌, ℕ, ◌+◌, ◌-◌, ◌≤◌, ◌<◌, T, length, Some, None}
 use Rattle.std.proofs.Common.{sym, ◌∙◌, add-one}
 use Rattle.std.proofs.Math.Path.{ap, subst}
 use Rattle.std.proofs.Math.Option.{Option, none, some}
@@ -16,7 +16,7 @@ use Rattle.model.specs.Wires.{Hop, first_loaded, hop_at, is_wired}
 use Rattle.model.specs.Left.{hop_passes, hops_most, hop_count, wire_uses}
 use Rattle.channel.specs.Map.{step_of, dart_of, laid}
 use Rattle.wire.specs.Hops.{hop, Runs, Takes}
-use Rattle.wire.specs.declared.Hop.TheVariants.{End, On}
+use Rattle.wire.specs.declared.Hop.{Hop as Taken}
 use Rattle.wire.specs.Follow.{none-on}
 use Rattle.wire.specs.Walks.{wired-some}
 use Rattle.wire.specs.Counts.{same_step_lem}
@@ -110,11 +110,11 @@ module _ (was : List ℕ) (r c : ℕ) where
 
     -- ---- the walk
 
-    pub walked-wired : (t : T (is_chosen J r c)) (d j : ℕ) → Takes was (On d j) (first_loaded f (around (at pin r c))) → T (is_wired J f r c)
-    walked-wired t d j v = so (wired-some was g r c t d j v)
+    pub walked-wired : (t : T (is_chosen J r c)) (h : Taken) → Takes was (Some h) (first_loaded f (around (at pin r c))) → T (is_wired J f r c)
+    walked-wired t h v = so (wired-some was g r c t h v)
 
     -- a pin with no first hop
-    pub unwired-out : (rec : List ℕ) → Takes was End (first_loaded f (around (at pin r c))) → TakesOut rec rec
+    pub unwired-out : (rec : List ℕ) → Takes was None (first_loaded f (around (at pin r c))) → TakesOut rec rec
     unfolding hop_at
     unwired-out rec v = walked_all rec rec 0 (omega arith) (sym v.hop) (walked_none rec)
 

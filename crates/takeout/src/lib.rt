@@ -2,7 +2,8 @@
 // as it was, audited, in which wires are followed, and a copy of it that changes.
 #![tactic(auto)]
 
-ghost use Rattle.std.specs.Prelude.{◌+◌, ◌/◌, ◌%◌, ◌≤◌, ◌<◌, ◌≡◌, [], ◌∷◌, T, length};
+ghost use Rattle.std.specs.Prelude.{List, ℕ, ◌+◌, ◌/◌, ◌%◌, ◌≤◌, ◌<◌, ◌≡◌, [], ◌∷◌, T, length, replicate};
+ghost use Rattle.std.specs.Fn.{FnOnceReturnsAtMut};
 ghost use Rattle.model.specs.Job.{is_chosen, marked, closed, side_of, laid_by, with_own_d, with_extra};
 ghost use Rattle.model.specs.Links.{centre, Place, is_place, pin_at, turn, at};
 ghost use Rattle.model.specs.Near.{exit};
@@ -14,7 +15,7 @@ ghost use Rattle.takeout.specs.LeftRecord.{SameRecord};
 ghost use Rattle.takeout.specs.AllTaken.{TakesIf};
 ghost use Rattle.takeout.specs.Marks.{is_marked, Adds, OnLanes, Against, ByEnds, ComesTo};
 ghost use Rattle.takeout.specs.Edited.{Marks};
-ghost use Rattle.takeout.specs.Stored.{Unwired};
+ghost use Rattle.takeout.specs.Stored.{Unwired, LeavesLaid};
 ghost use Rattle.takeout.specs.Missing.{missing_to};
 
 use crate::back::pin_of;
@@ -40,19 +41,15 @@ fn take_out(was: &[u8], rec: &mut [u8], row: usize, column: usize)
     requires { Legal was.now × T (is_chosen (job_of was.now) row column) × (32768 ≤ length rec.old) }
     ensures { TakesOut was.now row column rec.old rec.new }
 {
-    let Hop::On { dart, lane } = first_hop(was, row, column) else {
+    let Some(first) = first_hop(was, row, column) else {
         return;
     };
-    let mut d = dart;
-    let mut l = lane;
+    lessen(rec, first.dart);
+    let mut last = first;
     let mut n: usize = 0;
-    loop {
-        lessen(rec, d);
-        let Hop::On { dart: e, lane: m } = next_hop(was, d, l) else {
-            return;
-        };
-        d = e;
-        l = m;
+    while let Some(hop) = next_hop(was, last) {
+        lessen(rec, hop.dart);
+        last = hop;
         n += 1;
     }
 }
@@ -76,10 +73,8 @@ pub fn take_marked(was: &[u8], rec: &mut [u8], taken: &[u8])
     requires { Legal was.now × (32768 ≤ length rec.old) × SameRecord was.now rec.old × (1600 ≤ length taken.now) }
     ensures { Unwired was.now taken.now rec.old rec.new }
 {
-    let mut i: usize = 0;
-    while i < 1600 {
+    for i in 0..1600 {
         take_if(was, rec, taken, i);
-        i += 1;
     }
 }
 
@@ -89,11 +84,8 @@ fn mark_lanes(was: &[u8], taken: &mut [u8], dart: usize, from: usize)
     ensures { Adds was.now (OnLanes dart from) taken.old taken.new }
 {
     let n = load_along(was, dart);
-    let mut i = from;
-    while i < n {
-        let x = pin_of(was, dart, i);
-        taken[x] = 1;
-        i += 1;
+    for lane in from..n {
+        taken[pin_of(was, Hop { dart, lane })] = 1;
     }
 }
 
@@ -114,10 +106,8 @@ pub fn mark_place(was: &[u8], taken: &mut [u8], u: usize)
     ensures { (x : Place) → T (is_place (job_of was.now) x) → exit x ≡ u
         → Adds was.now (ComesTo (job_of was.now) x) taken.old taken.new }
 {
-    let mut k: usize = 0;
-    while k < 5 {
+    for k in 0..5 {
         mark_slot(was, taken, 8 * u + k);
-        k += 1;
     }
 }
 
@@ -171,15 +161,24 @@ fn mark_centre(was: &[u8], taken: &mut [u8], r: usize, c: usize)
     mark_place(was, taken, 8 * (41 + 40 * r + c) + 7);
 }
 
+// The wires of the pins that `mark` marks taken out of `rec`, a copy of the record. The others stay.
+fn unwire<M: FnOnce(&mut [u8; 1600])>(was: &[u8], rec: &mut [u8], mark: M)
+    requires record { Legal was.now × (32768 ≤ length rec.old) × SameRecord was.now rec.old }
+    requires mark { M.IsAlwaysCallable mark }
+    ensures { (taken : List ℕ) × FnOnceReturnsAtMut M.FnOnce mark (replicate 1600 0) tt taken × Unwired was.now taken rec.old rec.new }
+{
+    let mut taken = [0u8; 1600];
+    mark(&mut taken);
+    take_marked(was, rec, &taken);
+}
+
 // The mark of a pin, in a record from which only the wires that start at the pin or pass it are taken out.
 pub fn mark_keeping(was: &[u8], rec: &mut [u8], r: usize, c: usize, m: usize)
     requires { Legal was.now × (32768 ≤ length rec.old) × SameRecord was.now rec.old × (r < 40) × (c < 40) × (m ≤ 2) }
     ensures { rec.new ≡ over (record_of (marked (job_of was.now) r c m) (mark_left (job_of was.now) (load was.now) r c))
         rec.old }
 {
-    let mut taken = [0u8; 1600];
-    mark_pin(was, &mut taken, r, c);
-    take_marked(was, rec, &taken);
+    unwire(was, rec, |taken| mark_pin(was, taken, r, c));
     set_mark(rec, r, c, m);
 }
 
@@ -189,9 +188,7 @@ pub fn close_keeping(was: &[u8], rec: &mut [u8], r: usize, c: usize, v: usize)
     ensures { rec.new ≡ over (record_of (closed (job_of was.now) r c v) (close_left (job_of was.now) (load was.now) r c))
         rec.old }
 {
-    let mut taken = [0u8; 1600];
-    mark_tile(was, &mut taken, r, c);
-    take_marked(was, rec, &taken);
+    unwire(was, rec, |taken| mark_tile(was, taken, r, c));
     set_state(rec, r, c, v);
 }
 
@@ -201,10 +198,19 @@ pub fn diagonal_keeping(was: &[u8], rec: &mut [u8], r: usize, c: usize, d: usize
     ensures { rec.new ≡ over (record_of (with_own_d (job_of was.now) r c d) (centre_left (job_of was.now) (load was.now) r c))
         rec.old }
 {
-    let mut taken = [0u8; 1600];
-    mark_centre(was, &mut taken, r, c);
-    take_marked(was, rec, &taken);
+    unwire(was, rec, |taken| mark_centre(was, taken, r, c));
     set_own(rec, r, c, d);
+}
+
+// Marks the pins of the wires in the highest lanes of a side: those on which there is none once n wires are laid on it.
+fn mark_highest(was: &[u8], taken: &mut [u8], r: usize, c: usize, side: usize, n: usize)
+    requires { Legal was.now × (1600 ≤ length taken.old) × (r < 39) × (c < 39) × (side ≤ 3) × (n ≤ (job_of was.now).O) }
+    ensures { taken.old ≡ replicate 1600 0 → LeavesLaid was.now taken.new (side_of r c side) n }
+{
+    let limit = orthogonal(was) - n;
+    let dart = 8 * (8 * (41 + 40 * r + c) + 2 + side);
+    mark_lanes(was, taken, dart, limit);
+    mark_lanes(was, taken, step_back(dart), limit);
 }
 
 // The count of a side of a tile, in a record from which only the wires in the side's highest lanes are taken out, just enough.
@@ -214,12 +220,9 @@ pub fn lay_keeping(was: &[u8], rec: &mut [u8], r: usize, c: usize, side: usize, 
     ensures { rec.new ≡ over (record_of (laid_by (job_of was.now) (side_of r c side) n)
         (laid_left (job_of was.now) (load was.now) (side_of r c side) n)) rec.old }
 {
-    let limit = orthogonal(was) - n;
-    let dart = 8 * (8 * (41 + 40 * r + c) + 2 + side);
-    let mut taken = [0u8; 1600];
-    mark_lanes(was, &mut taken, dart, limit);
-    mark_lanes(was, &mut taken, step_back(dart), limit);
-    take_marked(was, rec, &taken);
+    unwire(was, rec, |taken| {
+        mark_highest(was, taken, r, c, side, n)
+    });
     set_laid(rec, r, c, side, n);
 }
 
@@ -237,13 +240,11 @@ fn mark_missing_at(was: &[u8], taken: &mut [u8], i: usize)
 
 // Marks the pins of the wires that pass a missing pin.
 fn mark_missing(was: &[u8], taken: &mut [u8])
-    requires { Legal was.now × (1600 ≤ length taken.old) × Marks was.now taken.old [] }
-    ensures { Marks was.now taken.new (missing_places (job_of was.now)) }
+    requires { Legal was.now × (1600 ≤ length taken.old) }
+    ensures { Marks was.now taken.old [] → Marks was.now taken.new (missing_places (job_of was.now)) }
 {
-    let mut i: usize = 0;
-    while i < 1600 {
+    for i in 0..1600 {
         mark_missing_at(was, taken, i);
-        i += 1;
     }
 }
 
@@ -253,8 +254,6 @@ pub fn extra_keeping(was: &[u8], rec: &mut [u8], e: usize)
     ensures { rec.new ≡ over (record_of (with_extra (job_of was.now) e) (extra_left (job_of was.now) (load was.now)))
         rec.old }
 {
-    let mut taken = [0u8; 1600];
-    mark_missing(was, &mut taken);
-    take_marked(was, rec, &taken);
+    unwire(was, rec, |taken| mark_missing(was, taken));
     set_extra(rec, e);
 }

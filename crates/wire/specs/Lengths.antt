@@ -1,6 +1,6 @@
 -- How long a wire is: one hop more than it meets places, none of which it meets twice, and a job has at most 7 places for each of 1,600 cells. So a walk
 -- along it ends. Assumes nothing.
-use Rattle.std.specs.Prelude.{◌≡◌, List, [], ◌∷◌, ℕ, zero, suc, ◌+◌, ◌*◌, ◌≤◌, ◌<◌, T, length}
+use Rattle.std.specs.Prelude.{◌≡◌, List, [], ◌∷◌, ℕ, zero, suc, ◌+◌, ◌*◌, ◌≤◌, ◌<◌, T, length, Some, None}
 use Rattle.std.proofs.Math.Path.{refl, ap}
 use Rattle.std.proofs.Common.{sym, subst, ◌∙◌, suc-mul, zero-add, arith}
 use Rattle.std.proofs.Math.Option.{none, some}
@@ -19,8 +19,8 @@ use Rattle.sums.specs.Tests.{and_left, and_right}
 use Rattle.wire.specs.Next.{Loaded, hop-may}
 use Rattle.wire.specs.Follow.{Long, longer, long-none, long-short, Goes, comes-out, goes-listed, none-on}
 use Rattle.wire.specs.Places.{when-drop, places-total}
-use Rattle.wire.specs.Hops.{hop, Takes}
-use Rattle.wire.specs.declared.Hop.TheVariants.{End, On}
+use Rattle.wire.specs.Hops.{hop_of, Takes}
+use Rattle.wire.specs.declared.Hop.{Hop as Taken}
 
 -- the wire of the pin (r, c) has n hops
 pub record Hops (J : Job) (f : Step → ℕ) (r c n : ℕ) : Type 0 where
@@ -82,26 +82,26 @@ module _ (rec : List ℕ) (g : Legal rec) (r c : ℕ) where
   abbrev f : Step → ℕ
   f = load rec
 
-  pub none-listed : Takes rec End (first_loaded f (around (at pin r c))) → Hops J f r c 0
+  pub none-listed : Takes rec None (first_loaded f (around (at pin r c))) → Hops J f r c 0
   unfolding hop_at
   none-listed v =
       record { hops = []; wire = λ i. ap (hop_at J f r c) (sym (zero-add i)) ∙ none-on J f g.sound r c 0 i (sym v.hop); number = refl }
 
-  module _ (d j : ℕ) (v : Takes rec (On d j) (first_loaded f (around (at pin r c)))) where
-    walked : (hs : List Hop) × Wire J f r c (hop d j ∷ hs) × (length hs ≤ 11200)
+  module _ (first : Taken) (v : Takes rec (Some first) (first_loaded f (around (at pin r c)))) where
+    walked : (hs : List Hop) × Wire J f r c (hop_of first ∷ hs) × (length hs ≤ 11200)
     unfolding hop_at
     walked =
-        let (hs, w) = comes-out J f g.sound (hop d j) v.runs.loaded in (
+        let (hs, w) = comes-out J f g.sound (hop_of first) v.runs.loaded in (
           hs,
-          goes-listed J f g.sound r c (hop d j) hs (sym v.hop) w,
-          omega (arith, goes-short J f g.sound (hop d j) hs v.runs.loaded w, places-few J g.values.array),
+          goes-listed J f g.sound r c (hop_of first) hs (sym v.hop) w,
+          omega (arith, goes-short J f g.sound (hop_of first) hs v.runs.loaded w, places-few J g.values.array),
         )
 
     pub hops-few : (i : ℕ) (h : Hop) → hop_at J f r c i ≡ some h → i ≤ 11200
-    hops-few i h e = let (hs, w, l) = walked in omega (arith, entry-below (hop d j ∷ hs) i h (sym (w i) ∙ e))
+    hops-few i h e = let (hs, w, l) = walked in omega (arith, entry-below (hop_of first ∷ hs) i h (sym (w i) ∙ e))
 
     pub hops-counted : (i : ℕ) (h : Hop) → hop_at J f r c i ≡ some h → hop_at J f r c (i + 1) ≡ none → Hops J f r c (i + 1)
     hops-counted i h e o =
         let (hs, w, l) = walked in
-        let a : i < length (hop d j ∷ hs) = entry-below (hop d j ∷ hs) i h (sym (w i) ∙ e) in
-        record { hops = hop d j ∷ hs; wire = w; number = omega (arith, entry-end (hop d j ∷ hs) (i + 1) (sym (w (i + 1)) ∙ o)) }
+        let a : i < length (hop_of first ∷ hs) = entry-below (hop_of first ∷ hs) i h (sym (w i) ∙ e) in
+        record { hops = hop_of first ∷ hs; wire = w; number = omega (arith, entry-end (hop_of first ∷ hs) (i + 1) (sym (w (i + 1)) ∙ o)) }

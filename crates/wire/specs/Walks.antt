@@ -1,6 +1,6 @@
 -- The hops that the code takes, of a legal record: the first loaded slot of a pin's exit; and where a wire comes along a dart, the slot and the lane that
 -- `partner` answers for the numbers of lanes of the five slots of the exit there. Assumes nothing.
-use Rattle.std.specs.Prelude.{◌≡◌, refl, Bool, not, ℕ, zero, suc, ◌+◌, ◌-◌, ◌*◌, ◌/◌, ◌%◌, ◌≤◌, ◌<◌, T, ltb, drop}
+use Rattle.std.specs.Prelude.{◌≡◌, refl, Bool, not, ℕ, zero, suc, ◌+◌, ◌-◌, ◌*◌, ◌/◌, ◌%◌, ◌≤◌, ◌<◌, T, ltb, drop, Some, None}
 use Rattle.std.proofs.Math.Path.{sym, ap, ap₂}
 use Rattle.std.proofs.Common.{subst, ◌∙◌, arith, add-one, lt-ltb, le-ltb, ltb-true, ltb-false}
 use Rattle.std.proofs.Math.Bool.{true, false, ◌&&◌}
@@ -22,7 +22,7 @@ use Rattle.channel.specs.Map.{darts, rev, row_of, column_of, step_of, is_link_da
 use Rattle.channel.specs.Map.Steps.{slot_step}
 use Rattle.channel.specs.Map.Places.{chosen-cell}
 use Rattle.channel.specs.Map.Network.Pushed.{turn-turn}
-use Rattle.channel.specs.Map.Entered.{Named, slot-shut, comes-outside, comes-inside, head-slot, head-named, tail-named}
+use Rattle.channel.specs.Map.Entered.{kind_at, Named, slot-shut, comes-outside, comes-inside, head-slot, head-named, tail-named}
 use Rattle.pairing.specs.Slots.{start}
 use Rattle.pairing.specs.Answer.{lanes, lanes-in, Partner}
 use Rattle.pairing.specs.Lanes.{load_of}
@@ -30,9 +30,10 @@ use Rattle.pairing.specs.Onward.{Counts, counts-even, onward-leaves}
 use Rattle.wire.specs.Ways.{way}
 use Rattle.wire.specs.Next.{hop-may, ends-outside}
 use Rattle.wire.specs.Follow.{none-on}
-use Rattle.wire.specs.Hops.{hop, Runs, Takes, lanes_at, lanes_of, as_part}
+use Rattle.wire.specs.Hops.{hop, hop_of, Runs, Takes, lanes_at, lanes_of, as_kind, as_part}
 use Rattle.wire.specs.Five.{lanes-at}
-use Rattle.wire.specs.declared.Hop.TheVariants.{End, On}
+use Rattle.wire.specs.declared.Hop.{Hop as Taken}
+use Rattle.wire.specs.declared.Place.{Place as Kind}
 use Rattle.wire.specs.declared.Part.TheVariants.{Unwired, To, Out, PastTheEnd}
 
 -- ---- how many wires a link has, both ways together
@@ -176,7 +177,7 @@ module _ (rec : List ℕ) (g : Legal rec) where
     ends_at : outside J v ≡ true → head J (step_of d) ≡ the_outside
     ends_at e = comes-outside J fits d r.range r.linked (run-may r) (ap (outside J) (sym lands) ∙ e)
 
-    pub out-ends : outside J v ≡ true → Takes rec End (onward J f (some (hop d i)))
+    pub out-ends : outside J v ≡ true → Takes rec None (onward J f (some (hop d i)))
     out-ends e = record { hop = sym (ends-outside J f g.sound.feasible (hop d i) (ends_at e)); runs = tt }
 
     -- the wire comes to a place, along the step back of the dart b
@@ -219,7 +220,7 @@ module _ (rec : List ℕ) (g : Legal rec) where
           pub answer-five : j < 5
           answer-five = found.slot
 
-          pub goes-next : Takes rec (On (b / 8 * 8 + j) q) (onward J f (some (hop d i)))
+          pub goes-next : Takes rec (Some (record { dart = b / 8 * 8 + j; lane = q })) (onward J f (some (hop d i)))
           goes-next =
               let (t, there, on) =
               onward-leaves f x (lanes arrive) (lanes depart) counts balance (b % 8) i (turn (step_of d)) slot came j q answer in
@@ -248,11 +249,11 @@ module _ (rec : List ℕ) (g : Legal rec) where
   inside-to y (side d) r c i p = refl
 
   module _ (d i : ℕ) (r : Runs rec d i) (v : ℕ) (lands : v ≡ rev d / 8) where
-    pub part_out : outside J v ≡ true → as_part (Out (d / 8 % 8) i) ≡ part_of J f (some (hop d i))
-    part_out e =
+    pub part_out : (k : Kind) → as_kind k ≡ kind_at (d / 8 % 8) → outside J v ≡ true → as_part (Out k i) ≡ part_of J f (some (hop d i))
+    part_out k m e =
         let s = step_of d in
         let o = ends_at d i r v lands e in
-        ap (λ (k : PlaceKind). out k i) (tail-named J fits d r.range r.linked (run-may r) o)
+        ap (λ (k : PlaceKind). out k i) (m ∙ tail-named J fits d r.range r.linked (run-may r) o)
         ∙ sym (ap (λ (y : Place). part_for (tail J s) y.kind y.row y.column i) o)
 
     module _ (inside : outside J v ≡ false) where
@@ -265,10 +266,10 @@ module _ (rec : List ℕ) (g : Legal rec) where
       pub place-grid : 41 ≤ v / 8
       place-grid = named.grid
 
-      pub part-to : (p q : ℕ) → p ≡ row_of (v / 8) → q ≡ column_of (v / 8) → as_part (To p q (v % 8) i) ≡ part_of J f (some (hop d i))
-      part-to p q a b =
+      pub part-to : (p q : ℕ) (k : Kind) → p ≡ row_of (v / 8) → q ≡ column_of (v / 8) → as_kind k ≡ kind_at (v % 8) → as_part (To p q k i) ≡ part_of J f (some (hop d i))
+      part-to p q k a b m =
           let x = head J (step_of d) in
-          (λ j. to ((a ∙ named.row) j) ((b ∙ named.column) j) (named.kind j) i)
+          (λ j. to ((a ∙ named.row) j) ((b ∙ named.column) j) ((m ∙ named.kind) j) i)
           ∙ sym (inside-to (tail J (step_of d)) x.kind x.row x.column i
           (comes-inside J fits d r.range r.linked (run-may r) (ap (outside J) (sym lands) ∙ inside)).0)
 
@@ -290,7 +291,7 @@ module _ (rec : List ℕ) (g : Legal rec) where
       amount : n ≡ f taken.0
       amount = let (s, e, a, b, q) = taken in wires ∙ (when-so (is_link_dart (8 * u + k)) (f (step_of (8 * u + k))) b ∙ ap f q)
 
-      pub first_found : 0 < n → Takes rec (On (8 * u + k) 0) (first_loaded f (around (at pin r c)))
+      pub first_found : 0 < n → Takes rec (Some (record { dart = 8 * u + k; lane = 0 })) (first_loaded f (around (at pin r c)))
       first_found h =
           let (s, e, a, b, q) = taken in
           record {
@@ -308,37 +309,37 @@ module _ (rec : List ℕ) (g : Legal rec) where
           ∙ ap (λ (m : ℕ). first_loaded f (drop m (around (at pin r c)))) (sym (add-one k)))
 
     pub first-none : (k : ℕ) → k ≡ 5 → first_loaded f (around (at pin r c)) ≡ first_loaded f (drop k (around (at pin r c)))
-        → Takes rec End (first_loaded f (around (at pin r c)))
+        → Takes rec None (first_loaded f (around (at pin r c)))
     unfolding first_loaded
     first-none k e so_far = record { hop = sym (so_far ∙ ap (λ (m : ℕ). first_loaded f (drop m (around (at pin r c)))) e); runs = tt }
 
     -- ---- the parts
 
     -- a pin with no first hop is not wired, and one with a first hop is
-    pub wired-none : Takes rec End (first_loaded f (around (at pin r c))) → is_wired J f r c ≡ false
+    pub wired-none : Takes rec None (first_loaded f (around (at pin r c))) → is_wired J f r c ≡ false
     unfolding is_wired departures
     wired-none v =
         ap (λ (b : Bool). is_chosen J r c && b)
         (le-ltb 0 (total (around (at pin r c)) f) (omega (arith, first-empty f (around (at pin r c)) (sym v.hop))))
         ∙ and_comm (is_chosen J r c) false
 
-    pub wired-some : (d j : ℕ) → Takes rec (On d j) (first_loaded f (around (at pin r c))) → is_wired J f r c ≡ true
+    pub wired-some : (h : Taken) → Takes rec (Some h) (first_loaded f (around (at pin r c))) → is_wired J f r c ≡ true
     unfolding is_wired departures
-    wired-some d j v =
+    wired-some h v =
         ap₂ ◌&&◌ (both_ways (is_chosen J r c) true (λ u. tt) (λ u. t))
-        (lt-ltb 0 (total (around (at pin r c)) f) (first_some f (around (at pin r c)) (hop d j) (sym v.hop)))
+        (lt-ltb 0 (total (around (at pin r c)) f) (first_some f (around (at pin r c)) (hop_of h) (sym v.hop)))
 
     -- what Part gives of it
     abbrev part_if : ℕ → Bool → Part
     part_if i b = elim b as (λ z. Part) [ true ↦ part_of J f (hop_at J f r c i) | false ↦ unwired ]
 
-    pub part-unwired : (i : ℕ) → Takes rec End (first_loaded f (around (at pin r c))) → as_part Unwired ≡ part_at J f r c i
+    pub part-unwired : (i : ℕ) → Takes rec None (first_loaded f (around (at pin r c))) → as_part Unwired ≡ part_at J f r c i
     unfolding part_at
     part-unwired i v = ap (part_if i) (sym (wired-none v))
 
-    pub part-wired : (i d j : ℕ) → Takes rec (On d j) (first_loaded f (around (at pin r c))) → part_of J f (hop_at J f r c i) ≡ part_at J f r c i
+    pub part-wired : (i : ℕ) (h : Taken) → Takes rec (Some h) (first_loaded f (around (at pin r c))) → part_of J f (hop_at J f r c i) ≡ part_at J f r c i
     unfolding part_at
-    part-wired i d j v = ap (part_if i) (sym (wired-some d j v))
+    part-wired i h v = ap (part_if i) (sym (wired-some h v))
 
     -- a wire that has ended lists nothing more
     pub part-past : (i n : ℕ) → hop_at J f r c (i + 1) ≡ none → i < n → as_part PastTheEnd ≡ part_of J f (hop_at J f r c n)

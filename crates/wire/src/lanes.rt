@@ -11,6 +11,13 @@ use channel::header::wide;
 use channel::loads::one_way;
 use channel::places::{wires_in, wires_out};
 use channel::table::PLACES;
+use pairing::Lanes;
+
+// No lanes.
+const NONE: Lanes = Lanes {
+    arrive: [0; 5],
+    depart: [0; 5],
+};
 
 // How many wires come and leave by a slot.
 #[derive(Clone, Copy)]
@@ -47,49 +54,46 @@ fn word_at(w: usize, last: usize, k: usize) -> usize
 }
 
 // By the five slots of u, in such a cell, by the words of its kind.
-fn by_words(rec: &[u8], w: usize, last: usize, u: usize, come: &mut [u8; 5], leave: &mut [u8; 5])
-    requires { (32768 ≤ length rec.now) × (41 ≤ u / 8) × (u / 8 < 1600) × SlotWords (u % 8) w last × (length come.old ≡ 5) × (length leave.old ≡ 5) }
-    ensures { (come.new ≡ lanes_of (λ s. load rec.now (turn s)) (u * 8)) × (leave.new ≡ lanes_of (load rec.now) (u * 8)) }
+fn by_words(rec: &[u8], w: usize, last: usize, u: usize) -> Lanes
+    requires { (32768 ≤ length rec.now) × (41 ≤ u / 8) × (u / 8 < 1600) × SlotWords (u % 8) w last }
+    ensures { (result.arrive ≡ lanes_of (λ s. load rec.now (turn s)) (u * 8)) × (result.depart ≡ lanes_of (load rec.now) (u * 8)) }
 {
-    let mut k: usize = 0;
-    while k < 5 {
-        let b = by_word(rec, word_at(w, last, k), u / 8);
-        come[k] = b.come;
-        leave[k] = b.leave;
-        k += 1;
+    let mut around = NONE;
+    for k in 0..5 {
+        let both = by_word(rec, word_at(w, last, k), u / 8);
+        around.arrive[k] = both.come;
+        around.depart[k] = both.leave;
     }
+    around
 }
 
 // In any cell.
-fn anywhere(rec: &[u8], u: usize, come: &mut [u8; 5], leave: &mut [u8; 5])
-    requires { (32768 ≤ length rec.now) × (u < 13128) × (length come.old ≡ 5) × (length leave.old ≡ 5) }
-    ensures { (come.new ≡ lanes_of (λ s. load rec.now (turn s)) (u * 8)) × (leave.new ≡ lanes_of (load rec.now) (u * 8)) }
+fn anywhere(rec: &[u8], u: usize) -> Lanes
+    requires { (32768 ≤ length rec.now) × (u < 13128) }
+    ensures { (result.arrive ≡ lanes_of (λ s. load rec.now (turn s)) (u * 8)) × (result.depart ≡ lanes_of (load rec.now) (u * 8)) }
 {
-    let mut k: usize = 0;
-    while k < 5 {
-        let comes = wires_in(rec, u * 8 + k);
-        let leaves = wires_out(rec, u * 8 + k);
-        come[k] = comes;
-        leave[k] = leaves;
-        k += 1;
+    let mut around = NONE;
+    for k in 0..5 {
+        around.arrive[k] = wires_in(rec, u * 8 + k);
+        around.depart[k] = wires_out(rec, u * 8 + k);
     }
+    around
 }
 
 // The lanes of the five slots of u: n, e, s, w and the centre by the words of their kind.
-pub fn lanes_round(rec: &[u8], u: usize, come: &mut [u8; 5], leave: &mut [u8; 5])
-    requires { (32768 ≤ length rec.now) × (u < 13128) × (length come.old ≡ 5) × (length leave.old ≡ 5) }
-    ensures { (come.new ≡ lanes_of (λ s. load rec.now (turn s)) (u * 8)) × (leave.new ≡ lanes_of (load rec.now) (u * 8)) }
+pub fn lanes_round(rec: &[u8], u: usize) -> Lanes
+    requires { (32768 ≤ length rec.now) × (u < 13128) }
+    ensures { (result.arrive ≡ lanes_of (λ s. load rec.now (turn s)) (u * 8)) × (result.depart ≡ lanes_of (load rec.now) (u * 8)) }
 {
     if (u / 8 < 41) | (1600 <= u / 8) {
-        anywhere(rec, u, come, leave);
-        return;
+        return anywhere(rec, u);
     }
     match u % 8 {
-        2 => by_words(rec, PLACES[4], PLACES[5], u, come, leave),
-        3 => by_words(rec, PLACES[6], PLACES[7], u, come, leave),
-        4 => by_words(rec, PLACES[8], PLACES[9], u, come, leave),
-        5 => by_words(rec, PLACES[10], PLACES[11], u, come, leave),
-        7 => by_words(rec, PLACES[14], PLACES[15], u, come, leave),
-        _ => anywhere(rec, u, come, leave),
+        2 => by_words(rec, PLACES[4], PLACES[5], u),
+        3 => by_words(rec, PLACES[6], PLACES[7], u),
+        4 => by_words(rec, PLACES[8], PLACES[9], u),
+        5 => by_words(rec, PLACES[10], PLACES[11], u),
+        7 => by_words(rec, PLACES[14], PLACES[15], u),
+        _ => anywhere(rec, u),
     }
 }

@@ -11,13 +11,10 @@ lay-n-requires c = (λ p. blank 155 p, search rules, search rules)
 
 pub returns : goal.returns
 returns c =
-    let o = c in
-    let j = o in
-    let y = j in
-    let a = y.args in
-    let l = y.lay-n.new.ends in
-    end-joined (lanes a.arrive.now) (lanes a.depart.now) a.p y.lay-n.result o.other_end.result _ _
-    l y.requires.0 y.lay-n.ensures.value y.lay-n.ensures.laid
-    (partner-joined (lanes a.arrive.now) (lanes a.depart.now) y.lay-n.result _ o.other_end.result _ l _
-    y.lay-n.ensures.value y.lay-n.ensures.laid j.join_all-m.ensures.second_after refl o.other_end.ensures)
+    let a = c.args in
+    let l = c.lay-n.new.ends in
+    end-joined (lanes a.around.now.arrive) (lanes a.around.now.depart) a.p c.lay-n.result c.other_end.result _ _
+    l c.requires.0 c.lay-n.ensures.value c.lay-n.ensures.laid
+    (partner-joined (lanes a.around.now.arrive) (lanes a.around.now.depart) c.lay-n.result _ c.other_end.result _ l _
+    c.lay-n.ensures.value c.lay-n.ensures.laid c.join_all-m.ensures.pairs_after refl c.other_end.ensures)
     c.lane_at.ensures.0 c.lane_at.ensures.1

@@ -6,4 +6,4 @@ use Rattle.pairing.proofs.lay.Goals as goal
 
 pub loop-k-init : goal.loop-k-init
 unfolding sum
-loop-k-init c = (omega arith, refl, refl, (λ q h. absurd (omega arith), λ q h. c.requires.0 q))
+loop-k-init c = (refl, refl, (λ q h. absurd (omega arith), λ q h. c.requires.0 q))

@@ -1,14 +1,8 @@
--- What each turn of `other_end` keeps. Assumes nothing.
-use mathlib.Core.Path.{◌≡◌}
-use Prim.Native.Nat.{◌-◌, ◌≤◌}
-use lib.ListN.{take}
-use lib.Seq.{slice}
+-- What each turn of `other_end` keeps: no pair so far has p. Assumes nothing.
+use Rattle.std.specs.Prelude.{◌≡◌, drop}
 use Rattle.model.specs.Pairing.{partner_in}
-use Rattle.pairing.specs.Sequence.{zipped}
+use Rattle.pairing.specs.Sequence.{as_pairs}
 use Rattle.pairing.proofs.other_end.Given as goal
 
-abbrev pub invariant-loop-k : goal.invariant-loop-k
-invariant-loop-k l = (l.k ≤ l.m) × (partner_in (zipped (take l.m l.first) (take l.m l.second)) l.p ≡ partner_in (zipped (slice l.k l.m l.first) (slice l.k l.m l.second)) l.p)
-
-abbrev pub decreases-loop-k : goal.decreases-loop-k
-decreases-loop-k l = l.m - l.k
+abbrev pub invariant-loop-pair : goal.invariant-loop-pair
+invariant-loop-pair l = partner_in (as_pairs l.pairs) l.p ≡ partner_in (as_pairs (drop l.pair-index l.pairs)) l.p

@@ -7,14 +7,12 @@ use Rattle.pairing.proofs.partner.Goals as goal
 
 pub joined-requires : goal.joined-requires
 joined-requires c =
-    let s = c in
-    let a = s.args in
-    let w = start-later (lanes a.arrive.now) (lanes a.depart.now) a.slot 5 s.requires.0 in
-    (omega (arith, w, s.requires.1, c.lanes_at.ensures.0, c.start_of.ensures.0), s.requires.2)
+    let a = c.args in
+    let w = start-later (lanes a.around.now.arrive) (lanes a.around.now.depart) a.lane.slot 5 c.requires.0 in
+    (omega (arith, w, c.requires.1, c.lanes_at.ensures.0, c.start_of.ensures.0), c.requires.2)
 
 pub returns : goal.returns
 returns c =
-    let s = c in
-    let a = s.args in
-    λ even. arrival-joined (lanes a.arrive.now) (lanes a.depart.now) a.slot a.lane s.requires.0 even _ _ _
-    (omega (arith, c.lanes_at.ensures.0, c.start_of.ensures.0)) s.requires.1 (c.joined.ensures even)
+    let a = c.args in
+    λ even. arrival-joined (lanes a.around.now.arrive) (lanes a.around.now.depart) a.lane.slot a.lane.lane c.requires.0 even _ _ _
+    (omega (arith, c.lanes_at.ensures.0, c.start_of.ensures.0)) c.requires.1 (c.joined.ensures even)

@@ -5,11 +5,9 @@ use Rattle.takeout.proofs.mark_centre.Goals as goal
 
 pub returns-then-not-is_open : goal.returns-then-not-is_open
 returns-then-not-is_open c =
-    let s = c in
-    centre-closed s.args.was.now s.requires.0 s.args.r s.args.c _ (sym c.is_open.ensures ∙ c.if-not-is_open.true)
+    centre-closed c.args.was.now c.requires.0 c.args.r c.args.c _ (sym c.is_open.ensures ∙ c.if-not-is_open.true)
 
 pub returns : goal.returns
 returns c =
-    let s = c in
-    centre-open s.args.was.now s.requires.0 s.args.r s.args.c _ _ (sym c.is_open.ensures ∙ c.if-not-is_open.false)
+    centre-open c.args.was.now c.requires.0 c.args.r c.args.c _ _ (sym c.is_open.ensures ∙ c.if-not-is_open.false)
     c.mark_place.ensures

@@ -1,48 +1,38 @@
--- `takeout::mark_lanes` meets its contract. The loop's invariant: the pins of the wires on the lanes before the i-th are marked. Assumes nothing.
-use mathlib.Core.Path.{refl, subst, ◌∙◌}
-use Prim.Native.Nat.{ℕ, ◌<◌}
-use native.Mathlib.Omega.{arith}
-use lib.ListN.{length-set}
+-- `takeout::mark_lanes` meets its contract: lane after lane. Assumes nothing.
+use Rattle.std.proofs.Common.{ℕ, ◌<◌, refl, subst, ◌∙◌, arith, length-set}
 use Rattle.channel.specs.Map.Numbers.{darts-is}
 use Rattle.takeout.specs.Marks.{lanes-none, lanes-more, lanes-number, lanes_all}
 use Rattle.takeout.proofs.mark_lanes.Goals as goal
 
-pub loop-i-init : goal.loop-i-init
-loop-i-init c =
-    let s = c in
-    let a = s.args in (
-      omega arith,
+pub loop-lane-init : goal.loop-lane-init
+loop-lane-init c =
+    let a = c.args in (
       refl,
-      lanes-number a.was.now s.requires.0 a.dart _ s.requires.3 c.load_along-n.ensures.0,
-      lanes-none a.was.now s.requires.0 a.dart a.from _,
+      lanes-number a.was.now c.requires.0 a.dart _ c.requires.3 c.load_along-n.ensures.0,
+      lanes-none a.was.now c.requires.0 a.dart a.from _,
     )
 
-pub pin_of-x-requires : goal.pin_of-x-requires
-pin_of-x-requires c =
-    let s = c in (
-      s.requires.0,
-      record {
-        range = omega (arith, darts-is, s.requires.2);
-        linked = s.requires.3;
-        loaded = subst (λ (m : ℕ). c.loop-i.i < m) c.loop-i.invariant.2 c.loop-i-test.true;
-      },
-    )
+pub pin_of-requires : goal.pin_of-requires
+pin_of-requires c = (
+  c.requires.0,
+  record {
+    range = omega (arith, darts-is, c.requires.2);
+    linked = c.requires.3;
+    loaded = subst (λ (m : ℕ). c.loop-lane.lane < m) c.loop-lane.invariant.1 c.loop-lane-test.true;
+  },
+)
 
-pub loop-i-preserved : goal.loop-i-preserved
-loop-i-preserved c =
-    let s = c in
-    let a = s.args in
-    let l = c.loop-i in (
-      omega (arith, l.invariant.0),
-      length-set l.taken _ _ ∙ l.invariant.1,
-      l.invariant.2,
-      lanes-more a.was.now s.requires.0 a.dart a.from l.i _ _ l.taken l.invariant.0 (omega (arith, c.pin_of-x.ensures.below, l.invariant.1, s.requires.1))
-          c.pin_of-x.ensures l.invariant.3,
+pub loop-lane-preserved : goal.loop-lane-preserved
+loop-lane-preserved c =
+    let a = c.args in
+    let l = c.loop-lane in (
+      length-set l.taken _ _ ∙ l.invariant.0,
+      l.invariant.1,
+      lanes-more a.was.now c.requires.0 a.dart a.from l.lane _ _ l.taken (omega arith) (omega (arith, c.pin_of.ensures.below, l.invariant.0, c.requires.1))
+          c.pin_of.ensures l.invariant.2,
     )
 
 pub returns : goal.returns
 returns c =
-    let s = c in
-    let a = s.args in
-    let l = c.loop-i in
-    lanes_all a.was.now s.requires.0 a.dart a.from l.i _ _ _ l.invariant.2 (omega arith) l.invariant.3
+    let l = c.loop-lane in
+    lanes_all c.args.was.now c.requires.0 c.args.dart c.args.from l.lane _ _ _ l.invariant.1 (omega arith) l.invariant.2

@@ -5,12 +5,10 @@ use Rattle.takeout.proofs.mark_missing_at.Goals as goal
 
 pub returns-then-not-is_missing : goal.returns-then-not-is_missing
 returns-then-not-is_missing c =
-    let s = c in
-    missing-none s.args.was.now s.requires.0 s.args.i _ (sym c.is_missing.ensures ∙ c.if-not-is_missing.true)
+    missing-none c.args.was.now c.requires.0 c.args.i _ (sym c.is_missing.ensures ∙ c.if-not-is_missing.true)
 
 pub returns : goal.returns
 returns c =
-    let s = c in
-    missing-more s.args.was.now s.requires.0 s.args.i _ _ _
+    missing-more c.args.was.now c.requires.0 c.args.i _ _ _
     (sym c.is_missing.ensures ∙ c.if-not-is_missing.false)
     c.pin_exit.ensures.0 c.mark_place.ensures

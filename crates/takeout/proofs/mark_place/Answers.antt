@@ -6,15 +6,12 @@ use Rattle.takeout.proofs.mark_place.Goals as goal
 
 pub loop-k-preserved : goal.loop-k-preserved
 loop-k-preserved c =
-    let s = c in
     let l = c.loop-k in (
-      omega (arith, c.loop-k-test.true),
-      c.mark_slot.auto.taken ∙ l.invariant.1,
-      slots-more s.args.was.now s.requires.0 s.args.u l.k _ _ _ l.invariant.2 c.mark_slot.ensures,
+      c.mark_slot.auto.taken ∙ l.invariant.0,
+      slots-more c.args.was.now c.requires.0 c.args.u l.k _ _ _ l.invariant.1 c.mark_slot.ensures,
     )
 
 pub returns : goal.returns
 returns c =
-    let s = c in
     let l = c.loop-k in
-    slots-all s.args.was.now s.requires.0 s.args.u l.k _ _ (omega (arith, l.invariant.0)) l.invariant.2
+    slots-all c.args.was.now c.requires.0 c.args.u l.k _ _ (omega arith) l.invariant.1

@@ -8,15 +8,13 @@ use Rattle.takeout.proofs.take_if.Goals as goal
 
 pub returns-then-not-is_chosen : goal.returns-then-not-is_chosen
 returns-then-not-is_chosen c =
-    let s = c in
-    let a = s.args in
-    takes-unchosen a.was.now (is_marked a.taken.now) s.requires.0 (a.i / 40) (a.i % 40) _
+    let a = c.args in
+    takes-unchosen a.was.now (is_marked a.taken.now) c.requires.0 (a.i / 40) (a.i % 40) _
     (sym c.is_chosen.ensures ∙ c.if-not-is_chosen.true)
 
 pub returns : goal.returns
 returns c =
-    let s = c in
-    let a = s.args in
-    takes-wire a.was.now (is_marked a.taken.now) s.requires.0 (a.i / 40) (a.i % 40) _ _
+    let a = c.args in
+    takes-wire a.was.now (is_marked a.taken.now) c.requires.0 (a.i / 40) (a.i % 40) _ _
     (subst T (sym c.if-not-is_chosen.false ∙ c.is_chosen.ensures) tt)
     (cell-marked a.taken.now a.i c.if-taken-i-ne1.false) c.take_out.ensures

@@ -1,6 +1,5 @@
--- `takeout::take_out` meets its contract. The loop's invariant: the hop d, l is the wire's n-th, and the hops before it are taken out. A wire has no more
-use mathlib.Core.Path.{sym}
-use native.Mathlib.Omega.{arith}
+-- `takeout::take_out` meets its contract: a wire has no more than 11,201 hops, so the walk ends. Assumes nothing.
+use Rattle.std.proofs.Common.{◌+◌, sym, arith}
 use Rattle.model.specs.Wires.{hop_at}
 use Rattle.channel.specs.Map.Numbers.{darts-is}
 use Rattle.wire.specs.Hops.{takes-as}
@@ -11,44 +10,48 @@ use Rattle.takeout.proofs.take_out.Goals as goal
 
 pub returns-in_default : goal.returns-in_default
 returns-in_default c =
-    let s = c in
-    unwired-out s.args.was.now s.args.row s.args.column s.requires.0 _ (takes-as c.in_default.is c.first_hop.ensures)
-
-pub loop-e-init : goal.loop-e-init
-unfolding hop_at
-loop-e-init c =
-    let s = c in
-    let v = takes-as c.in-On.is c.first_hop.ensures in
-    (omega arith, v.runs, sym v.hop, v, walked_none s.args.was.now s.args.row s.args.column s.requires.0 _)
+    unwired-out c.args.was.now c.args.row c.args.column c.requires.0 _ (takes-as c.in_default.is c.first_hop.ensures)
 
 pub lessen-requires : goal.lessen-requires
 lessen-requires c =
-    let l = c.loop-e.invariant in
-    let s = c in
-    (omega (arith, l.4.behind.size, s.requires.2), omega (arith, darts-is, l.1.range), l.1.linked)
+    let v = takes-as c.in-Some.is c.first_hop.ensures in
+    (c.requires.2, omega (arith, darts-is, v.runs.range), v.runs.linked)
 
-pub returns-in_default-next_hop : goal.returns-in_default-next_hop
-returns-in_default-next_hop c =
-    let s = c in
-    let l = c.loop-e in
-    let w = walked-wired s.args.was.now s.args.row s.args.column s.requires.0 s.requires.1 _ _ l.invariant.3 in
-    let v = takes-as c.in_default-next_hop.is c.next_hop.ensures in
-    let h = hop-after s.args.was.now s.args.row s.args.column l.n l.d l.l _ l.invariant.2 v.hop in
-    wire-out s.args.was.now s.args.row s.args.column s.requires.0 _ _ l.n l.d l.l w l.invariant.2 h
-    (walked_more s.args.was.now s.args.row s.args.column s.requires.0 _ l.rec _ l.n l.d l.l w (omega (arith, l.invariant.4.behind.size, s.requires.2))
-    l.invariant.1 l.invariant.2 l.invariant.4 c.lessen.ensures)
+pub loop-hop-init : goal.loop-hop-init
+unfolding hop_at
+loop-hop-init c =
+    let v = takes-as c.in-Some.is c.first_hop.ensures in
+    let w = walked-wired c.args.was.now c.args.row c.args.column c.requires.0 c.requires.1 _ v in (
+      omega arith,
+      v.runs,
+      sym v.hop,
+      walked_more c.args.was.now c.args.row c.args.column c.requires.0 _ _ _ 0 _ _ w c.requires.2 v.runs (sym v.hop)
+          (walked_none c.args.was.now c.args.row c.args.column c.requires.0 _) c.lessen.ensures,
+    )
 
-pub loop-e-preserved : goal.loop-e-preserved
-loop-e-preserved c =
-    let s = c in
-    let l = c.loop-e in
-    let w = walked-wired s.args.was.now s.args.row s.args.column s.requires.0 s.requires.1 _ _ l.invariant.3 in
-    let v = takes-as c.in-On-next_hop.is c.next_hop.ensures in
-    let h = hop-after s.args.was.now s.args.row s.args.column l.n l.d l.l _ l.invariant.2 v.hop in (
-      hops-few s.args.was.now s.requires.0 s.args.row s.args.column _ _ l.invariant.3 _ _ h,
+pub lessen-requires-in-Some-next_hop : goal.lessen-requires-in-Some-next_hop
+lessen-requires-in-Some-next_hop c =
+    let v = takes-as c.in-Some-next_hop.is c.next_hop.ensures in
+    (omega (arith, c.loop-hop.invariant.3.behind.size, c.requires.2), omega (arith, darts-is, v.runs.range), v.runs.linked)
+
+pub loop-hop-preserved : goal.loop-hop-preserved
+loop-hop-preserved c =
+    let l = c.loop-hop in
+    let first = takes-as c.in-Some.is c.first_hop.ensures in
+    let w = walked-wired c.args.was.now c.args.row c.args.column c.requires.0 c.requires.1 _ first in
+    let v = takes-as c.in-Some-next_hop.is c.next_hop.ensures in
+    let h = hop-after c.args.was.now c.args.row c.args.column l.n l.last.dart l.last.lane _ l.invariant.2 v.hop in (
+      hops-few c.args.was.now c.requires.0 c.args.row c.args.column _ first _ _ h,
       v.runs,
       h,
-      l.invariant.3,
-      walked_more s.args.was.now s.args.row s.args.column s.requires.0 _ l.rec _ l.n l.d l.l w (omega (arith, l.invariant.4.behind.size, s.requires.2))
-          l.invariant.1 l.invariant.2 l.invariant.4 c.lessen.ensures,
+      walked_more c.args.was.now c.args.row c.args.column c.requires.0 _ l.rec _ (l.n + 1) _ _ w (omega (arith, l.invariant.3.behind.size, c.requires.2))
+          v.runs h l.invariant.3 c.lessen-in-Some-next_hop.ensures,
     )
+
+pub returns : goal.returns
+returns c =
+    let l = c.loop-hop in
+    let w = walked-wired c.args.was.now c.args.row c.args.column c.requires.0 c.requires.1 _ (takes-as c.in-Some.is c.first_hop.ensures) in
+    let v = takes-as c.in_default-next_hop.is c.next_hop.ensures in
+    wire-out c.args.was.now c.args.row c.args.column c.requires.0 _ _ l.n _ _ w l.invariant.2
+    (hop-after c.args.was.now c.args.row c.args.column l.n l.last.dart l.last.lane _ l.invariant.2 v.hop) l.invariant.3

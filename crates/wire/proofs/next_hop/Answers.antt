@@ -11,45 +11,35 @@ head_of-requires c = search (rules, darts-is)
 
 pub returns-then-is_outside : goal.returns-then-is_outside
 returns-then-is_outside c =
-    let s = c in
-    out-ends s.args.rec.now s.requires.0 s.args.dart s.args.lane s.requires.1 _ c.head_of.ensures.0
+    out-ends c.args.rec.now c.requires.0 c.args.hop.dart c.args.hop.lane c.requires.1 _ c.head_of.ensures.0
     (sym c.is_outside.ensures ∙ c.if-is_outside.true)
 
 pub step_back-back-requires : goal.step_back-back-requires
 step_back-back-requires c = search (rules, darts-is)
 
-pub partner-p-requires : goal.partner-p-requires
-partner-p-requires c =
-    let t = c in
-    let u = t in
-    let s = u in (
-      slot-five s.args.rec.now s.requires.0 s.args.dart s.args.lane s.requires.1 _ u.head_of.ensures.0
-          (sym u.is_outside.ensures ∙ u.if-is_outside.false) _ t.step_back-back.ensures.0,
-      lane-comes s.args.rec.now s.requires.0 s.args.dart s.args.lane s.requires.1 _ u.head_of.ensures.0
-          (sym u.is_outside.ensures ∙ u.if-is_outside.false) _ t.step_back-back.ensures.0
-          _ _ t.lanes_round.ensures.0 t.lanes_round.ensures.1,
-      ends-few s.args.rec.now s.requires.0.values _ _ _ t.lanes_round.ensures.0 t.lanes_round.ensures.1,
-    )
+pub partner-departure-requires : goal.partner-departure-requires
+partner-departure-requires c = (
+  slot-five c.args.rec.now c.requires.0 c.args.hop.dart c.args.hop.lane c.requires.1 _ c.head_of.ensures.0
+      (sym c.is_outside.ensures ∙ c.if-is_outside.false) _ c.step_back-back.ensures.0,
+  lane-comes c.args.rec.now c.requires.0 c.args.hop.dart c.args.hop.lane c.requires.1 _ c.head_of.ensures.0
+      (sym c.is_outside.ensures ∙ c.if-is_outside.false) _ c.step_back-back.ensures.0
+      _ _ c.lanes_round-around.ensures.0 c.lanes_round-around.ensures.1,
+  ends-few c.args.rec.now c.requires.0.values _ _ _ c.lanes_round-around.ensures.0 c.lanes_round-around.ensures.1,
+)
 
 pub overflow_add-result : goal.overflow_add-result
 overflow_add-result c =
-    let t = c in
-    let u = t in
-    let s = u in
     omega (
       arith,
-      answer-five s.args.rec.now s.requires.0 s.args.dart s.args.lane s.requires.1 _ u.head_of.ensures.0
-          (sym u.is_outside.ensures ∙ u.if-is_outside.false) _ t.step_back-back.ensures.0
-          _ _ t.lanes_round.ensures.0 t.lanes_round.ensures.1
-          _ _ c.partner-p.ensures,
+      answer-five c.args.rec.now c.requires.0 c.args.hop.dart c.args.hop.lane c.requires.1 _ c.head_of.ensures.0
+          (sym c.is_outside.ensures ∙ c.if-is_outside.false) _ c.step_back-back.ensures.0
+          _ _ c.lanes_round-around.ensures.0 c.lanes_round-around.ensures.1
+          _ _ c.partner-departure.ensures,
     )
 
 pub returns : goal.returns
 returns c =
-    let t = c in
-    let u = t in
-    let s = u in
-    goes-next s.args.rec.now s.requires.0 s.args.dart s.args.lane s.requires.1 _ u.head_of.ensures.0
-    (sym u.is_outside.ensures ∙ u.if-is_outside.false) _ t.step_back-back.ensures.0
-    _ _ t.lanes_round.ensures.0 t.lanes_round.ensures.1
-    _ _ c.partner-p.ensures
+    goes-next c.args.rec.now c.requires.0 c.args.hop.dart c.args.hop.lane c.requires.1 _ c.head_of.ensures.0
+    (sym c.is_outside.ensures ∙ c.if-is_outside.false) _ c.step_back-back.ensures.0
+    _ _ c.lanes_round-around.ensures.0 c.lanes_round-around.ensures.1
+    _ _ c.partner-departure.ensures

@@ -1,36 +1,36 @@
--- `wire::part_at` meets its contract. The loop's invariant: the hop d, l is the wire's i-th, and carries a wire. Assumes nothing.
-use mathlib.Core.Path.{sym, ◌∙◌}
-use native.Mathlib.Omega.{arith}
+-- `wire::part_at` meets its contract: after i turns the hop is the wire's i-th, and carries a wire. Assumes nothing.
+use Rattle.std.proofs.Common.{sym, ◌∙◌, arith}
 use Rattle.model.specs.Wires.{hop_at}
 use Rattle.wire.specs.Hops.{takes-as}
-use Rattle.wire.specs.Walks.{hop-after, part-unwired, part-wired, part-past}
+use Rattle.wire.specs.Walks.{hop-after, part-here, part-unwired, part-wired, part-past}
 use Rattle.wire.proofs.part_at.Goals as goal
 
 pub returns-in_default : goal.returns-in_default
 returns-in_default c =
-    let s = c in
-    part-unwired s.args.rec.now s.requires.0 s.args.row s.args.column s.requires.1 s.args.index
+    part-unwired c.args.rec.now c.requires.0 c.args.row c.args.column c.requires.1 c.args.index
     (takes-as c.in_default.is c.first_hop.ensures)
 
-pub loop-i-init : goal.loop-i-init
+pub loop-init : goal.loop-init
 unfolding hop_at
-loop-i-init c =
-    let s = c in
-    let v = takes-as c.in-On.is c.first_hop.ensures in
-    (omega arith, v.runs, sym v.hop, part-wired s.args.rec.now s.requires.0 s.args.row s.args.column s.requires.1 s.args.index _ _ v)
+loop-init c =
+    let v = takes-as c.in-Some.is c.first_hop.ensures in
+    (omega arith, v.runs, sym v.hop, part-wired c.args.rec.now c.requires.0 c.args.row c.args.column c.requires.1 c.args.index _ v)
 
 pub returns-in_default-next_hop : goal.returns-in_default-next_hop
 returns-in_default-next_hop c =
-    let s = c in
-    let l = c.loop-i in
+    let l = c.loop in
     let v = takes-as c.in_default-next_hop.is c.next_hop.ensures in
-    part-past s.args.rec.now s.requires.0 s.args.row s.args.column s.requires.1 l.i s.args.index
-    (hop-after s.args.rec.now s.args.row s.args.column l.i l.d l.l _ l.invariant.2 v.hop) (omega arith)
+    part-past c.args.rec.now c.requires.0 c.args.row c.args.column c.requires.1 l.counter c.args.index
+    (hop-after c.args.rec.now c.args.row c.args.column l.counter l.hop.dart l.hop.lane _ l.invariant.2 v.hop) (omega arith)
     ∙ l.invariant.3
 
-pub loop-i-preserved : goal.loop-i-preserved
-loop-i-preserved c =
-    let s = c in
-    let l = c.loop-i in
-    let v = takes-as c.in-On-next_hop.is c.next_hop.ensures in
-    (omega arith, v.runs, hop-after s.args.rec.now s.args.row s.args.column l.i l.d l.l _ l.invariant.2 v.hop, l.invariant.3)
+pub loop-preserved : goal.loop-preserved
+loop-preserved c =
+    let l = c.loop in
+    let v = takes-as c.in-Some-next_hop.is c.next_hop.ensures in
+    (omega arith, v.runs, hop-after c.args.rec.now c.args.row c.args.column l.counter l.hop.dart l.hop.lane _ l.invariant.2 v.hop, l.invariant.3)
+
+pub returns : goal.returns
+returns c =
+    let l = c.loop in
+    part-here c.args.rec.now c.args.row c.args.column l.counter c.args.index l.hop.dart l.hop.lane _ (omega arith) l.invariant.2 c.part_for.ensures ∙ l.invariant.3

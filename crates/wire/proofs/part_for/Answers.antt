@@ -10,24 +10,20 @@ head_of-v-requires c = search (rules, darts-is)
 
 pub returns-then-is_outside : goal.returns-then-is_outside
 returns-then-is_outside c =
-    let s = c in
-    part_out s.args.rec.now s.requires.0 s.args.dart s.args.lane s.requires.1 _ c.head_of-v.ensures.0
-    (sym c.is_outside.ensures ∙ c.if-is_outside.true)
+    part_out c.args.rec.now c.requires.0 c.args.hop.dart c.args.hop.lane c.requires.1 _ c.head_of-v.ensures.0
+    _ c.place_of.ensures (sym c.is_outside.ensures ∙ c.if-is_outside.true)
 
 pub row_of-requires : goal.row_of-requires
 row_of-requires c =
-    let s = c in
-    place-grid s.args.rec.now s.requires.0 s.args.dart s.args.lane s.requires.1 _ c.head_of-v.ensures.0
+    place-grid c.args.rec.now c.requires.0 c.args.hop.dart c.args.hop.lane c.requires.1 _ c.head_of-v.ensures.0
     (sym c.is_outside.ensures ∙ c.if-is_outside.false)
 
 pub column_of-requires : goal.column_of-requires
 column_of-requires c =
-    let s = c in
-    place-grid s.args.rec.now s.requires.0 s.args.dart s.args.lane s.requires.1 _ c.head_of-v.ensures.0
+    place-grid c.args.rec.now c.requires.0 c.args.hop.dart c.args.hop.lane c.requires.1 _ c.head_of-v.ensures.0
     (sym c.is_outside.ensures ∙ c.if-is_outside.false)
 
 pub returns : goal.returns
 returns c =
-    let s = c in
-    part-to s.args.rec.now s.requires.0 s.args.dart s.args.lane s.requires.1 _ c.head_of-v.ensures.0
-    (sym c.is_outside.ensures ∙ c.if-is_outside.false) _ _ c.row_of.ensures c.column_of.ensures
+    part-to c.args.rec.now c.requires.0 c.args.hop.dart c.args.hop.lane c.requires.1 _ c.head_of-v.ensures.0
+    (sym c.is_outside.ensures ∙ c.if-is_outside.false) _ _ _ c.row_of.ensures c.column_of.ensures c.place_of-2.ensures

@@ -1,27 +1,23 @@
 -- `cell_lines` meets its contract, group by group. Assumes nothing.
-use mathlib.Core.Path.{◌≡◌, sym, ap}
-use Prim.Native.Nat.{ℕ}
-use native.Mathlib.Omega.{arith}
+use Rattle.std.proofs.Common.{ℕ, sym, ap, arith}
 use Rattle.model.specs.Record.{job_of}
 use Rattle.listing.specs.Near.{group_lines, group-tiles}
 use Rattle.listing.specs.Puts.{puts-as}
 use Rattle.listing.proofs.near.cell_lines.Goals as goal
 
-pub returns-then-group-eq0 : goal.returns-then-group-eq0
+pub returns-in-0 : goal.returns-in-0
 unfolding group_lines
-returns-then-group-eq0 c =
+returns-in-0 c =
     let a = c.args in
-    let e : 0 ≡ a.group = omega arith in
-    (puts-as (ap (λ (g : ℕ). group_lines (job_of a.rec.now) a.near.now g a.cell) e) c.chosen_line.ensures.0, omega arith)
+    (puts-as (ap (λ (g : ℕ). group_lines (job_of a.rec.now) a.near.now g a.cell) (sym c.in-0.is)) c.chosen_line.ensures.0, omega arith)
 
-pub returns-then-group-eq1 : goal.returns-then-group-eq1
+pub returns-in-1 : goal.returns-in-1
 unfolding group_lines
-returns-then-group-eq1 c =
+returns-in-1 c =
     let a = c.args in
-    let e : 1 ≡ a.group = omega arith in
-    (puts-as (ap (λ (g : ℕ). group_lines (job_of a.rec.now) a.near.now g a.cell) e) c.missing_lines.ensures.0, omega arith)
+    (puts-as (ap (λ (g : ℕ). group_lines (job_of a.rec.now) a.near.now g a.cell) (sym c.in-1.is)) c.missing_lines.ensures.0, omega arith)
 
-pub returns : goal.returns
-returns c =
+pub returns-in_default : goal.returns-in_default
+returns-in_default c =
     let a = c.args in
     (puts-as (sym (group-tiles (job_of a.rec.now) a.near.now a.group a.cell (omega arith))) c.tile_lines.ensures.0, omega arith)

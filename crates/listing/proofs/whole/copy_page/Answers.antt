@@ -1,18 +1,19 @@
--- `copy_page` meets its contract. The loop's invariant: the first k bytes of the page stand in the output. Assumes nothing.
-use mathlib.Core.Path.{ap, ◌∙◌}
-use mathlib.Core.List.{List}
-use Prim.Native.Nat.{ℕ, ◌+◌}
-use native.Mathlib.Omega.{arith}
-use lib.ListN.{get_or, set}
-use Rattle.listing.specs.Puts.{sets_more}
+-- `copy_page` meets its contract. Assumes nothing.
+use Rattle.std.proofs.Common.{◌≡◌, ℕ, List, ◌++◌, ◌+◌, ◌-◌, drop, take, length, sym, ap, ◌∙◌, arith, rules, length-take-le}
+use Rattle.listing.specs.Puts.{sets-part}
 use Rattle.listing.proofs.whole.copy_page.Goals as goal
 
-pub loop-k-preserved : goal.loop-k-preserved
-loop-k-preserved c =
-    let l = c.loop-k in
-    let a = c.args in
-    let page : List ℕ = a.page.now in (
-      omega arith,
-      ap (λ (o : List ℕ). set o (a.at + l.k) (get_or page l.k 0)) l.invariant.1
-          ∙ sets_more page a.out.now a.at l.k (omega (arith, c.loop-k-test.true, c.requires)),
-    )
+pub returns : goal.returns
+returns c =
+    let at = c.args.at in
+    let xs = c.args.out.now in
+    let page = c.args.page.now in
+    let k : ℕ = at + page.length - at in
+    let f : k ≡ page.length = omega arith in
+    let e : k ≡ length (take page.length page.bytes) = sym (length-take-le page.length page.bytes (search rules) ∙ sym f) in
+    record {
+      bytes =
+          ap (λ (ys : List ℕ). take at xs ++ (ys ++ drop k (drop at xs))) (c.copy_from_slice.ensures.after ∙ c.filled.ensures)
+          ∙ sets-part at k xs (take page.length page.bytes) e (omega arith);
+      next = omega arith;
+    }

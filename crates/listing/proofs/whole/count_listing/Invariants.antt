@@ -1,17 +1,15 @@
--- What each turn of `whole::count_listing` keeps. Assumes nothing.
-use mathlib.Core.Path.{◌≡◌}
-use Prim.Native.Nat.{◌+◌}
-use lib.ListN.{length}
+-- What each turn of `whole::count_listing` keeps: the bytes counted, what is left at the cursor and the last lines are as many as the listing has. Assumes nothing.
+use Rattle.std.specs.Prelude.{◌≡◌, ◌+◌, length}
 use Rattle.model.specs.Record.{job_of, load}
 use Rattle.model.specs.Listing.{wires_listing}
-use Rattle.listing.specs.Left.{left, ahead, Stands}
+use Rattle.listing.specs.Left.{left_at, ahead_at, StandsAt}
 use Rattle.listing.specs.Whole.{total_lines}
 use Rattle.listing.proofs.whole.count_listing.Given as goal
 
-abbrev pub invariant-loop-at : goal.invariant-loop-at
-invariant-loop-at l =
-    (l.n + (length (left (job_of l.rec) (load l.rec) l.at.cell l.at.index) + length (total_lines (job_of l.rec) (load l.rec))) ≡ length (wires_listing (job_of l.rec) (load l.rec)))
-    × Stands l.rec l.at.cell l.at.index l.at.dart l.at.lane
+abbrev pub invariant-loop-next : goal.invariant-loop-next
+invariant-loop-next l =
+    (l.n + (length (left_at (job_of l.rec) (load l.rec) l.next) + length (total_lines (job_of l.rec) (load l.rec))) ≡ length (wires_listing (job_of l.rec) (load l.rec)))
+    × StandsAt l.rec l.next
 
-abbrev pub decreases-loop-at : goal.decreases-loop-at
-decreases-loop-at l = ahead l.at.cell l.at.index
+abbrev pub decreases-loop-next : goal.decreases-loop-next
+decreases-loop-next l = ahead_at l.next

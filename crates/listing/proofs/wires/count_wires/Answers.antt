@@ -16,8 +16,7 @@ pin-spot x l = omega arith
 
 pub overflow_add-n : goal.overflow_add-n
 overflow_add-n c =
-    let s = c in
-    omega (arith, c.wire_starts-n.ensures, starts-one s.args.rec.now s.requires (8 * c.loop-x.x + 1) (pin-spot _ c.loop-x-test.true))
+    omega (arith, c.wire_starts-n.ensures, starts-one c.args.rec.now c.requires (8 * c.loop-x.x + 1) (pin-spot _ c.loop-x-test.true))
 
 pub loop-x-init : goal.loop-x-init
 unfolding sum
@@ -25,22 +24,20 @@ loop-x-init c = (omega arith, omega arith, refl)
 
 pub loop-x-preserved : goal.loop-x-preserved
 loop-x-preserved c =
-    let s = c in
-    let rec = s.args.rec.now in
+    let rec = c.args.rec.now in
     let l = c.loop-x in
     let e = c.wire_starts-n.ensures in (
       omega arith,
-      omega (arith, e, starts-one rec s.requires (8 * l.x + 1) (pin-spot _ c.loop-x-test.true)),
+      omega (arith, e, starts-one rec c.requires (8 * l.x + 1) (pin-spot _ c.loop-x-test.true)),
       starts_more (λ x. starts (job_of rec) rec (8 * x + 1)) l.n l.x _ l.invariant.2 e,
     )
 
 pub returns : goal.returns
 returns c =
-    let s = c in
-    let rec = s.args.rec.now in
+    let rec = c.args.rec.now in
     let J = job_of rec in
     let l = c.loop-x in
     let e : l.x ≡ 1641 = omega arith in
     l.invariant.2 ∙ ap (λ (k : ℕ). sum k (λ x. starts J rec (8 * x + 1))) e
     ∙ sym (sum-pins (starts J rec) (λ u n. sym (starts_none J u rec (sym (not_start J u n)))))
-    ∙ starts-count J s.requires.values.array rec s.requires.sound.feasible
+    ∙ starts-count J c.requires.values.array rec c.requires.sound.feasible

@@ -11,59 +11,46 @@ use Rattle.takeout.specs.Back.{slot-five, from-pin, lane-leaves, answer-five, ba
 use Rattle.takeout.proofs.back.hop_before.Goals as goal
 
 pub chosen_at-requires : goal.chosen_at-requires
-chosen_at-requires c = let s = c in (s.requires.0.long, omega (arith, darts-is, s.requires.1.range))
+chosen_at-requires c = (c.requires.0.long, omega (arith, darts-is, c.requires.1.range))
 
 pub returns-then-u-chosen_at : goal.returns-then-u-chosen_at
 returns-then-u-chosen_at c =
-    let s = c in
-    from-pin s.args.rec.now s.requires.0 s.args.dart s.args.lane s.requires.1 _
-    (ap (λ (b : Bool). eqb (s.args.dart / 8 % 8) 1 && b) c.chosen_at.ensures) c.if-u-chosen_at.true
+    from-pin c.args.rec.now c.requires.0 c.args.hop.dart c.args.hop.lane c.requires.1 _
+    (ap (λ (b : Bool). eqb (c.args.hop.dart / 8 % 8) 1 && b) c.chosen_at.ensures) c.if-u-chosen_at.true
 
-pub lanes_round-requires : goal.lanes_round-requires
-lanes_round-requires c = search (rules, darts-is)
+pub lanes_round-around-requires : goal.lanes_round-around-requires
+lanes_round-around-requires c = search (rules, darts-is)
 
-pub partner_back-p-requires : goal.partner_back-p-requires
-partner_back-p-requires c =
-    let t = c in
-    let u = t in
-    let s = u in (
-      slot-five s.args.rec.now s.requires.0 s.args.dart s.args.lane s.requires.1,
-      lane-leaves s.args.rec.now s.requires.0 s.args.dart s.args.lane s.requires.1 _
-          (ap (λ (b : Bool). eqb (s.args.dart / 8 % 8) 1 && b) u.chosen_at.ensures) u.if-u-chosen_at.false
-          _ _ t.lanes_round.ensures.0 t.lanes_round.ensures.1,
-      ends-few s.args.rec.now s.requires.0.values _ _ _ t.lanes_round.ensures.0 t.lanes_round.ensures.1,
-    )
+pub partner_back-arrival-requires : goal.partner_back-arrival-requires
+partner_back-arrival-requires c = (
+  slot-five c.args.rec.now c.requires.0 c.args.hop.dart c.args.hop.lane c.requires.1,
+  lane-leaves c.args.rec.now c.requires.0 c.args.hop.dart c.args.hop.lane c.requires.1 _
+      (ap (λ (b : Bool). eqb (c.args.hop.dart / 8 % 8) 1 && b) c.chosen_at.ensures) c.if-u-chosen_at.false
+      _ _ c.lanes_round-around.ensures.0 c.lanes_round-around.ensures.1,
+  ends-few c.args.rec.now c.requires.0.values _ _ _ c.lanes_round-around.ensures.0 c.lanes_round-around.ensures.1,
+)
 
 pub overflow_add-u : goal.overflow_add-u
 overflow_add-u c =
-    let t = c in
-    let u = t in
-    let s = u in
     omega (
       arith,
-      answer-five s.args.rec.now s.requires.0 s.args.dart s.args.lane s.requires.1 _
-          (ap (λ (b : Bool). eqb (s.args.dart / 8 % 8) 1 && b) u.chosen_at.ensures) u.if-u-chosen_at.false
-          _ _ t.lanes_round.ensures.0 t.lanes_round.ensures.1 _ _ c.partner_back-p.ensures,
+      answer-five c.args.rec.now c.requires.0 c.args.hop.dart c.args.hop.lane c.requires.1 _
+          (ap (λ (b : Bool). eqb (c.args.hop.dart / 8 % 8) 1 && b) c.chosen_at.ensures) c.if-u-chosen_at.false
+          _ _ c.lanes_round-around.ensures.0 c.lanes_round-around.ensures.1 _ _ c.partner_back-arrival.ensures,
       darts-is,
-      s.requires.1.range,
+      c.requires.1.range,
     )
 
 pub step_back-requires : goal.step_back-requires
 step_back-requires c =
-    let t = c in
-    let u = t in
-    let s = u in
     let (a, b) =
-    back-linked s.args.rec.now s.requires.0 s.args.dart s.args.lane s.requires.1 _
-    (ap (λ (b : Bool). eqb (s.args.dart / 8 % 8) 1 && b) u.chosen_at.ensures) u.if-u-chosen_at.false
-    _ _ t.lanes_round.ensures.0 t.lanes_round.ensures.1 _ _ c.partner_back-p.ensures in
+    back-linked c.args.rec.now c.requires.0 c.args.hop.dart c.args.hop.lane c.requires.1 _
+    (ap (λ (b : Bool). eqb (c.args.hop.dart / 8 % 8) 1 && b) c.chosen_at.ensures) c.if-u-chosen_at.false
+    _ _ c.lanes_round-around.ensures.0 c.lanes_round-around.ensures.1 _ _ c.partner_back-arrival.ensures in
     (omega (arith, darts-is, a), b)
 
 pub returns : goal.returns
 returns c =
-    let t = c in
-    let u = t in
-    let s = u in
-    goes_before s.args.rec.now s.requires.0 s.args.dart s.args.lane s.requires.1 _
-    (ap (λ (b : Bool). eqb (s.args.dart / 8 % 8) 1 && b) u.chosen_at.ensures) u.if-u-chosen_at.false
-    _ _ t.lanes_round.ensures.0 t.lanes_round.ensures.1 _ _ c.partner_back-p.ensures _ c.step_back.ensures.0
+    goes_before c.args.rec.now c.requires.0 c.args.hop.dart c.args.hop.lane c.requires.1 _
+    (ap (λ (b : Bool). eqb (c.args.hop.dart / 8 % 8) 1 && b) c.chosen_at.ensures) c.if-u-chosen_at.false
+    _ _ c.lanes_round-around.ensures.0 c.lanes_round-around.ensures.1 _ _ c.partner_back-arrival.ensures _ c.step_back.ensures.0

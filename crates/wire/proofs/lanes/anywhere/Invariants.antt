@@ -1,10 +1,7 @@
--- What each turn of `lanes::anywhere` keeps. Assumes nothing.
-use Prim.Native.Nat.{◌*◌, ◌-◌}
+-- What each turn of `lanes::anywhere` keeps: the lanes of the slots before k are read. Assumes nothing.
+use Rattle.std.specs.Prelude.{◌*◌}
 use Rattle.wire.specs.Five.{Read}
 use Rattle.wire.proofs.lanes.anywhere.Given as goal
 
 abbrev pub invariant-loop-k : goal.invariant-loop-k
-invariant-loop-k l = Read l.rec (l.u * 8) l.come l.leave l.k
-
-abbrev pub decreases-loop-k : goal.decreases-loop-k
-decreases-loop-k l = 5 - l.k
+invariant-loop-k l = Read l.rec (l.u * 8) l.around.arrive l.around.depart l.k

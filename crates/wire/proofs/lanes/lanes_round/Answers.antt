@@ -6,30 +6,25 @@ use Rattle.wire.proofs.lanes.lanes_round.Goals as goal
 
 pub by_words-requires : goal.by_words-requires
 by_words-requires c =
-    let s = c in
     let (l, m) = between _ 41 1600 c.if-u.false in
-    (s.requires.0, l, m, slot-words (omega arith) c.in-2.is tt, s.requires.2, s.requires.3)
+    (c.requires.0, l, m, slot-words (omega arith) c.in-2.is tt)
 
 pub by_words-requires-in-3 : goal.by_words-requires-in-3
 by_words-requires-in-3 c =
-    let s = c in
     let (l, m) = between _ 41 1600 c.if-u.false in
-    (s.requires.0, l, m, slot-words (omega arith) c.in-3.is tt, s.requires.2, s.requires.3)
+    (c.requires.0, l, m, slot-words (omega arith) c.in-3.is tt)
 
 pub by_words-requires-in-4 : goal.by_words-requires-in-4
 by_words-requires-in-4 c =
-    let s = c in
     let (l, m) = between _ 41 1600 c.if-u.false in
-    (s.requires.0, l, m, slot-words (omega arith) c.in-4.is tt, s.requires.2, s.requires.3)
+    (c.requires.0, l, m, slot-words (omega arith) c.in-4.is tt)
 
 pub by_words-requires-in-5 : goal.by_words-requires-in-5
 by_words-requires-in-5 c =
-    let s = c in
     let (l, m) = between _ 41 1600 c.if-u.false in
-    (s.requires.0, l, m, slot-words (omega arith) c.in-5.is tt, s.requires.2, s.requires.3)
+    (c.requires.0, l, m, slot-words (omega arith) c.in-5.is tt)
 
 pub by_words-requires-in-7 : goal.by_words-requires-in-7
 by_words-requires-in-7 c =
-    let s = c in
     let (l, m) = between _ 41 1600 c.if-u.false in
-    (s.requires.0, l, m, slot-words (omega arith) c.in-7.is tt, s.requires.2, s.requires.3)
+    (c.requires.0, l, m, slot-words (omega arith) c.in-7.is tt)

@@ -5,5 +5,4 @@ use Rattle.wire.proofs.length.total_length.Goals as goal
 
 pub returns : goal.returns
 returns c =
-    let s = c in
-    (omega (arith, held_bytes _ s.requires), omega (arith, held_bytes _ s.requires, held-most _ s.requires))
+    (omega (arith, held_bytes _ c.requires), omega (arith, held_bytes _ c.requires, held-most _ c.requires))
