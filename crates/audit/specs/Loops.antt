@@ -1,6 +1,7 @@
 -- What the loop finder answers: that behind fresh links every loaded dart falls along an order of the spots, so that no chain of loaded darts is closed there;
 -- or a closed path of loaded darts, by its spots and slots. Assumes nothing.
 pub mod Dfs
+pub mod Search
 pub mod Answers
 pub mod Slots
 pub mod Marks

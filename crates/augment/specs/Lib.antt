@@ -15,6 +15,7 @@ pub mod Turns
 pub mod Slots
 pub mod Ways
 -- The search over all pins.
+pub mod Work
 pub mod Pins
 pub mod Shut
 pub mod Passing

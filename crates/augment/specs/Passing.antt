@@ -1,6 +1,6 @@
 -- Pins passed one after the other, and one line after the other, from the rim inwards: when all rows are passed, no wire more can start anywhere. And what a caller reads off the
 -- answers of the search for the next wire. Assumes nothing.
-use Rattle.std.specs.Prelude.{◌≡◌, refl, ◌≢◌, ◌⊎◌, Bool, true, false, List, ℕ, ◌+◌, ◌-◌, ◌*◌, ◌/◌, ◌%◌, ◌≤◌, ◌<◌, T, eqb, ltb, length}
+use Rattle.std.specs.Prelude.{Option, Some, None, ◌≡◌, refl, ◌≢◌, ◌⊎◌, Bool, true, false, List, ℕ, ◌+◌, ◌-◌, ◌*◌, ◌/◌, ◌%◌, ◌≤◌, ◌<◌, T, eqb, ltb, length}
 use Rattle.std.proofs.Common.{sym, ap, subst, ◌∙◌, inl, inr, ⊎_elim, eq-or-lt_of_le, arith, ltb→lt}
 use Rattle.sums.specs.Tests.{below_or, and_left, and_right}
 use Rattle.model.specs.Job.{Job, in_range, array_fits, is_pin, is_chosen}
@@ -12,10 +12,8 @@ use Rattle.channel.specs.Map.Starts.{wanted-pin}
 use Rattle.augment.specs.OneMore.{OneMore}
 use Rattle.augment.specs.Marks.{marked}
 use Rattle.augment.specs.Steps.{Whole}
-use Rattle.augment.specs.Pins.{Held, Dead, Unwired, Passed, Tested, wired, shut, inward, inward-even, inward-odd, spot_on, spot-level, OnLine, row, Nth, InRows, AnySpot, Answered, laid, nothing}
+use Rattle.augment.specs.Pins.{Held, Dead, Unwired, Passed, Tested, wired, shut, inward, inward-even, inward-odd, spot_on, spot-level, OnLine, row, Nth, InRows, AnySpot, LaidAt, Answered}
 use Rattle.augment.specs.declared.next.Line.{Line}
-use Rattle.augment.specs.declared.next.Next.{Next}
-use Rattle.augment.specs.declared.next.Next.TheVariants.{Laid, Nothing}
 
 -- ---- one after the other
 
@@ -144,19 +142,6 @@ module _ {J : Job} {rec t : List ℕ} {u : ℕ} {rec' t' : List ℕ} {b : Bool} 
       by : Tested J rec t u rec' t' false → (rec' ≡ rec) × Passed J (λ x. x ≡ u) rec t t'
       by (shut q p) = (q, p)
 
-module _ {J : Job} {P : ℕ → Type 0} {rec t rec' t' : List ℕ} {y : Next} (r : Answered J P rec t rec' t' y) where
-  pub was-laid : {u : ℕ} → y ≡ Laid u → (u < spots) × Unwired J rec u × OneMore J rec rec' u × Dead J rec' t'
-  was-laid {u} e = by (subst (λ (x : Next). Answered J P rec t rec' t' x) e r)
-    where
-      by : Answered J P rec t rec' t' (Laid u) → (u < spots) × Unwired J rec u × OneMore J rec rec' u × Dead J rec' t'
-      by (laid l h M D) = (l, h, M, D)
-
-  pub was-nothing : y ≡ Nothing → (rec' ≡ rec) × Passed J P rec t t'
-  was-nothing e = by (subst (λ (x : Next). Answered J P rec t rec' t' x) e r)
-    where
-      by : Answered J P rec t rec' t' Nothing → (rec' ≡ rec) × Passed J P rec t t'
-      by (nothing q p) = (q, p)
-
 -- the loads are still those of the beginning
 module _ {rec rec₁ : List ℕ} (q : rec₁ ≡ rec) where
   pub whole-still : {job : List ℕ} → Whole job rec → Whole job rec₁
@@ -172,23 +157,29 @@ module _ {rec rec₁ : List ℕ} (q : rec₁ ≡ rec) where
   pub tested-still : {J : Job} {t : List ℕ} {u : ℕ} {rec₂ t₂ : List ℕ} {b : Bool} → Tested J rec₁ t u rec₂ t₂ b → Tested J rec t u rec₂ t₂ b
   tested-still {J} {t} {u} {rec₂} {t₂} {b} = subst (λ (x : List ℕ). Tested J x t u rec₂ t₂ b) q
 
-  pub answered-still : {J : Job} {P : ℕ → Type 0} {t rec₂ t₂ : List ℕ} {y : Next} → Answered J P rec₁ t rec₂ t₂ y → Answered J P rec t rec₂ t₂ y
-  answered-still {J} {P} {t} {rec₂} {t₂} {y} = subst (λ (x : List ℕ). Answered J P x t rec₂ t₂ y) q
+  pub passed-still : {J : Job} {P : ℕ → Type 0} {t t₂ : List ℕ} → Passed J P rec₁ t t₂ → Passed J P rec t t₂
+  passed-still {J} {P} {t} {t₂} = subst (λ (x : List ℕ). Passed J P x t t₂) q
+
+  pub laid-still : {J : Job} {rec₂ t₂ : List ℕ} {u : ℕ} → LaidAt J rec₁ rec₂ t₂ u → LaidAt J rec rec₂ t₂ u
+  laid-still {J} {rec₂} {t₂} {u} = subst (λ (x : List ℕ). LaidAt J x rec₂ t₂ u) q
+
+  -- and what was answered
+  pub answered-still : (J : Job) (P : ℕ → Type 0) (t rec₂ t₂ : List ℕ) (y : Option ℕ) → Answered J P rec₁ t rec₂ t₂ y → Answered J P rec t rec₂ t₂ y
+  answered-still J P t rec₂ t₂ y = subst (λ (x : List ℕ). Answered J P x t rec₂ t₂ y) q
 
 -- a wire laid is one from any spot, whatever was marked before
-pub laid_from : {J : Job} {P : ℕ → Type 0} {rec t t₁ rec₂ t₂ : List ℕ} {u : ℕ} {b : Bool} → Tested J rec t₁ u rec₂ t₂ b → b ≡ true → u < spots
-    → Answered J P rec t rec₂ t₂ (Laid u)
-laid_from r e l = let (h, m, d) = tested-wired r e in laid l h m d
+pub laid_from : {J : Job} {rec t₁ rec₂ t₂ : List ℕ} {u : ℕ} {b : Bool} → Tested J rec t₁ u rec₂ t₂ b → b ≡ true → u < spots → LaidAt J rec rec₂ t₂ u
+laid_from r e l = let (h, m, d) = tested-wired r e in record { spot = l; unwired = h; more = m; dead = d }
 
-pub laid-on-line : {J : Job} {P Q : ℕ → Type 0} {rec t t₁ rec₂ t₂ : List ℕ} {u : ℕ} {y : Next} → Answered J P rec t₁ rec₂ t₂ y → y ≡ Laid u
-    → Answered J Q rec t rec₂ t₂ (Laid u)
-laid-on-line r e = let (l, h, m, d) = was-laid r e in laid l h m d
+-- and one laid from a spot of P is one from any, whatever was marked before
+pub laid-on-line : (J : Job) (P Q : ℕ → Type 0) (rec t t₁ rec₂ t₂ : List ℕ) (u : ℕ) (y : Option ℕ) → Answered J P rec t₁ rec₂ t₂ y → y ≡ Some u
+    → Answered J Q rec t rec₂ t₂ (Some u)
+laid-on-line J P Q rec t t₁ rec₂ t₂ u y r e = subst (λ (x : Option ℕ). Answered J P rec t₁ rec₂ t₂ x) e r
 
 -- no line from a on has a pin with a way out; so the answer about those before it is one about all
-pub answered-all : {J : Job} {rec rec₁ t t₁ rec₂ t₂ : List ℕ} {a n m : ℕ} {y : Next} → m ≡ J.rows → n ≡ 2 * m → (rec₁ ≡ rec) × Passed J (InRows J a n) rec t t₁
+pub answered-all : (J : Job) (rec rec₁ t t₁ rec₂ t₂ : List ℕ) {a n m : ℕ} (y : Option ℕ) → m ≡ J.rows → n ≡ 2 * m → (rec₁ ≡ rec) × Passed J (InRows J a n) rec t t₁
     → Answered J (InRows J 0 a) rec₁ t₁ rec₂ t₂ y → Answered J AnySpot rec t rec₂ t₂ y
-answered-all {J} {rec} {t = t} {t₁ = t₁} {a = a} {n = n} em en (q, p) r = by (answered-still q r)
-  where
-    by : {rec₂ t₂ : List ℕ} {y : Next} → Answered J (InRows J 0 a) rec t₁ rec₂ t₂ y → Answered J AnySpot rec t rec₂ t₂ y
-    by (laid l h m d) = laid l h m d
-    by (nothing e s) = let w : n ≡ 2 * J.rows = omega (arith, em, en) in nothing e (passed-all (rw w at p) s)
+answered-all J rec rec₁ t t₁ rec₂ t₂ (Some u) em en (q, p) r = laid-still q r
+answered-all J rec rec₁ t t₁ rec₂ t₂ {a} {n} None em en (q, p) (e, s) =
+    let w : n ≡ 2 * J.rows = omega (arith, em, en) in
+    (e ∙ q, passed-all (rw w at p) (passed-still q s))

@@ -1,5 +1,5 @@
 -- What the search for the next wire keeps and answers. The marked spots are dead: no move leads out of them, and none is outside. Assumes nothing.
-use Rattle.std.specs.Prelude.{◌≡◌, ◌≢◌, Bool, true, false, List, ℕ, ◌-◌, ◌*◌, ◌/◌, ◌%◌, ◌≤◌, ◌<◌, T, eqb, length, get_or}
+use Rattle.std.specs.Prelude.{Option, Some, None, ◌≡◌, ◌≢◌, Bool, true, false, List, ℕ, ◌-◌, ◌*◌, ◌/◌, ◌%◌, ◌≤◌, ◌<◌, T, eqb, length, get_or}
 use Rattle.std.proofs.Common.{sym, ap, eq-eqb, ne_eqb}
 use Rattle.model.specs.Job.{Job, array_fits}
 use Rattle.model.specs.Links.{pin, at}
@@ -13,8 +13,6 @@ use Rattle.augment.specs.OneMore.{OneMore}
 use Rattle.augment.specs.NoMore.{Reached, ClosedUnderMoves, NoneOutside}
 use Rattle.augment.specs.Marks.{marked}
 use Rattle.augment.specs.declared.next.Line.{Line}
-use Rattle.augment.specs.declared.next.Next.{Next}
-use Rattle.augment.specs.declared.next.Next.TheVariants.{Laid, Nothing}
 
 -- the loads are feasible, and every load byte is in range
 pub record Held (J : Job) (rec : List ℕ) : Type 0 where
@@ -105,7 +103,14 @@ pub record InRows (J : Job) (a m u : ℕ) : Type 0 where
 abbrev pub AnySpot : ℕ → Type 0
 AnySpot u = u < spots
 
+-- one wire more starts at u
+pub record LaidAt (J : Job) (rec rec' t' : List ℕ) (u : ℕ) : Type 0 where
+  pub spot : u < spots
+  pub unwired : Unwired J rec u
+  pub more : OneMore J rec rec' u
+  pub dead : Dead J rec' t'
+
 -- One wire more starts at u; or none can start at a spot of P.
-pub data Answered (J : Job) (P : ℕ → Type 0) (rec t rec' t' : List ℕ) : Next → Type 0 where
-  laid : {u : ℕ} → u < spots → Unwired J rec u → OneMore J rec rec' u → Dead J rec' t' → Answered J P rec t rec' t' (Laid u)
-  nothing : rec' ≡ rec → Passed J P rec t t' → Answered J P rec t rec' t' Nothing
+abbrev pub Answered : Job → (ℕ → Type 0) → (rec t rec' t' : List ℕ) → Option ℕ → Type 0
+Answered J P rec t rec' t' (Some u) = LaidAt J rec rec' t' u
+Answered J P rec t rec' t' None = (rec' ≡ rec) × Passed J P rec t t'

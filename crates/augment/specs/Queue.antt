@@ -1,5 +1,5 @@
 -- The laws of the search: how it begins, what one more spot in the queue keeps, and what is known at its end. Assumes nothing.
-use Rattle.std.specs.Prelude.{◌≡◌, refl, ◌≢◌, ◌⊎◌, Bool, true, false, not, ◌&&◌, List, ℕ, ◌+◌, ◌*◌, ◌/◌, ◌≤◌, ◌<◌, T, length, get_or, set}
+use Rattle.std.specs.Prelude.{◌≡◌, refl, ◌≢◌, ◌⊎◌, Bool, true, false, not, ◌&&◌, List, ℕ, ◌+◌, ◌*◌, ◌/◌, ◌≤◌, ◌<◌, T, Result, Ok, Err, length, get_or, set}
 use Rattle.std.proofs.Common.{sym, ap, ap₂, subst, ◌∙◌, inl, inr, ⊎_elim, arith, below_more, length-set, get_or-set_same, get_or-set_other}
 use Rattle.std.proofs.lemmas.Bool.{not-true, not-false}
 use Rattle.sums.specs.Tests.{and_left, and_right}
@@ -7,10 +7,8 @@ use Rattle.model.specs.Job.{Job}
 use Rattle.channel.specs.Map.{spots, rev, outside, moves}
 use Rattle.augment.specs.Marks.{unmarked, unmarked-le, after, mark-less}
 use Rattle.augment.specs.Spread.{Room, Came, Spread, Alike}
-use Rattle.augment.specs.Steps.{Whole, Ready, Fresh, Tried, exit, old, new, Grown, Expanded, more, Front, leaves, Searched, out, closed}
-use Rattle.augment.specs.declared.reach.Step.{Step}
-use Rattle.augment.specs.declared.reach.Step.TheVariants.{Exit, More}
-use Rattle.augment.specs.declared.reach.Way.TheVariants.{Out, Closed}
+use Rattle.augment.specs.Steps.{Whole, Ready, Fresh, Tried, exit, old, new, Grown, Left, Front, leaves, Found, Exhausted}
+use Rattle.augment.specs.declared.reach.Way.{Way}
 
 -- a mark more keeps the marks
 marks-keep : (t : List ℕ) (v x : ℕ) → v < length t → get_or t x 0 ≡ 1 → get_or (set t v 1) x 0 ≡ 1
@@ -195,23 +193,22 @@ module _ {J : Job} {rec : List ℕ} {u k h : ℕ} {t q f w : List ℕ} {n : ℕ}
       parents b l p = below_more (λ i. 0 < i → get_or (set f' n' h) i 0 < b) n' (λ i m z. rw (get_or-set_other f' n' i h 0 (λ e. omega arith)) (p i z m))
           (λ z. rw (get_or-set_same f' n' h 0 (omega (arith, fewer, g.count, g.room.parents))) l)
 
-  more-grown : {t'' q'' f'' w'' : List ℕ} {a : ℕ} → Tried J rec u k h t' q' f' w' n' t'' q'' f'' w'' (More a)
+  more-grown : {t'' q'' f'' w'' : List ℕ} {a : ℕ} → Tried J rec u k h t' q' f' w' n' t'' q'' f'' w'' (Ok a)
       → Grown J rec u (k + 1) h t q f w n t'' q'' f'' w'' a
   more-grown (old d) = grown-old d
   more-grown (new v lv ev may inside unseen) = grown-new v lv ev may inside unseen
 
-  exit-grown : {t'' q'' f'' w'' : List ℕ} {a b : ℕ} → Tried J rec u k h t' q' f' w' n' t'' q'' f'' w'' (Exit a b)
-      → Expanded J rec u h t q f w n t'' q'' f'' w'' (Exit a b)
-  exit-grown (exit may o) = Expanded.exit lk may o g
+  exit-grown : {t'' q'' f'' w'' : List ℕ} {y : Way} → Tried J rec u k h t' q' f' w' n' t'' q'' f'' w'' (Err y) → Left J rec u h t q f w n t'' q'' f'' w'' y
+  exit-grown (exit may o) = record { place = refl; slot = lk; may = may; exit = o; grown = g }
 
-  module _ {t'' q'' f'' w'' : List ℕ} {s : Step} (y : Tried J rec u k h t' q' f' w' n' t'' q'' f'' w'' s) where
+  module _ {t'' q'' f'' w'' : List ℕ} {s : Result ℕ Way} (y : Tried J rec u k h t' q' f' w' n' t'' q'' f'' w'' s) where
     -- the slot led to no spot outside
-    pub grown-more : {a : ℕ} → s ≡ More a → Grown J rec u (k + 1) h t q f w n t'' q'' f'' w'' a
-    grown-more e = more-grown (subst (λ (x : Step). Tried J rec u k h t' q' f' w' n' t'' q'' f'' w'' x) e y)
+    pub grown-more : {a : ℕ} → s ≡ Ok a → Grown J rec u (k + 1) h t q f w n t'' q'' f'' w'' a
+    grown-more e = more-grown (subst (λ (x : Result ℕ Way). Tried J rec u k h t' q' f' w' n' t'' q'' f'' w'' x) e y)
 
     -- the slot led outside
-    pub grown-exit : {a b : ℕ} → s ≡ Exit a b → Expanded J rec u h t q f w n t'' q'' f'' w'' (Exit a b)
-    grown-exit e = exit-grown (subst (λ (x : Step). Tried J rec u k h t' q' f' w' n' t'' q'' f'' w'' x) e y)
+    pub grown-exit : {z : Way} → s ≡ Err z → Left J rec u h t q f w n t'' q'' f'' w'' z
+    grown-exit e = exit-grown (subst (λ (x : Result ℕ Way). Tried J rec u k h t' q' f' w' n' t'' q'' f'' w'' x) e y)
 
 -- ---- a spot that leads outside
 
@@ -228,18 +225,18 @@ leaves_by {a} J rec u k e h l o = o ∙ ap₂ (λ (x : Bool) (y : ℕ). x && out
 
 -- the search is over where it begins
 pub first-leaves : {J : Job} {rec t q f w : List ℕ} {start k : ℕ} → Room t q f w → Fresh J t start → k < 8 → T (leaves J rec start k)
-    → Searched J rec start t (set t start 1) (set q 0 start) f w (Out 0 k 1)
+    → Found J rec start t (set t start 1) (set q 0 start) f w 0 k 1
 unfolding leaves
 first-leaves {J} {rec} {start = start} {k = k} r s l y =
     let p = spread-start r s in
-    out {j = 0} {k = k} (record {
+    record {
       spread = p;
       within = omega (arith, s.spot);
       place = omega arith;
       slot = l;
       may = rw p.first (and_left (moves J rec (8 * start + k)) (outside J (rev (8 * start + k) / 8)) y);
       exit = rw p.first (and_right (moves J rec (8 * start + k)) (outside J (rev (8 * start + k) / 8)) y);
-    })
+    }
 
 -- ---- the whole search
 
@@ -259,12 +256,12 @@ module _ {J : Job} {rec : List ℕ} {start : ℕ} {t₀ t q f w : List ℕ} {h n
   pub front-ready : {job : List ℕ} → Whole job rec → h < n → Ready job rec t q f w (get_or q h 0) h n
   front-ready o l = record { whole = o; room = F.room; count = F.count; early = l; spot = F.spread.spot h l }
 
-  pub front-end : n ≤ h → Searched J rec start t₀ t q f w (Closed n)
-  front-end l = closed F.spread (omega (arith, F.count)) (λ i m. F.done i (omega arith))
+  pub front-end : n ≤ h → Exhausted J rec start t₀ t q f w n
+  front-end l = record { spread = F.spread; within = omega (arith, F.count); done = λ i m. F.done i (omega arith) }
 
   module _ (l : h < n) {t' q' f' w' : List ℕ} where
-    more-front : {a : ℕ} → Expanded J rec (get_or q h 0) h t q f w n t' q' f' w' (More a) → Front J rec start t₀ t' q' f' w' (h + 1) a
-    more-front (more g) =
+    pub front-more : {a : ℕ} → Grown J rec (get_or q h 0) 8 h t q f w n t' q' f' w' a → Front J rec start t₀ t' q' f' w' (h + 1) a
+    front-more g =
         record {
           room = g.room;
           count = g.count;
@@ -276,20 +273,13 @@ module _ {J : Job} {rec : List ℕ} {start : ℕ} {t₀ t q f w : List ℕ} {h n
               (rw (g.keep h l) (λ k lk m. g.done k lk m));
         }
 
-    exit-front : {k a : ℕ} → Expanded J rec (get_or q h 0) h t q f w n t' q' f' w' (Exit k a) → Searched J rec start t₀ t' q' f' w' (Out h k a)
-    exit-front {k} (Expanded.exit lk may o g) =
-        out {j = h} (record {
-          spread = g.spread start t₀ refl F.spread;
-          within = omega (arith, g.count);
-          place = omega (arith, g.up);
-          slot = lk;
-          may = rw (g.keep h l) may;
-          exit = rw (g.keep h l) o;
+    pub front-exit : {y : Way} → Left J rec (get_or q h 0) h t q f w n t' q' f' w' y → Found J rec start t₀ t' q' f' w' y.place y.slot y.count
+    front-exit {y} e =
+        rw e.place (record {
+          spread = e.grown.spread start t₀ refl F.spread;
+          within = omega (arith, e.grown.count);
+          place = omega (arith, e.grown.up);
+          slot = e.slot;
+          may = rw (e.grown.keep h l) e.may;
+          exit = rw (e.grown.keep h l) e.exit;
         })
-
-    module _ {s : Step} (y : Expanded J rec (get_or q h 0) h t q f w n t' q' f' w' s) where
-      pub front-more : {a : ℕ} → s ≡ More a → Front J rec start t₀ t' q' f' w' (h + 1) a
-      front-more e = more-front (subst (λ (x : Step). Expanded J rec (get_or q h 0) h t q f w n t' q' f' w' x) e y)
-
-      pub front-exit : {k a : ℕ} → s ≡ Exit k a → Searched J rec start t₀ t' q' f' w' (Out h k a)
-      front-exit e = exit-front (subst (λ (x : Step). Expanded J rec (get_or q h 0) h t q f w n t' q' f' w' x) e y)

@@ -18,11 +18,9 @@ use Rattle.augment.specs.NoMore.{Reached, from, onto}
 use Rattle.augment.specs.Dead.{dead-laid}
 use Rattle.augment.specs.Marks.{marked, is-marked, marked-spot, marked-byte, Unmarked}
 use Rattle.augment.specs.Spread.{Spread}
-use Rattle.augment.specs.Steps.{Done, Found, Searched, out, closed}
+use Rattle.augment.specs.Steps.{Done, Found}
 use Rattle.augment.specs.Ways.{LaidTo, way-path, times-reverse}
 use Rattle.augment.specs.Pins.{Held, Dead, Unwired, AllReached, Open, open-pin, no_pin_lem, Tested, wired, shut}
-use Rattle.augment.specs.declared.reach.Way.{Way}
-use Rattle.augment.specs.declared.reach.Way.TheVariants.{Out, Closed}
 
 -- ---- an unwired pin
 
@@ -146,16 +144,3 @@ module _ {J : Job} {rec t : List ℕ} {u : ℕ} {b : Bool} (o : Open J rec t u b
     where
       by : Open J rec t u false → Unwired J rec u → T (marked t u)
       by (no_pin_lem h) = h
-
-module _ {J : Job} {rec : List ℕ} {start : ℕ} {t₀ t q f w : List ℕ} {y : Way} (r : Searched J rec start t₀ t q f w y) where
-  pub was-out : {j k n : ℕ} → y ≡ Out j k n → Found J rec start t₀ t q f w j k n
-  was-out {j} {k} {n} e = by (subst (λ (x : Way). Searched J rec start t₀ t q f w x) e r)
-    where
-      by : Searched J rec start t₀ t q f w (Out j k n) → Found J rec start t₀ t q f w j k n
-      by (out F) = F
-
-  pub was-closed : {n : ℕ} → y ≡ Closed n → Spread J (moves J rec) start t₀ t q f w n × Done J rec t q n
-  was-closed {n} e = by (subst (λ (x : Way). Searched J rec start t₀ t q f w x) e r)
-    where
-      by : Searched J rec start t₀ t q f w (Closed n) → Spread J (moves J rec) start t₀ t q f w n × Done J rec t q n
-      by (closed s l d) = (s, d)

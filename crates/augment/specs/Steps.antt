@@ -1,13 +1,10 @@
 -- What one slot, one spot and the whole search do to the marks and the queue. Assumes nothing.
-use Rattle.std.specs.Prelude.{◌≡◌, ◌≢◌, Bool, ◌&&◌, List, ℕ, ◌+◌, ◌*◌, ◌/◌, ◌≤◌, ◌<◌, T, length, get_or, set}
+use Rattle.std.specs.Prelude.{◌≡◌, ◌≢◌, Bool, ◌&&◌, List, ℕ, ◌+◌, ◌*◌, ◌/◌, ◌≤◌, ◌<◌, T, Result, Ok, Err, length, get_or, set}
 use Rattle.model.specs.Job.{Job}
 use Rattle.channel.specs.Map.{spots, rev, outside, moves}
 use Rattle.augment.specs.Marks.{unmarked}
 use Rattle.augment.specs.Spread.{Room, Spread}
-use Rattle.augment.specs.declared.reach.Step.{Step}
-use Rattle.augment.specs.declared.reach.Step.TheVariants.{Exit, More}
 use Rattle.augment.specs.declared.reach.Way.{Way}
-use Rattle.augment.specs.declared.reach.Way.TheVariants.{Out, Closed}
 
 -- both records are whole
 pub record Whole (job rec : List ℕ) : Type 0 where
@@ -23,11 +20,11 @@ pub record Ready (job rec t q f w : List ℕ) (u h n : ℕ) : Type 0 where
   pub spot : u < spots
 
 -- slot k of u: it leads outside; it leads nowhere new; or its spot is marked and queued
-pub data Tried (J : Job) (rec : List ℕ) (u k h : ℕ) (t q f w : List ℕ) (n : ℕ) : List ℕ → List ℕ → List ℕ → List ℕ → Step → Type 0 where
-  exit : T (moves J rec (8 * u + k)) → T (outside J (rev (8 * u + k) / 8)) → Tried J rec u k h t q f w n t q f w (Exit k n)
-  old : (T (moves J rec (8 * u + k)) → get_or t (rev (8 * u + k) / 8) 0 ≡ 1) → Tried J rec u k h t q f w n t q f w (More n)
+pub data Tried (J : Job) (rec : List ℕ) (u k h : ℕ) (t q f w : List ℕ) (n : ℕ) : List ℕ → List ℕ → List ℕ → List ℕ → Result ℕ Way → Type 0 where
+  exit : T (moves J rec (8 * u + k)) → T (outside J (rev (8 * u + k) / 8)) → Tried J rec u k h t q f w n t q f w (Err (record { place = h; slot = k; count = n }))
+  old : (T (moves J rec (8 * u + k)) → get_or t (rev (8 * u + k) / 8) 0 ≡ 1) → Tried J rec u k h t q f w n t q f w (Ok n)
   new : (v : ℕ) → v < spots → v ≡ rev (8 * u + k) / 8 → T (moves J rec (8 * u + k)) → (T (outside J v) → ⊥) → get_or t v 0 ≢ 1
-      → Tried J rec u k h t q f w n (set t v 1) (set q n v) (set f n h) (set w n k) (More (n + 1))
+      → Tried J rec u k h t q f w n (set t v 1) (set q n v) (set f n h) (set w n k) (Ok (n + 1))
 
 -- the slots of u below k were tried
 pub record Grown (J : Job) (rec : List ℕ) (u k h : ℕ) (t q f w : List ℕ) (n : ℕ) (t' q' f' w' : List ℕ) (n' : ℕ) : Type 0 where
@@ -40,11 +37,18 @@ pub record Grown (J : Job) (rec : List ℕ) (u k h : ℕ) (t q f w : List ℕ) (
   pub done : (j : ℕ) → j < k → T (moves J rec (8 * u + j)) → get_or t' (rev (8 * u + j) / 8) 0 ≡ 1
   pub spread : (start : ℕ) (t₀ : List ℕ) → get_or q h 0 ≡ u → Spread J (moves J rec) start t₀ t q f w n → Spread J (moves J rec) start t₀ t' q' f' w' n'
 
+-- slot k of u leads outside, and those before it were tried
+pub record Left (J : Job) (rec : List ℕ) (u h : ℕ) (t q f w : List ℕ) (n : ℕ) (t' q' f' w' : List ℕ) (y : Way) : Type 0 where
+  pub place : y.place ≡ h
+  pub slot : y.slot < 8
+  pub may : T (moves J rec (8 * u + y.slot))
+  pub exit : T (outside J (rev (8 * u + y.slot) / 8))
+  pub grown : Grown J rec u y.slot h t q f w n t' q' f' w' y.count
+
 -- the slots of u were tried, up to one that leads outside if there is one
-pub data Expanded (J : Job) (rec : List ℕ) (u h : ℕ) (t q f w : List ℕ) (n : ℕ) (t' q' f' w' : List ℕ) : Step → Type 0 where
-  exit : {k n' : ℕ} → k < 8 → T (moves J rec (8 * u + k)) → T (outside J (rev (8 * u + k) / 8)) → Grown J rec u k h t q f w n t' q' f' w' n'
-      → Expanded J rec u h t q f w n t' q' f' w' (Exit k n')
-  more : {n' : ℕ} → Grown J rec u 8 h t q f w n t' q' f' w' n' → Expanded J rec u h t q f w n t' q' f' w' (More n')
+abbrev pub Expanded : Job → List ℕ → ℕ → ℕ → (t q f w : List ℕ) → ℕ → (t' q' f' w' : List ℕ) → Result ℕ Way → Type 0
+Expanded J rec u h t q f w n t' q' f' w' (Ok n') = Grown J rec u 8 h t q f w n t' q' f' w' n'
+Expanded J rec u h t q f w n t' q' f' w' (Err y) = Left J rec u h t q f w n t' q' f' w' y
 
 -- the first h spots in the queue are expanded: each of their moves leads to a marked spot
 abbrev pub Done : Job → List ℕ → List ℕ → List ℕ → ℕ → Type 0
@@ -72,10 +76,16 @@ pub record Found (J : Job) (rec : List ℕ) (start : ℕ) (t₀ t q f w : List �
   pub may : T (moves J rec (8 * get_or q j 0 + k))
   pub exit : T (outside J (rev (8 * get_or q j 0 + k) / 8))
 
--- a way out, by slot k of the j-th spot; or none
-pub data Searched (J : Job) (rec : List ℕ) (start : ℕ) (t₀ t q f w : List ℕ) : Way → Type 0 where
-  out : {j k n : ℕ} → Found J rec start t₀ t q f w j k n → Searched J rec start t₀ t q f w (Out j k n)
-  closed : {n : ℕ} → Spread J (moves J rec) start t₀ t q f w n → n ≤ spots → Done J rec t q n → Searched J rec start t₀ t q f w (Closed n)
+-- what moves reach: n spots, which are all expanded
+pub record Exhausted (J : Job) (rec : List ℕ) (start : ℕ) (t₀ t q f w : List ℕ) (n : ℕ) : Type 0 where
+  pub spread : Spread J (moves J rec) start t₀ t q f w n
+  pub within : n ≤ spots
+  pub done : Done J rec t q n
+
+-- a way out; or none
+abbrev pub Searched : Job → List ℕ → ℕ → (t₀ t q f w : List ℕ) → Result ℕ Way → Type 0
+Searched J rec start t₀ t q f w (Ok n) = Exhausted J rec start t₀ t q f w n
+Searched J rec start t₀ t q f w (Err y) = Found J rec start t₀ t q f w y.place y.slot y.count
 
 -- where a search may begin
 pub record Fresh (J : Job) (t : List ℕ) (start : ℕ) : Type 0 where

@@ -7,27 +7,14 @@
 //     26,513 to 28,153  for each cell what `rings` has of its tile, 0 for what was not asked yet,
 //                       where the lists are long enough for it
 ghost use Rattle.std.specs.Prelude.{◌≡◌, ℕ, ◌%◌, ◌≤◌, ◌<◌, length, get_or};
-ghost use Rattle.augment.specs.Turns.{swapped};
+ghost use Rattle.augment.specs.Work.{SameLent, ListsOnly, Exchanged};
 
+use crate::work::Work;
 use channel::{columns, rows};
-
-// An entry as a number.
-fn wide(x: u16) -> usize
-    ensures { (result ≡ x) × (result < 65536) }
-{
-    x as usize
-}
-
-// The smaller of two.
-fn least(a: usize, b: usize) -> usize
-    ensures { (result ≤ a) × (result ≤ b) }
-{
-    if a < b { a } else { b }
-}
 
 // How many of n follow the r-th.
 fn beyond(n: usize, r: usize) -> usize {
-    if r < n { n - 1 - r } else { 0 }
+    n.saturating_sub(r).saturating_sub(1)
 }
 
 // 0 for a place that faces the nearest rim, 2 for one that faces away from it, else 1.
@@ -52,7 +39,7 @@ fn rings(n: usize, m: usize, x: usize) -> usize
     let c = (x - 41) % 40;
     let y = beyond(n, r + 1);
     let z = beyond(m, c + 1);
-    let g = least(r, least(c, least(y, z)));
+    let g = r.min(c).min(y).min(z);
     let north = facing(r == g, y == g);
     let east = facing(z == g, c == g);
     let south = facing(y == g, r == g);
@@ -68,12 +55,12 @@ fn ring_at(lists: &mut [u16], n: usize, m: usize, x: usize) -> usize
     if lists.len() <= 26513 + x {
         return rings(n, m, x);
     }
-    let e = wide(lists[26513 + x]);
+    let e = usize::from(lists[26513 + x]);
     if e != 0 {
         return e;
     }
     let f = rings(n, m, x);
-    store(lists, 26513 + x, f);
+    lists[26513 + x] = f as u16;
     f
 }
 
@@ -84,7 +71,7 @@ fn pin_level(n: usize, m: usize, u: usize) -> usize
 {
     let r = (u - 328) / 320;
     let c = (u - 328) % 320 / 8;
-    3 * least(r, least(c, least(beyond(n, r), beyond(m, c)))) + 1 - u % 8
+    3 * r.min(c).min(beyond(n, r)).min(beyond(m, c)) + 1 - u % 8
 }
 
 // How far the spot u is from the rim of n rows and m columns of pins: three levels for each ring.
@@ -102,25 +89,18 @@ fn level(lists: &mut [u16], n: usize, m: usize, u: usize) -> usize
     let e = ring_at(lists, n, m, u / 8);
     let g = e / 256 % 128;
     if 5 < k {
-        return least(3 * g + 8 - k, 127);
+        return (3 * g + 8 - k).min(127);
     }
-    least(3 * g + (e >> (2 * (k - 2))) % 4, 127)
+    (3 * g + (e >> (2 * (k - 2))) % 4).min(127)
 }
 
 // Every list is empty.
 pub fn no_lists(lists: &mut [u16])
     requires { 26513 ≤ length lists.old }
 {
-    for l in 0..128 {
-        lists[l] = 0;
+    for head in &mut lists[..128] {
+        *head = 0;
     }
-}
-
-// An entry, at x.
-fn store(lists: &mut [u16], x: usize, entry: usize)
-    requires { (x < length lists.old) × (entry < 65536) }
-{
-    lists[x] = entry as u16;
 }
 
 // Where the next spot of the list l is to be put: at its head if it has none, else behind its last.
@@ -131,7 +111,7 @@ fn end(lists: &[u16], l: usize) -> usize
     if lists[l] == 0 {
         return l;
     }
-    256 + 2 * least(wide(lists[128 + l]), 13127)
+    256 + 2 * usize::from(lists[128 + l]).min(13127)
 }
 
 // The spot u, which is the i-th in the queue, on the list l.
@@ -139,43 +119,10 @@ fn put(lists: &mut [u16], l: usize, u: usize, i: usize)
     requires { (26513 ≤ length lists.old) × (l < 128) × (u < 13128) × (i < 13128) }
 {
     let x = end(lists, l);
-    store(lists, x, u);
-    store(lists, 128 + l, u);
-    store(lists, 256 + 2 * u, 0);
-    store(lists, 257 + 2 * u, i);
-}
-
-// The spots from the a-th to before the n-th in the queue on their lists; the lowest of these lists and low. A search with so many spots is likely to come
-// to all that it can reach, so that their order does not matter: it keeps no lists any more.
-pub fn enlist(job: &[u8], queue: &[u16], lists: &mut [u16], a: usize, n: usize, low: usize) -> usize
-    requires { (32768 ≤ length job.now) × (26513 ≤ length lists.old) × (n ≤ 13128) × (n ≤ length queue.now)
-        × ((i : ℕ) → i < n → get_or queue.now i 0 < 13128) }
-{
-    if 6144 <= a {
-        return 128;
-    }
-    let r = rows(job);
-    let c = columns(job);
-    let mut b = low;
-    for i in a..n {
-        let u = wide(queue[i]);
-        let l = level(lists, r, c, u);
-        put(lists, l, u, i);
-        b = least(b, l);
-    }
-    b
-}
-
-// The first list from low on that is not empty, or 128.
-pub fn first(lists: &[u16], low: usize) -> usize
-    requires { 26513 ≤ length lists.now }
-{
-    for l in low..128 {
-        if lists[l] != 0 {
-            return l;
-        }
-    }
-    128
+    lists[x] = u as u16;
+    lists[128 + l] = u as u16;
+    lists[256 + 2 * u] = 0;
+    lists[257 + 2 * u] = i as u16;
 }
 
 // The place in the queue of the first spot of the list l, which leaves the list; the h-th where that is none of those that wait.
@@ -186,11 +133,11 @@ pub fn take(lists: &mut [u16], l: usize, h: usize, n: usize) -> usize
     if 128 <= l {
         return h;
     }
-    let u = wide(lists[l]);
+    let u = usize::from(lists[l]);
     if 13128 <= u {
         return h;
     }
-    let i = wide(lists[257 + 2 * u]);
+    let i = usize::from(lists[257 + 2 * u]);
     lists[l] = lists[256 + 2 * u];
     if i < h {
         return h;
@@ -201,52 +148,63 @@ pub fn take(lists: &mut [u16], l: usize, h: usize, n: usize) -> usize
     i
 }
 
-// The h-th and the i-th in the queue change places.
-fn swap(
-    queue: &mut [u16],
-    parent: &mut [u16],
-    slot: &mut [u8],
-    lists: &mut [u16],
-    h: usize,
-    i: usize,
-)
-    requires { (h < length queue.old) × (h < length parent.old) × (h < length slot.old)
-        × (i < length queue.old) × (i < length parent.old) × (i < length slot.old)
-        × (26513 ≤ length lists.old) × (get_or queue.old h 0 < 13128) × (i < 13128) }
-    ensures { (queue.new ≡ swapped queue.old h i) × (parent.new ≡ swapped parent.old h i)
-        × (slot.new ≡ swapped slot.old h i) }
-{
-    let u = queue[h];
-    let p = parent[h];
-    let k = slot[h];
-    queue[h] = queue[i];
-    queue[i] = u;
-    parent[h] = parent[i];
-    parent[i] = p;
-    slot[h] = slot[i];
-    slot[i] = k;
-    lists[257 + 2 * wide(u)] = i as u16;
-}
-
-// The same, and nothing where they are one.
-pub fn exchange(
-    queue: &mut [u16],
-    parent: &mut [u16],
-    slot: &mut [u8],
-    lists: &mut [u16],
-    h: usize,
-    i: usize,
-)
-    requires { (h < length queue.old) × (h < length parent.old) × (h < length slot.old)
-        × (i < length queue.old) × (i < length parent.old) × (i < length slot.old)
-        × (26513 ≤ length lists.old) × (get_or queue.old h 0 < 13128) × (i < 13128) }
-    ensures { (queue.new ≡ swapped queue.old h i) × (parent.new ≡ swapped parent.old h i)
-        × (slot.new ≡ swapped slot.old h i) }
-{
-    if i == h {
-        return;
+impl<'a> Work<'a> {
+    // The spots from the a-th to before the n-th in the queue on their lists; the lowest of these lists and low. A search with so many spots is likely to come
+    // to all that it can reach, so that their order does not matter: it keeps no lists any more.
+    pub(crate) fn enlist(&mut self, job: &[u8], a: usize, n: usize, low: usize) -> usize
+        requires job { 32768 ≤ length job.now }
+        requires lists { 26513 ≤ length self.old.lists.now }
+        requires count { (n ≤ 13128) × (n ≤ length self.old.queue.now) }
+        requires spots { (i : ℕ) → i < n → get_or self.old.queue.now i 0 < 13128 }
+        ensures lent { SameLent self.old self.new }
+        ensures rest { ListsOnly self.old self.new }
+    {
+        if 6144 <= a {
+            return 128;
+        }
+        let r = rows(job);
+        let c = columns(job);
+        let mut b = low;
+        for i in a..n {
+            let u = usize::from(self.queue[i]);
+            let l = level(self.lists, r, c, u);
+            put(self.lists, l, u, i);
+            b = b.min(l);
+        }
+        b
     }
-    swap(queue, parent, slot, lists, h, i);
+
+    // The first list from low on that is not empty, or 128.
+    pub(crate) fn first(&self, low: usize) -> usize
+        requires { 26513 ≤ length self.now.lists.now }
+    {
+        for l in low..128 {
+            if self.lists[l] != 0 {
+                return l;
+            }
+        }
+        128
+    }
+
+    // The h-th and the i-th in the queue change places.
+    pub(crate) fn exchange(&mut self, h: usize, i: usize)
+        requires queue { (h < length self.old.queue.now) × (i < length self.old.queue.now) }
+        requires parent { (h < length self.old.parent.now) × (i < length self.old.parent.now) }
+        requires slot { (h < length self.old.slot.now) × (i < length self.old.slot.now) }
+        requires lists { 26513 ≤ length self.old.lists.now }
+        requires spots { (get_or self.old.queue.now h 0 < 13128) × (i < 13128) }
+        ensures lent { SameLent self.old self.new }
+        ensures exchanged { Exchanged h i self.old self.new }
+    {
+        if i == h {
+            return;
+        }
+        let u = usize::from(self.queue[h]);
+        self.queue.swap(h, i);
+        self.parent.swap(h, i);
+        self.slot.swap(h, i);
+        self.lists[257 + 2 * u] = i as u16;
+    }
 }
 
 // The line from which the last wire was laid, or n if that is less.
@@ -254,12 +212,12 @@ pub fn last_line(lists: &[u16], n: usize) -> usize
     requires { 26513 ≤ length lists.now }
     ensures { result ≤ n }
 {
-    least(wide(lists[26512]), n)
+    usize::from(lists[26512]).min(n)
 }
 
 // A wire is laid from the i-th line.
 pub fn note_line(lists: &mut [u16], i: usize)
     requires { (26513 ≤ length lists.old) × (i < 65536) }
 {
-    store(lists, 26512, i);
+    lists[26512] = i as u16;
 }

@@ -6,20 +6,17 @@ ghost use Rattle.model.specs.Record.{job_of};
 ghost use Rattle.channel.specs.Map.{spots};
 ghost use Rattle.augment.specs.Spread.{Room};
 ghost use Rattle.augment.specs.Steps.{Whole};
+ghost use Rattle.augment.specs.Marks.{Listed, Unmarked};
+ghost use Rattle.augment.specs.Ways.{Linked, LaidTo};
+ghost use Rattle.augment.specs.Work.{SameLent, LentTo, MarksOnly};
 ghost use Rattle.augment.specs.Pins.{Held, Dead, Open, Tested, inward, spot_on, Nth, OnLine, InRows, AnySpot, Answered};
 
 use crate::lists::{last_line, note_line};
-use crate::reach::{Way, reach};
-use crate::ways::{lay_way, unmark};
+use crate::reach::Way;
+use crate::ways::lay_way;
+use crate::work::Work;
 use channel::places::pin_exit;
 use channel::{columns, is_start, rows, wire_starts};
-
-// The spot of the pin from which a wire was laid; or no wire more fits.
-#[derive(Clone, Copy)]
-pub enum Next {
-    Laid(usize),
-    Nothing,
-}
 
 // A row of so many pins, or a column where it is upright, and its number.
 #[derive(Clone, Copy)]
@@ -79,111 +76,117 @@ pub fn spot_on(l: Line, x: usize) -> usize
     }
 }
 
-// Whether a search is to begin at u.
-fn is_open(job: &[u8], loads: &[u8], marks: &[u8], u: usize) -> bool
-    requires { Whole job.now loads.now × (spots ≤ length marks.now) × (u < spots) }
-    ensures { Open (job_of job.now) loads.now marks.now u result }
-{
-    if !is_start(job, u) {
-        return false;
-    }
-    if wire_starts(job, loads, u) != 0 {
-        return false;
-    }
-    if marks[u] == 1 {
-        return false;
-    }
-    true
-}
-
-// Lays a wire from u, if u is a pin that is to have one and there is a way out.
-fn wire_from(
-    job: &[u8],
-    loads: &mut [u8],
-    u: usize,
-    marks: &mut [u8],
-    queue: &mut [u16],
-    parent: &mut [u16],
-    slot: &mut [u8],
-    lists: &mut [u16],
-) -> bool
-    requires { Whole job.now loads.old × Room marks.old queue.old parent.old slot.old
-        × Held (job_of job.now) loads.old × Dead (job_of job.now) loads.old marks.old × (u < spots)
-        × (26513 ≤ length lists.old) }
-    ensures { Tested (job_of job.now) loads.old marks.old u loads.new marks.new result }
-{
-    if !is_open(job, loads, marks, u) {
-        return false;
-    }
-    match reach(job, loads, u, marks, queue, parent, slot, lists) {
-        Way::Out(j, k, n) => {
-            lay_way(loads, queue, parent, slot, j, k);
-            unmark(marks, queue, n);
-            true
+impl<'a> Work<'a> {
+    // Whether a search is to begin at u.
+    fn is_open(&self, job: &[u8], loads: &[u8], u: usize) -> bool
+        requires { Whole job.now loads.now × (spots ≤ length self.now.marks.now) × (u < spots) }
+        ensures { Open (job_of job.now) loads.now self.now.marks.now u result }
+    {
+        if !is_start(job, u) {
+            return false;
         }
-        Way::Closed(_) => false,
+        if wire_starts(job, loads, u) != 0 {
+            return false;
+        }
+        if self.marks[u] == 1 {
+            return false;
+        }
+        true
     }
-}
 
-// Lays a wire from the first pin of a line that is to have one and has a way out; its pins are tried from the ends inwards.
-fn line_wire(
-    job: &[u8],
-    loads: &mut [u8],
-    l: Line,
-    marks: &mut [u8],
-    queue: &mut [u16],
-    parent: &mut [u16],
-    slot: &mut [u8],
-    lists: &mut [u16],
-) -> Next
-    requires { Whole job.now loads.old × Room marks.old queue.old parent.old slot.old
-        × Held (job_of job.now) loads.old × Dead (job_of job.now) loads.old marks.old × (l.number < 40) × (l.pins ≤ 40)
-        × (26513 ≤ length lists.old) }
-    ensures { Answered (job_of job.now) (OnLine l l.pins)
-        loads.old marks.old loads.new marks.new result }
-{
-    let n = l.pins;
-    for i in 0..n {
-        let u = spot_on(l, inwards(i, n));
-        if wire_from(job, loads, u, marks, queue, parent, slot, lists) {
-            return Next::Laid(u);
+    // Lays the way that a search found.
+    fn lay(&self, loads: &mut [u8], way: Way)
+        requires { Linked loads.old self.now.queue.now self.now.parent.now self.now.slot.now way.place way.slot }
+        ensures { LaidTo self.now.queue.now self.now.parent.now self.now.slot.now way.place way.slot 0 loads.old loads.new }
+    {
+        lay_way(
+            loads,
+            self.queue,
+            self.parent,
+            self.slot,
+            way.place,
+            way.slot,
+        );
+    }
+
+    // The first n spots in the queue are not marked any more.
+    fn unmark(&mut self, n: usize)
+        requires { Listed self.old.marks.now self.old.queue.now n }
+        ensures same { SameLent self.old self.new }
+        ensures rest { MarksOnly self.old self.new }
+        ensures unmarked { Unmarked self.old.queue.now n self.old.marks.now self.new.marks.now }
+    {
+        for i in 0..n {
+            let u = self.queue[i] as usize;
+            self.marks[u] = 0;
         }
     }
-    Next::Nothing
-}
 
-// Lays a wire from the first pin that is to have one and has a way out, of the lines from a to before b.
-fn lines_wire(
-    job: &[u8],
-    loads: &mut [u8],
-    a: usize,
-    b: usize,
-    marks: &mut [u8],
-    queue: &mut [u16],
-    parent: &mut [u16],
-    slot: &mut [u8],
-    lists: &mut [u16],
-) -> Next
-    requires { Whole job.now loads.old × Room marks.old queue.old parent.old slot.old
-        × Held (job_of job.now) loads.old × Dead (job_of job.now) loads.old marks.old
-        × (26513 ≤ length lists.old) × (a ≤ b) × (b ≤ 2 * (job_of job.now).rows) }
-    ensures { Answered (job_of job.now) (InRows (job_of job.now) a b)
-        loads.old marks.old loads.new marks.new result }
-{
-    for i in a..b {
-        let l = nth_line(job, i);
-        match line_wire(job, loads, l, marks, queue, parent, slot, lists) {
-            Next::Laid(u) => {
-                note_line(lists, i);
-                return Next::Laid(u);
+    // Lays a wire from u, if u is a pin that is to have one and there is a way out.
+    fn wire_from(&mut self, job: &[u8], loads: &mut [u8], u: usize) -> bool
+        requires lent { LentTo job.now loads.old self.old }
+        requires held { Held (job_of job.now) loads.old }
+        requires dead { Dead (job_of job.now) loads.old self.old.marks.now }
+        requires spot { u < spots }
+        ensures same { SameLent self.old self.new }
+        ensures lent { LentTo job.now loads.new self.new }
+        ensures tested { Tested (job_of job.now) loads.old self.old.marks.now u loads.new self.new.marks.now result }
+    {
+        if !self.is_open(job, loads, u) {
+            return false;
+        }
+        match self.reach(job, loads, u) {
+            Ok(_) => false,
+            Err(way) => {
+                self.lay(loads, way);
+                self.unmark(way.count);
+                true
             }
-            Next::Nothing => {}
         }
     }
-    Next::Nothing
+
+    // Lays a wire from the first pin of a line that is to have one and has a way out, whose spot it gives; its pins are tried from the ends inwards.
+    fn line_wire(&mut self, job: &[u8], loads: &mut [u8], l: Line) -> Option<usize>
+        requires lent { LentTo job.now loads.old self.old }
+        requires held { Held (job_of job.now) loads.old }
+        requires dead { Dead (job_of job.now) loads.old self.old.marks.now }
+        requires line { (l.number < 40) × (l.pins ≤ 40) }
+        ensures same { SameLent self.old self.new }
+        ensures lent { LentTo job.now loads.new self.new }
+        ensures answered { Answered (job_of job.now) (OnLine l l.pins) loads.old self.old.marks.now loads.new self.new.marks.now result }
+    {
+        let n = l.pins;
+        for i in 0..n {
+            let u = spot_on(l, inwards(i, n));
+            if self.wire_from(job, loads, u) {
+                return Some(u);
+            }
+        }
+        None
+    }
+
+    // Lays a wire from the first pin that is to have one and has a way out, of the lines from a to before b, and gives its spot.
+    fn lines_wire(&mut self, job: &[u8], loads: &mut [u8], a: usize, b: usize) -> Option<usize>
+        requires lent { LentTo job.now loads.old self.old }
+        requires held { Held (job_of job.now) loads.old }
+        requires dead { Dead (job_of job.now) loads.old self.old.marks.now }
+        requires lines { (a ≤ b) × (b ≤ 2 * (job_of job.now).rows) }
+        ensures same { SameLent self.old self.new }
+        ensures lent { LentTo job.now loads.new self.new }
+        ensures answered { Answered (job_of job.now) (InRows (job_of job.now) a b) loads.old self.old.marks.now loads.new self.new.marks.now result }
+    {
+        for i in a..b {
+            let l = nth_line(job, i);
+            if let Some(u) = self.line_wire(job, loads, l) {
+                note_line(self.lists, i);
+                return Some(u);
+            }
+        }
+        None
+    }
 }
 
-// Lays the next wire. The lines before that of the last wire come last: their pins are wired, or have no way out.
+// Lays the next wire and gives the spot of its pin, or none where no wire more fits. The lines before that of the last wire come last: their pins are wired, or have no way out.
 pub fn next_wire(
     job: &[u8],
     loads: &mut [u8],
@@ -192,7 +195,7 @@ pub fn next_wire(
     parent: &mut [u16],
     slot: &mut [u8],
     lists: &mut [u16],
-) -> Next
+) -> Option<usize>
     requires { Whole job.now loads.old × Room marks.old queue.old parent.old slot.old
         × Held (job_of job.now) loads.old × Dead (job_of job.now) loads.old marks.old × (26513 ≤ length lists.old) }
     ensures { Answered (job_of job.now) AnySpot
@@ -200,8 +203,15 @@ pub fn next_wire(
 {
     let n = 2 * rows(job);
     let a = last_line(lists, n);
-    match lines_wire(job, loads, a, n, marks, queue, parent, slot, lists) {
-        Next::Laid(u) => Next::Laid(u),
-        Next::Nothing => lines_wire(job, loads, 0, a, marks, queue, parent, slot, lists),
+    let mut work = Work {
+        marks,
+        queue,
+        parent,
+        slot,
+        lists,
+    };
+    if let Some(u) = work.lines_wire(job, loads, a, n) {
+        return Some(u);
     }
+    work.lines_wire(job, loads, 0, a)
 }

@@ -1,60 +1,23 @@
 // The search for a way out: from one spot along moves, never entering a marked spot, the spots nearest to the rim first. It works on what is lent to it.
-ghost use Rattle.std.specs.Prelude.{◌≡◌, ◌+◌, ◌*◌, ◌≤◌, ◌<◌, T, length};
+ghost use Rattle.std.specs.Prelude.{◌≡◌, ◌+◌, ◌*◌, ◌≤◌, ◌<◌, T, length, get_or};
 ghost use Rattle.model.specs.Record.{job_of};
 ghost use Rattle.channel.specs.Map.{spots, moves};
 ghost use Rattle.slots.specs.Ahead.{Bits};
 ghost use Rattle.augment.specs.Slots.{goes_on};
-ghost use Rattle.augment.specs.Spread.{Room};
-ghost use Rattle.augment.specs.Steps.{Whole, Ready, Tried, Expanded, leaves, Searched, Fresh};
+ghost use Rattle.augment.specs.Steps.{Whole, leaves, Fresh};
+ghost use Rattle.augment.specs.Work.{SameLent, LentTo, ReadyAt, TriedAt, ExpandedAt, SearchedAt};
 
-use crate::lists::{enlist, exchange, first, no_lists, take};
+use crate::lists::{no_lists, take};
+use crate::work::Work;
 use channel::{can_move, head_of, is_outside, lowest};
 use slots::{move_slots, unmarked};
 
-// The way out: slot k of the j-th spot in the queue, which has n; or there is none, and the queue has n.
+// The way out: slot `slot` of the spot at `place` in the queue of `count`. A search ends with it as an error, and goes on otherwise.
 #[derive(Clone, Copy)]
-pub enum Way {
-    Out(usize, usize, usize),
-    Closed(usize),
-}
-
-// A slot that leads outside, and how many spots are in the queue; or that number alone.
-#[derive(Clone, Copy)]
-enum Step {
-    Exit(usize, usize),
-    More(usize),
-}
-
-// Slot k of the spot u, a move; u is the h-th in the queue of n.
-fn attempt(
-    job: &[u8],
-    loads: &[u8],
-    u: usize,
-    k: usize,
-    h: usize,
-    marks: &mut [u8],
-    queue: &mut [u16],
-    parent: &mut [u16],
-    slot: &mut [u8],
-    n: usize,
-) -> Step
-    requires { Ready job.now loads.now marks.old queue.old parent.old slot.old u h n × (k < 8) × T (moves (job_of job.now) loads.now (8 * u + k)) }
-    ensures { Tried (job_of job.now) loads.now u k h
-        marks.old queue.old parent.old slot.old n
-        marks.new queue.new parent.new slot.new result }
-{
-    let v = head_of(8 * u + k);
-    if marks[v] == 1 {
-        return Step::More(n);
-    }
-    if is_outside(job, v) {
-        return Step::Exit(k, n);
-    }
-    marks[v] = 1;
-    queue[n] = v as u16;
-    parent[n] = h as u16;
-    slot[n] = k as u8;
-    Step::More(n + 1)
+pub struct Way {
+    pub place: usize,
+    pub slot: usize,
+    pub count: usize,
 }
 
 // The slots of u by which the search goes on: moves to spots with no mark.
@@ -63,84 +26,6 @@ pub fn onward(job: &[u8], loads: &[u8], marks: &[u8], u: usize) -> usize
     ensures { Bits 8 (goes_on (job_of job.now) loads.now marks.now u) result }
 {
     move_slots(job, loads, u, unmarked(marks, u))
-}
-
-// All slots of the spot u, which is the h-th in the queue of n, up to one that leads outside: the moves to spots with no mark as it begins.
-fn expand(
-    job: &[u8],
-    loads: &[u8],
-    u: usize,
-    h: usize,
-    marks: &mut [u8],
-    queue: &mut [u16],
-    parent: &mut [u16],
-    slot: &mut [u8],
-    n: usize,
-) -> Step
-    requires { Ready job.now loads.now marks.old queue.old parent.old slot.old u h n }
-    ensures { Expanded (job_of job.now) loads.now u h
-        marks.old queue.old parent.old slot.old n
-        marks.new queue.new parent.new slot.new result }
-{
-    let mut m = n;
-    let mut k = 0;
-    let mut left = onward(job, loads, marks, u);
-    while left != 0 {
-        let skip = lowest(left);
-        k += skip;
-        match attempt(job, loads, u, k, h, marks, queue, parent, slot, m) {
-            Step::Exit(a, b) => {
-                return Step::Exit(a, b);
-            }
-            Step::More(a) => {
-                m = a;
-            }
-        }
-        k += 1;
-        left = left >> (skip + 1);
-    }
-    Step::More(m)
-}
-
-// Spot by spot from start to the outside, or to all that moves reach. The first h spots in the queue of n are expanded; those behind them wait on the lists.
-fn explore(
-    job: &[u8],
-    loads: &[u8],
-    start: usize,
-    marks: &mut [u8],
-    queue: &mut [u16],
-    parent: &mut [u16],
-    slot: &mut [u8],
-    lists: &mut [u16],
-) -> Way
-    requires { Whole job.now loads.now × Room marks.old queue.old parent.old slot.old × Fresh (job_of job.now) marks.old start
-        × (26513 ≤ length lists.old) }
-    ensures { Searched (job_of job.now) loads.now start
-        marks.old marks.new queue.new parent.new slot.new result }
-{
-    marks[start] = 1;
-    queue[0] = start as u16;
-    no_lists(lists);
-    let mut n = 1;
-    let mut h = 0;
-    let mut low = 128;
-    while h < n {
-        low = first(lists, low);
-        let i = take(lists, low, h, n);
-        exchange(queue, parent, slot, lists, h, i);
-        let u = queue[h] as usize;
-        match expand(job, loads, u, h, marks, queue, parent, slot, n) {
-            Step::Exit(k, a) => {
-                return Way::Out(h, k, a);
-            }
-            Step::More(a) => {
-                low = enlist(job, queue, lists, n, a, low);
-                n = a;
-            }
-        }
-        h += 1;
-    }
-    Way::Closed(n)
 }
 
 // Whether a search at u is over at once: slot 4 of a chosen pin is its direct exit.
@@ -155,26 +40,114 @@ fn leaves_directly(job: &[u8], loads: &[u8], u: usize) -> bool
     is_outside(job, head_of(d))
 }
 
-// From start to the outside, by the direct exit if it can be; or to all that moves reach.
-pub fn reach(
-    job: &[u8],
-    loads: &[u8],
-    start: usize,
-    marks: &mut [u8],
-    queue: &mut [u16],
-    parent: &mut [u16],
-    slot: &mut [u8],
-    lists: &mut [u16],
-) -> Way
-    requires { Whole job.now loads.now × Room marks.old queue.old parent.old slot.old × Fresh (job_of job.now) marks.old start
-        × (26513 ≤ length lists.old) }
-    ensures { Searched (job_of job.now) loads.now start
-        marks.old marks.new queue.new parent.new slot.new result }
-{
-    if leaves_directly(job, loads, start) {
-        marks[start] = 1;
-        queue[0] = start as u16;
-        return Way::Out(0, 4, 1);
+impl<'a> Work<'a> {
+    // Slot k of the spot u, a move; u is the h-th in the queue of n. How many spots are in the queue then.
+    fn attempt(
+        &mut self,
+        job: &[u8],
+        loads: &[u8],
+        u: usize,
+        k: usize,
+        h: usize,
+        n: usize,
+    ) -> Result<usize, Way>
+        requires ready { ReadyAt job.now loads.now self.old u h n }
+        requires slot { k < 8 }
+        requires may { T (moves (job_of job.now) loads.now (8 * u + k)) }
+        ensures lent { SameLent self.old self.new }
+        ensures lists { self.new.lists.now ≡ self.old.lists.now }
+        ensures tried { TriedAt (job_of job.now) loads.now u k h n self.old self.new result }
+    {
+        let v = head_of(8 * u + k);
+        if self.marks[v] == 1 {
+            return Ok(n);
+        }
+        if is_outside(job, v) {
+            return Err(Way {
+                place: h,
+                slot: k,
+                count: n,
+            });
+        }
+        self.marks[v] = 1;
+        self.queue[n] = v as u16;
+        self.parent[n] = h as u16;
+        self.slot[n] = k as u8;
+        Ok(n + 1)
     }
-    explore(job, loads, start, marks, queue, parent, slot, lists)
+
+    // The slots of u by which the search goes on.
+    fn ahead(&self, job: &[u8], loads: &[u8], u: usize) -> usize
+        requires { Whole job.now loads.now × (spots ≤ length self.now.marks.now) × (u < spots) }
+        ensures { Bits 8 (goes_on (job_of job.now) loads.now self.now.marks.now u) result }
+    {
+        onward(job, loads, self.marks, u)
+    }
+
+    // All slots of the h-th spot in the queue of n, up to one that leads outside: the moves to spots with no mark as it begins.
+    fn expand(&mut self, job: &[u8], loads: &[u8], h: usize, n: usize) -> Result<usize, Way>
+        requires { ReadyAt job.now loads.now self.old (get_or self.old.queue.now h 0) h n }
+        ensures lent { SameLent self.old self.new }
+        ensures lists { self.new.lists.now ≡ self.old.lists.now }
+        ensures expanded { ExpandedAt (job_of job.now) loads.now (get_or self.old.queue.now h 0) h n self.old self.new result }
+    {
+        let u = self.queue[h] as usize;
+        let mut m = n;
+        let mut k = 0;
+        let mut left = self.ahead(job, loads, u);
+        while left != 0 {
+            let skip = lowest(left);
+            k += skip;
+            m = self.attempt(job, loads, u, k, h, m)?;
+            k += 1;
+            left = left >> (skip + 1);
+        }
+        Ok(m)
+    }
+
+    // Spot by spot from start to the outside, or to all that moves reach, and how many spots these are. The first h spots in the queue of n are expanded; those behind them wait on the lists.
+    fn explore(&mut self, job: &[u8], loads: &[u8], start: usize) -> Result<usize, Way>
+        requires lent { LentTo job.now loads.now self.old }
+        requires fresh { Fresh (job_of job.now) self.old.marks.now start }
+        ensures same { SameLent self.old self.new }
+        ensures lent { LentTo job.now loads.now self.new }
+        ensures searched { SearchedAt (job_of job.now) loads.now start self.old.marks.now self.new result }
+    {
+        self.marks[start] = 1;
+        self.queue[0] = start as u16;
+        no_lists(self.lists);
+        let mut n = 1;
+        let mut h = 0;
+        let mut low = 128;
+        while h < n {
+            low = self.first(low);
+            let i = take(self.lists, low, h, n);
+            self.exchange(h, i);
+            let m = self.expand(job, loads, h, n)?;
+            low = self.enlist(job, n, m, low);
+            n = m;
+            h += 1;
+        }
+        Ok(n)
+    }
+
+    // From start to the outside, by the direct exit if it can be; or to all that moves reach, and how many spots these are.
+    pub fn reach(&mut self, job: &[u8], loads: &[u8], start: usize) -> Result<usize, Way>
+        requires lent { LentTo job.now loads.now self.old }
+        requires fresh { Fresh (job_of job.now) self.old.marks.now start }
+        ensures same { SameLent self.old self.new }
+        ensures lent { LentTo job.now loads.now self.new }
+        ensures searched { SearchedAt (job_of job.now) loads.now start self.old.marks.now self.new result }
+    {
+        if leaves_directly(job, loads, start) {
+            self.marks[start] = 1;
+            self.queue[0] = start as u16;
+            return Err(Way {
+                place: 0,
+                slot: 4,
+                count: 1,
+            });
+        }
+        self.explore(job, loads, start)
+    }
 }

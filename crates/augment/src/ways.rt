@@ -24,8 +24,7 @@ pub fn unmark(marks: &mut [u8], queue: &[u16], n: usize)
     requires { Listed marks.old queue.now n }
     ensures { Unmarked queue.now n marks.old marks.new }
 {
-    for i in 0..n {
-        let u = queue[i] as usize;
-        marks[u] = 0;
+    for u in &queue[..n] {
+        marks[*u as usize] = 0;
     }
 }

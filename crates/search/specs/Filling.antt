@@ -1,6 +1,6 @@
 -- The laws of laying wires until no more fits. Each wire is one of those that are wanted, so there is an end; and what is marked at the end is the
 -- smallest near side. Assumes nothing.
-use Rattle.std.specs.Prelude.{◌≡◌, refl, Bool, true, false, List, ℕ, ◌+◌, ◌<◌, T, length}
+use Rattle.std.specs.Prelude.{◌≡◌, refl, Bool, true, false, Option, Some, None, is_some, List, ℕ, ◌+◌, ◌≤◌, ◌<◌, T, length}
 use Rattle.std.proofs.Common.{sym, subst, ◌∙◌, arith}
 use Rattle.sums.specs.Sums.{sum-cong, sum-le}
 use Rattle.flow.specs.Push.{more, sum_more}
@@ -14,11 +14,8 @@ use Rattle.channel.specs.Map.Network.Flows.{starts-wanted}
 use Rattle.augment.specs.OneMore.{OneMore}
 use Rattle.augment.specs.NoMore.{reached-smallest, reached-greatest}
 use Rattle.augment.specs.Marks.{marked, marked-spot, marked-byte}
-use Rattle.augment.specs.Pins.{Held, Dead, AnySpot, Answered}
-use Rattle.augment.specs.Passing.{was-laid, was-nothing}
+use Rattle.augment.specs.Pins.{Held, Dead, AnySpot, LaidAt, Passed, Answered}
 use Rattle.search.specs.Fill.{Cleared, More, Filling, Saturated, Filled, lacking}
-use Rattle.augment.specs.declared.next.Next.{Next}
-use Rattle.augment.specs.declared.next.Next.TheVariants.{Laid, Nothing}
 
 -- ---- no marks
 
@@ -28,18 +25,34 @@ cleared-none {t} c u m = omega (arith, c.all u (marked-spot t u m), marked-byte 
 pub cleared-dead : {J : Job} {rec t : List ℕ} → Cleared t → Dead J rec t
 cleared-dead c = record { closed = λ d l m. absurd (cleared-none c _ m); none = λ u l m o. cleared-none c u m }
 
-pub filling-start : {J : Job} {rec t : List ℕ} → Held J rec → Cleared t → Filling J rec rec t true
-filling-start H c =
+pub more-refl : {J : Job} {rec : List ℕ} → Held J rec → More J rec rec
+more-refl H = record { held = H; begun = λ x l. omega arith; kept = record { size = refl; job = refl; front = λ i l. refl; rest = λ i l. refl } }
+
+pub more-then : {J : Job} {rec rec' rec'' : List ℕ} → More J rec rec' → More J rec' rec'' → More J rec rec''
+more-then M N =
     record {
-      more = record { held = H; begun = λ x l. omega arith; kept = record { size = refl; job = refl; front = λ i l. refl; rest = λ i l. refl } };
-      dead = cleared-dead c;
-      reached = λ e x m. absurd (cleared-none c x m);
+      held = N.held;
+      begun = λ x m. omega (arith, M.begun x m, N.begun x m);
+      kept = record {
+        size = N.kept.size ∙ M.kept.size;
+        job = N.kept.job ∙ M.kept.job;
+        front = λ i m. N.kept.front i m ∙ M.kept.front i m;
+        rest = λ i m. N.kept.rest i m ∙ M.kept.rest i m;
+      };
     }
+
+-- nothing is marked before the first wire
+pub filling-start : {J : Job} {rec t : List ℕ} → Held J rec → Cleared t → Filling J rec rec t true
+filling-start H c = record { more = more-refl H; dead = cleared-dead c; reached = λ e x m. absurd (cleared-none c x m) }
 
 -- the marks are cleared, and nothing else is changed
 pub filling-clear : {J : Job} {rec rec' rec'' t t'' : List ℕ} {b : Bool} → Filling J rec rec' t b → rec'' ≡ rec' → Cleared t'' → Filling J rec rec'' t'' true
 filling-clear {J} {rec} F e c =
     record { more = subst (λ (x : List ℕ). More J rec x) (sym e) F.more; dead = cleared-dead c; reached = λ q x m. absurd (cleared-none c x m) }
+
+-- no fewer wires, and no more are lacking
+pub more-lacking : {J : Job} {rec rec' : List ℕ} → More J rec rec' → lacking J rec' ≤ lacking J rec
+more-lacking {J} {rec} {rec'} M = omega (arith, sum-le spots (starts J rec) (starts J rec') M.begun)
 
 -- ---- one wire more
 
@@ -57,32 +70,46 @@ module _ {J : Job} {rec rec' : List ℕ} {u : ℕ} (H : Held J rec) (l : u < spo
         sum-le spots (starts J rec') (want J) (starts-wanted J H.fits rec' M.feasible),
       )
 
-module _ {J : Job} {rec rec' t : List ℕ} {b : Bool} (F : Filling J rec rec' t b) {rec'' t'' : List ℕ} {y : Next} (r : Answered J AnySpot rec' t rec'' t'' y) where
-  pub filling-laid : {u : ℕ} → y ≡ Laid u → Filling J rec rec'' t'' false
+module _ {J : Job} {rec rec' t : List ℕ} {u : ℕ} (H : Held J rec) (A : LaidAt J rec rec' t u) where
+  pub laid-more : More J rec rec'
+  laid-more = record { held = held_more H A.spot A.more; begun = λ x m. omega (arith, A.more.begun x m); kept = A.more.kept }
+
+  pub laid-less : lacking J rec' + 1 ≡ lacking J rec
+  laid-less = lacking-less H A.spot A.more
+
+-- a wire was laid, or none
+module _ (J : Job) (rec t rec' t' : List ℕ) where
+  pub was-laid : (y : Option ℕ) → is_some y ≡ true → Answered J AnySpot rec t rec' t' y → (u : ℕ) × LaidAt J rec rec' t' u
+  was-laid (Some u) e a = (u, a)
+  was-laid None e a = cc
+
+  pub was-none : (y : Option ℕ) → is_some y ≡ false → Answered J AnySpot rec t rec' t' y → (rec' ≡ rec) × Passed J AnySpot rec t t'
+  was-none (Some u) e a = cc
+  was-none None e a = a
+
+-- a wire more, beside the marks as they stood; or none, after they were cleared
+module _ {J : Job} {rec rec' t : List ℕ} {b : Bool} (F : Filling J rec rec' t b) (rec'' t'' : List ℕ) (y : Option ℕ) (r : Answered J AnySpot rec' t rec'' t'' y) where
+  laid-at : {u : ℕ} → y ≡ Some u → LaidAt J rec' rec'' t'' u
+  laid-at e = subst (λ (x : Option ℕ). Answered J AnySpot rec' t rec'' t'' x) e r
+
+  pub filling-laid : {u : ℕ} → y ≡ Some u → Filling J rec rec'' t'' false
   filling-laid e =
-      let (l, h, M, D) = was-laid r e in
-      record {
-        more = record {
-          held = held_more F.more.held l M;
-          begun = λ x m. omega (arith, F.more.begun x m, M.begun x m);
-          kept = record {
-            size = M.kept.size ∙ F.more.kept.size;
-            job = M.kept.job ∙ F.more.kept.job;
-            front = λ i m. M.kept.front i m ∙ F.more.kept.front i m;
-            rest = λ i m. M.kept.rest i m ∙ F.more.kept.rest i m;
-          };
-        };
-        dead = D;
-        reached = λ q. absurd (let z : ◌≡◌ {A = ℕ} 0 1 = cc in omega arith);
-      }
+      let A = laid-at e in
+      record { more = more-then F.more (laid-more F.more.held A); dead = A.dead; reached = λ q. absurd (let z : ◌≡◌ {A = ℕ} 0 1 = cc in omega arith) }
 
-  pub filling-less : {u : ℕ} → y ≡ Laid u → lacking J rec'' + 1 ≡ lacking J rec'
-  filling-less e = let (l, h, M, D) = was-laid r e in lacking-less F.more.held l M
+  pub filling-less : {u : ℕ} → y ≡ Some u → lacking J rec'' + 1 ≡ lacking J rec'
+  filling-less e = laid-less F.more.held (laid-at e)
 
-  pub filling-end : b ≡ true → y ≡ Nothing → Filled J rec rec'' t''
+  pub filling-end : b ≡ true → y ≡ None → Filled J rec rec'' t''
   filling-end f e =
-      let (q, p) = was-nothing r e in
+      let (q, p) : (rec'' ≡ rec') × Passed J AnySpot rec' t t'' = subst (λ (x : Option ℕ). Answered J AnySpot rec' t rec'' t'' x) e r in
       subst (λ (x : List ℕ). Filled J rec x t'') (sym q) (record { more = F.more; full = record { dead = p.dead; unwired = p.shut; reached = p.reached (F.reached f) } })
+
+-- none is laid after the marks were cleared
+pub filled : {J : Job} {rec rec' rec'' t t' : List ℕ} → More J rec rec' → Cleared t → (rec'' ≡ rec') × Passed J AnySpot rec' t t' → Filled J rec rec'' t'
+filled {J} {rec} {t' = t'} M c (q, p) =
+    subst (λ (x : List ℕ). Filled J rec x t') (sym q)
+    (record { more = M; full = record { dead = p.dead; unwired = p.shut; reached = p.reached (λ x m. absurd (cleared-none c x m)) } })
 
 -- ---- no wire more fits
 

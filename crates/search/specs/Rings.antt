@@ -20,12 +20,8 @@ use Rattle.outward.specs.Outward.Falling.{outward-loops}
 use Rattle.augment.specs.Laid.{laid_all, laid-last}
 use Rattle.search.specs.Unlooped.{Lighter, takes_out}
 use Rattle.audit.specs.Loops.{ring_darts, Closed, Settled}
-use Rattle.audit.specs.Loops.Answers.{Answer, free, ring}
-use Rattle.audit.specs.Loops.Dfs.{Dfs}
 use Rattle.augment.specs.Pins.{Held}
 use Rattle.search.specs.Loose.{Loosened, Freed, Unlooped}
-use Rattle.audit.specs.declared.loops.Found.{Found}
-use Rattle.audit.specs.declared.loops.Found.TheVariants.{Free, Ring}
 
 -- ---- dart by dart
 
@@ -134,18 +130,3 @@ module _ {old rec rec' : List ℕ} (F : Freed old rec rec') where
         loose = F.loose;
         sound = λ J H. F.sound J H (outward-loops P J old o (load rec') (loaded-may J H.fits rec' (F.loose J H).feasible));
       }
-
--- ---- what a caller reads off the finder's answer
-
-module _ {old rec fin st sl : List ℕ} {a : Found} (r : Answer old rec fin st sl a) where
-  pub found-free : a ≡ Free → Settled old rec fin
-  found-free e = by (subst (λ (x : Found). Answer old rec fin st sl x) e r)
-    where
-      by : Answer old rec fin st sl Free → Settled old rec fin
-      by (free f) = f
-
-  pub found-ring : {j n m : ℕ} → a ≡ Ring j n m → Closed rec st sl j n × Dfs rec fin st sl 0 m
-  found-ring {j} {n} {m} e = by (subst (λ (x : Found). Answer old rec fin st sl x) e r)
-    where
-      by : Answer old rec fin st sl (Ring j n m) → Closed rec st sl j n × Dfs rec fin st sl 0 m
-      by (ring c s) = (c, s)

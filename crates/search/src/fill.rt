@@ -5,22 +5,39 @@ ghost use Rattle.model.specs.Record.{job_of};
 ghost use Rattle.channel.specs.Map.{spots};
 ghost use Rattle.augment.specs.Spread.{Room};
 ghost use Rattle.augment.specs.Steps.{Whole};
-ghost use Rattle.augment.specs.Pins.{Held};
-ghost use Rattle.search.specs.Fill.{Cleared, Filled};
+ghost use Rattle.augment.specs.Pins.{Held, Dead};
+ghost use Rattle.search.specs.Fill.{Cleared, More, Filled};
 
-use augment::next::{Next, next_wire};
+use augment::next::next_wire;
 
 // No spot is marked.
 pub fn clear(marks: &mut [u8])
     requires { spots ≤ length marks.old }
     ensures { Cleared marks.new }
 {
-    for i in 0..13128 {
-        marks[i] = 0;
+    for mark in &mut marks[..13128] {
+        *mark = 0;
     }
 }
 
-// All wires that fit.
+// Wires until none fits beside the marks.
+fn lay_on(
+    job: &[u8],
+    loads: &mut [u8],
+    marks: &mut [u8],
+    queue: &mut [u16],
+    parent: &mut [u16],
+    slot: &mut [u8],
+    lists: &mut [u16],
+)
+    requires { Whole job.now loads.old × Room marks.old queue.old parent.old slot.old × Held (job_of job.now) loads.old
+        × Dead (job_of job.now) loads.old marks.old × (26513 ≤ length lists.old) }
+    ensures { More (job_of job.now) loads.old loads.new }
+{
+    while next_wire(job, loads, marks, queue, parent, slot, lists).is_some() {}
+}
+
+// All wires that fit: until none is laid after the marks were cleared.
 pub fn fill(
     job: &[u8],
     loads: &mut [u8],
@@ -35,19 +52,8 @@ pub fn fill(
     ensures { Filled (job_of job.now) loads.old loads.new marks.new }
 {
     clear(marks);
-    let mut fresh = true;
-    loop {
-        match next_wire(job, loads, marks, queue, parent, slot, lists) {
-            Next::Laid(_) => {
-                fresh = false;
-            }
-            Next::Nothing => {
-                if fresh {
-                    return;
-                }
-                clear(marks);
-                fresh = true;
-            }
-        }
+    while next_wire(job, loads, marks, queue, parent, slot, lists).is_some() {
+        lay_on(job, loads, marks, queue, parent, slot, lists);
+        clear(marks);
     }
 }

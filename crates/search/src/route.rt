@@ -68,8 +68,8 @@ fn show(marks: &[u8], near: &mut [u8])
     requires { (spots ≤ length marks.now) × (record_size ≤ length near.old) }
     ensures { near.new ≡ over (near_bytes (marked marks.now)) near.old }
 {
-    for i in 0..32768 {
-        near[i] = near_byte(marks, i);
+    for (i, byte) in near[..32768].iter_mut().enumerate() {
+        *byte = near_byte(marks, i);
     }
 }
 

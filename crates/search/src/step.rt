@@ -3,7 +3,7 @@ ghost use Rattle.model.specs.Record.{Legal};
 ghost use Rattle.search.specs.Outcome.{StepDid};
 
 use crate::untangle::untangle;
-use augment::next::{Next, next_wire};
+use augment::next::next_wire;
 use channel::copy::copy;
 
 // One wire more is laid; or no wire more fits.
@@ -34,11 +34,11 @@ pub fn step(rec: &mut [u8]) -> Progress
         &mut slot,
         &mut lists,
     ) {
-        Next::Laid(_) => {
+        Some(_) => {
             untangle(rec, &mut loads, &mut queue, &mut parent, &mut slot);
             copy(&loads, rec);
             Progress::Added
         }
-        Next::Nothing => Progress::Full,
+        None => Progress::Full,
     }
 }

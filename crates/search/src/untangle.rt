@@ -8,21 +8,19 @@ ghost use Rattle.model.specs.Job.{Job};
 ghost use Rattle.augment.specs.Pins.{Held};
 ghost use Rattle.search.specs.Loose.{Ringed, Tangled, Freed, Unlooped};
 
-use audit::loops::{Found, clear, find};
+use audit::loops::{Ring, clear, find};
 use channel::{columns, lay, reverse, rows};
 use outward::lead_outward;
 
-// The ring from the j-th dart to before the n-th.
-fn take_out(loads: &mut [u8], st: &[u16], sl: &[u8], j: usize, n: usize)
-    requires { Ringed loads.old st.now sl.now n × (j ≤ n) }
-    ensures { loads.new ≡ laid_all loads.old (map rev (ring_darts st.now sl.now j (n - j))) }
+// The darts of a ring.
+fn take_out(loads: &mut [u8], st: &[u16], sl: &[u8], ring: Ring)
+    requires { Ringed loads.old st.now sl.now ring.to × (ring.from ≤ ring.to) }
+    ensures { loads.new ≡ laid_all loads.old (map rev (ring_darts st.now sl.now ring.from (ring.to - ring.from))) }
 {
-    let mut i = j;
-    while i < n {
+    for i in ring.from..ring.to {
         let u = st[i] as usize;
-        let m = sl[i] as usize;
-        lay(loads, reverse(8 * u + m));
-        i += 1;
+        let k = sl[i] as usize;
+        lay(loads, reverse(8 * u + k));
     }
 }
 
@@ -32,17 +30,10 @@ pub fn untangle(old: &[u8], loads: &mut [u8], fin: &mut [u16], st: &mut [u16], s
     ensures { Freed old.now loads.old loads.new }
 {
     clear(fin);
-    let mut m = 0;
-    loop {
-        match find(loads, old, fin, st, sl, m) {
-            Found::Free => {
-                return;
-            }
-            Found::Ring(j, n, k) => {
-                take_out(loads, st, sl, j, n);
-                m = k;
-            }
-        }
+    let mut done = 0;
+    while let Some(ring) = find(loads, old, fin, st, sl, done) {
+        take_out(loads, st, sl, ring);
+        done = ring.done;
     }
 }
 

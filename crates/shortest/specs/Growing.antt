@@ -1,6 +1,6 @@
 -- How the search that raises prices as it goes stands, as its code keeps it: n spots in the queue, of which some wait on a stack and some stand on a rim; each
 -- spot in the queue waits, or all its moves lead to marked spots, or it stands on the rim and its other moves leave `least` or more. Assumes nothing.
-use Rattle.std.specs.Prelude.{◌≡◌, ◌≢◌, ◌⊎◌, Bool, List, ℕ, min, ◌+◌, ◌*◌, ◌/◌, ◌≤◌, ◌<◌, T, length, get_or, set}
+use Rattle.std.specs.Prelude.{◌≡◌, ◌≢◌, ◌⊎◌, Bool, List, ℕ, min, ◌+◌, ◌*◌, ◌/◌, ◌≤◌, ◌<◌, T, Result, Ok, Err, length, get_or, set}
 use Rattle.price.specs.Priced.{Priced}
 use Rattle.model.specs.Job.{Job}
 use Rattle.channel.specs.Map.{spots, rev, moves, view, outside}
@@ -13,9 +13,7 @@ use Rattle.search.specs.Fill.{Cleared}
 use Rattle.shortest.specs.Grow.{slack_of, tight_moves}
 use Rattle.shortest.specs.Wiring.{price_at}
 use Rattle.shortest.specs.declared.expand.Growth.{Growth}
-use Rattle.shortest.specs.declared.expand.Step.{Step}
-use Rattle.shortest.specs.declared.expand.Step.TheVariants.{Exit, More}
-use Rattle.shortest.specs.declared.grow.Way.{Way}
+use Rattle.augment.specs.declared.reach.Way.{Way}
 
 -- what the move by slot k of u leaves, and the moves that leave nothing
 abbrev pub slack_by : List ℕ → List ℕ → ℕ → ℕ → ℕ
@@ -39,14 +37,14 @@ pub record Trial (job rec prices t q f w st : List ℕ) (u i : ℕ) (g : Growth)
 
 -- It leads outside and leaves nothing; it leads to a marked spot; it leaves something; or its spot is marked, queued and put on the stack.
 pub data Tried (J : Job) (rec prices : List ℕ) (u k i edge : ℕ) (t q f w st : List ℕ) (g : Growth)
-    : List ℕ → List ℕ → List ℕ → List ℕ → List ℕ → Step → Type 0 where
-  exit : T (tight J rec prices (8 * u + k)) → T (outside J (rev (8 * u + k) / 8)) → Tried J rec prices u k i edge t q f w st g t q f w st (Exit i k g.n)
-  old : get_or t (rev (8 * u + k) / 8) 0 ≡ 1 → Tried J rec prices u k i edge t q f w st g t q f w st (More g)
+    : List ℕ → List ℕ → List ℕ → List ℕ → List ℕ → Result Growth Way → Type 0 where
+  exit : T (tight J rec prices (8 * u + k)) → T (outside J (rev (8 * u + k) / 8)) → Tried J rec prices u k i edge t q f w st g t q f w st (Err (record { place = i; slot = k; count = g.n }))
+  old : get_or t (rev (8 * u + k) / 8) 0 ≡ 1 → Tried J rec prices u k i edge t q f w st g t q f w st (Ok g)
   far : (l : ℕ) → 0 < slack_by rec prices u k → l ≡ min g.least (slack_by rec prices u k)
-      → Tried J rec prices u k i edge t q f w st g t q f w st (More (record { n = g.n; top = g.top; rims = edge; least = l }))
+      → Tried J rec prices u k i edge t q f w st g t q f w st (Ok (record { n = g.n; top = g.top; rims = edge; least = l }))
   new : (v : ℕ) → v < spots → v ≡ rev (8 * u + k) / 8 → T (tight J rec prices (8 * u + k)) → (T (outside J v) → ⊥) → get_or t v 0 ≢ 1
       → Tried J rec prices u k i edge t q f w st g (set t v 1) (set q g.n v) (set f g.n i) (set w g.n k) (set st g.top g.n)
-      (More (record { n = g.n + 1; top = g.top + 1; rims = g.rims; least = g.least }))
+      (Ok (record { n = g.n + 1; top = g.top + 1; rims = g.rims; least = g.least }))
 
 -- ---- the state
 
@@ -118,9 +116,9 @@ pub record Out (J : Job) (rec prices : List ℕ) (start : ℕ) (t q f w : List �
   pub exit : T (outside J (rev (8 * get_or q i 0 + k) / 8))
 
 -- a way out; or the search stands so that P holds
-pub data Outcome (J : Job) (rec prices : List ℕ) (start : ℕ) (t q f w st rm : List ℕ) (P : Growth → Type 0) : Step → Type 0 where
-  out : {i k n : ℕ} → Out J rec prices start t q f w i k n → Outcome J rec prices start t q f w st rm P (Exit i k n)
-  still : {g : Growth} → Growing J rec prices start t q f w st rm g → P g → Outcome J rec prices start t q f w st rm P (More g)
+abbrev pub Outcome : Job → (rec prices : List ℕ) → ℕ → (t q f w st rm : List ℕ) → (Growth → Type 0) → Result Growth Way → Type 0
+Outcome J rec prices start t q f w st rm P (Ok g) = Growing J rec prices start t q f w st rm g × P g
+Outcome J rec prices start t q f w st rm P (Err y) = Out J rec prices start t q f w y.place y.slot y.count
 
 -- no price rose by more than that of the spot s
 pub record Lifted (s : ℕ) (prices prices' : List ℕ) : Type 0 where
@@ -139,14 +137,20 @@ pub record Raisable (q : List ℕ) (n δ : ℕ) (prices : List ℕ) : Type 0 whe
   pub apart : (i j : ℕ) → i < j → j < n → get_or q i 0 ≢ get_or q j 0
   pub fits : (u : ℕ) → get_or prices u 0 + δ < 4294967296
 
+-- the prices are raised, that of the start too, and the search stands as before
+pub record Higher (J : Job) (rec prices : List ℕ) (start : ℕ) (prices' t q f w st rm : List ℕ) (g : Growth) : Type 0 where
+  pub growing : Growing J rec prices' start t q f w st rm g
+  pub priced : Priced (net J) dart_length (view rec) (price_at prices')
+  pub lifted : Lifted start prices prices'
+  pub rose : get_or prices start 0 < get_or prices' start 0
+
 -- a round ends with a way out; or with prices that are raised
-pub data Rounded (J : Job) (rec prices : List ℕ) (start : ℕ) (prices' t q f w st rm : List ℕ) : Step → Type 0 where
-  out : {i k n : ℕ} → prices' ≡ prices → Out J rec prices start t q f w i k n → Rounded J rec prices start prices' t q f w st rm (Exit i k n)
-  higher : {g : Growth} → Growing J rec prices' start t q f w st rm g → Priced (net J) dart_length (view rec) (price_at prices') → Lifted start prices prices'
-      → get_or prices start 0 < get_or prices' start 0 → Rounded J rec prices start prices' t q f w st rm (More g)
+abbrev pub Rounded : Job → (rec prices : List ℕ) → ℕ → (prices' t q f w st rm : List ℕ) → Result Growth Way → Type 0
+Rounded J rec prices start prices' t q f w st rm (Ok g) = Higher J rec prices start prices' t q f w st rm g
+Rounded J rec prices start prices' t q f w st rm (Err y) = (prices' ≡ prices) × Out J rec prices start t q f w y.place y.slot y.count
 
 -- the search found a way out, and its prices are prices of the loads
 pub record Opened (J : Job) (rec prices : List ℕ) (start : ℕ) (prices' t q f w : List ℕ) (y : Way) : Type 0 where
-  pub out : Out J rec prices' start t q f w y.place y.slot y.n
+  pub out : Out J rec prices' start t q f w y.place y.slot y.count
   pub priced : Priced (net J) dart_length (view rec) (price_at prices')
   pub lifted : Lifted start prices prices'

@@ -1,6 +1,6 @@
 -- The laws of the search that raises prices as it goes: how it begins, how a spot is taken from the stack, what each slot of it does, and how it is laid
 -- aside. Assumes nothing.
-use Rattle.std.specs.Prelude.{◌≡◌, refl, ◌≢◌, ◌⊎◌, List, ℕ, min, ◌+◌, ◌-◌, ◌*◌, ◌/◌, ◌≤◌, ◌<◌, T, eqb, length, get_or, set}
+use Rattle.std.specs.Prelude.{◌≡◌, refl, ◌≢◌, ◌⊎◌, List, ℕ, min, ◌+◌, ◌-◌, ◌*◌, ◌/◌, ◌≤◌, ◌<◌, T, eqb, Result, Ok, Err, length, get_or, set}
 use Rattle.std.proofs.Common.{sym, ap, subst, ◌∙◌, inl, inr, ⊎_elim, arith, below_more, length-set, get_or-set_same, get_or-set_other}
 use Rattle.sums.specs.Tests.{below_or, and_both}
 use Rattle.model.specs.Job.{Job}
@@ -14,10 +14,9 @@ use Rattle.search.specs.Fill.{Cleared}
 use Rattle.channel.specs.Map.Lengths.{dart_length}
 use Rattle.shortest.specs.Grow.{slack_of, tight_moves}
 use Rattle.shortest.specs.Wiring.{price_at}
-use Rattle.shortest.specs.Growing.{slack_by, tight, Tried, exit, old, far, new, Since, ShutTo, LookedTo, Place, waits, shut, edge, Kept, Growing, Taken, Out, Outcome, out, still}
+use Rattle.shortest.specs.Growing.{slack_by, tight, Tried, exit, old, far, new, Since, ShutTo, LookedTo, Place, waits, shut, edge, Kept, Growing, Taken, Out}
 use Rattle.shortest.specs.declared.expand.Growth.{Growth}
-use Rattle.shortest.specs.declared.expand.Step.{Step}
-use Rattle.shortest.specs.declared.expand.Step.TheVariants.{Exit, More}
+use Rattle.augment.specs.declared.reach.Way.{Way}
 
 -- a move that leaves nothing, as a program finds it
 pub tight-move : (J : Job) (rec prices : List ℕ) (d : ℕ) {x : ℕ} → T (moves J rec d) → x ≡ slack_of dart_length (price_at prices) rec d → x ≡ 0
@@ -276,14 +275,14 @@ module _ {J : Job} {rec prices : List ℕ} {start : ℕ} {t q f w st rm : List �
             (sym (other j l))
             (place-keep since (λ x y. (omega arith, below x y)) (λ x y. (y, refl)) (omega arith) p))) (H.all j l)
 
-  more-taken : k < 8 → {t' q' f' w' st' : List ℕ} {b : Growth} → Tried J rec prices u k i (m + 1) t q f w st g t' q' f' w' st' (More b)
+  more-taken : k < 8 → {t' q' f' w' st' : List ℕ} {b : Growth} → Tried J rec prices u k i (m + 1) t q f w st g t' q' f' w' st' (Ok b)
       → Taken J rec prices start t' q' f' w' st' rm b i u (k + 1) m gap × Since t t'
   more-taken lk (old e) = (taken-old e, since-refl t)
   more-taken lk (far l p e) = (taken-far l p e, since-refl t)
   more-taken lk (new v lv ev may inside unseen) = (taken-new v lv ev may inside unseen lk, since v lv ev may inside unseen lk)
 
-  exit_out : k < 8 → {t' q' f' w' st' : List ℕ} {a b n : ℕ} → Tried J rec prices u k i (m + 1) t q f w st g t' q' f' w' st' (Exit a b n)
-      → Out J rec prices start t' q' f' w' a b n
+  exit_out : k < 8 → {t' q' f' w' st' : List ℕ} {z : Way} → Tried J rec prices u k i (m + 1) t q f w st g t' q' f' w' st' (Err z)
+      → Out J rec prices start t' q' f' w' z.place z.slot z.count
   exit_out lk (exit may o) =
       record {
         blank = K.blank;
@@ -296,12 +295,12 @@ module _ {J : Job} {rec prices : List ℕ} {start : ℕ} {t q f w st rm : List �
         exit = rw H.spot o;
       }
 
-  module _ (lk : k < 8) {t' q' f' w' st' : List ℕ} {s : Step} (y : Tried J rec prices u k i (m + 1) t q f w st g t' q' f' w' st' s) where
-    pub taken_more : {b : Growth} → s ≡ More b → Taken J rec prices start t' q' f' w' st' rm b i u (k + 1) m gap × Since t t'
-    taken_more e = more-taken lk (subst (λ (x : Step). Tried J rec prices u k i (m + 1) t q f w st g t' q' f' w' st' x) e y)
+  module _ (lk : k < 8) {t' q' f' w' st' : List ℕ} {s : Result Growth Way} (y : Tried J rec prices u k i (m + 1) t q f w st g t' q' f' w' st' s) where
+    pub taken_more : {b : Growth} → s ≡ Ok b → Taken J rec prices start t' q' f' w' st' rm b i u (k + 1) m gap × Since t t'
+    taken_more e = more-taken lk (subst (λ (x : Result Growth Way). Tried J rec prices u k i (m + 1) t q f w st g t' q' f' w' st' x) e y)
 
-    pub taken-exit : {a b n : ℕ} → s ≡ Exit a b n → Out J rec prices start t' q' f' w' a b n
-    taken-exit e = exit_out lk (subst (λ (x : Step). Tried J rec prices u k i (m + 1) t q f w st g t' q' f' w' st' x) e y)
+    pub taken-exit : {z : Way} → s ≡ Err z → Out J rec prices start t' q' f' w' z.place z.slot z.count
+    taken-exit e = exit_out lk (subst (λ (x : Result Growth Way). Tried J rec prices u k i (m + 1) t q f w st g t' q' f' w' st' x) e y)
 
   -- slots by which the search does not go on are tried
   pub taken-past : {t₀ : List ℕ} {k' : ℕ} → Since t₀ t → ((j : ℕ) → k ≤ j → j < k' → goes_on J rec t₀ u j ≡ 0)
@@ -336,22 +335,7 @@ taken-grown {J} {rec} {prices} {t = t} {q = q} {st = st} {rm = rm} {g = g} {i = 
         subst (λ (x : ℕ). Place J rec prices t st rm g j x) (sym (ap (λ (x : ℕ). get_or q x 0) e ∙ H.spot))
         (edge m (omega arith) (H.last ∙ sym e) H.looked)
 
--- ---- what a caller reads off the answer
-
 module _ {J : Job} {rec prices : List ℕ} {start : ℕ} {t q f w st rm : List ℕ} where
   -- the search began at the first spot in the queue
   pub growing-first : {g : Growth} → Growing J rec prices start t q f w st rm g → Growing J rec prices (get_or q 0 0) t q f w st rm g
   growing-first {g} G = subst (λ (x : ℕ). Growing J rec prices x t q f w st rm g) (sym G.kept.spread.first) G
-
-  module _ {P : Growth → Type 0} {y : Step} (o : Outcome J rec prices start t q f w st rm P y) where
-    pub was-still : {g : Growth} → y ≡ More g → Growing J rec prices start t q f w st rm g × P g
-    was-still {g} e = by (subst (λ (x : Step). Outcome J rec prices start t q f w st rm P x) e o)
-      where
-        by : Outcome J rec prices start t q f w st rm P (More g) → Growing J rec prices start t q f w st rm g × P g
-        by (still G h) = (G, h)
-
-    pub was-out : {i k n : ℕ} → y ≡ Exit i k n → Out J rec prices start t q f w i k n
-    was-out {i} {k} {n} e = by (subst (λ (x : Step). Outcome J rec prices start t q f w st rm P x) e o)
-      where
-        by : Outcome J rec prices start t q f w st rm P (Exit i k n) → Out J rec prices start t q f w i k n
-        by (out F) = F

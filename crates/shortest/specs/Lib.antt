@@ -16,9 +16,11 @@ pub mod Slacks
 -- What the code of the least wiring keeps and leaves.
 pub mod Wiring
 pub mod Growing
+pub mod Search
 pub mod Growths
 pub mod Rounds
 pub mod Lines
+pub mod Work
 pub mod Emptied
 pub mod LeastWiring
 -- What the operations call.

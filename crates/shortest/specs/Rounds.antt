@@ -23,11 +23,9 @@ use Rattle.shortest.specs.PricedLaid.{laid_one, priced-laid}
 use Rattle.shortest.specs.Ceiling.{unwired-most}
 use Rattle.shortest.specs.Grow.{tight_moves, tight-is, spread-raised, looked-leaves, queued}
 use Rattle.shortest.specs.Wiring.{price_at, AtMost, Arranged, Wireable, Grew}
-use Rattle.shortest.specs.Growing.{tight, LookedTo, Place, waits, shut, edge, Kept, Growing, Out, Lifted, Raised, Raisable, Rounded, out, higher, Opened}
+use Rattle.shortest.specs.Growing.{tight, LookedTo, Place, waits, shut, edge, Kept, Growing, Out, Lifted, Raised, Raisable, Higher, Opened}
 use Rattle.shortest.specs.declared.expand.Growth.{Growth}
-use Rattle.shortest.specs.declared.expand.Step.{Step}
-use Rattle.shortest.specs.declared.expand.Step.TheVariants.{Exit, More}
-use Rattle.shortest.specs.declared.grow.Way.{Way}
+use Rattle.augment.specs.declared.reach.Way.{Way}
 
 -- ---- prices raised one by one
 
@@ -162,34 +160,15 @@ module _ {J : Job} {rec prices : List ℕ} {start : ℕ} {t q f w st rm : List �
           by i (shut h) = shut h
           by i (edge j l e h) = waits j l (again j l ∙ e)
 
-      pub round-higher : Rounded J rec prices start prices' t q f w st' rm (More (record { n = g.n; top = g.rims; rims = 0; least = 1500000 }))
-      round-higher = higher growing-raised priced-raised lifted-raised (omega (arith, start-raised, G.kept.some))
-
--- ---- what a caller reads off the answer
-
-module _ {J : Job} {rec prices : List ℕ} {start : ℕ} {prices' t q f w st rm : List ℕ} {y : Step} (o : Rounded J rec prices start prices' t q f w st rm y) where
-  pub was-higher : {g : Growth} → y ≡ More g
-      → Growing J rec prices' start t q f w st rm g × Priced (net J) dart_length (view rec) (price_at prices') × Lifted start prices prices'
-      × (get_or prices start 0 < get_or prices' start 0)
-  was-higher {g} e = by (subst (λ (x : Step). Rounded J rec prices start prices' t q f w st rm x) e o)
-    where
-      by : Rounded J rec prices start prices' t q f w st rm (More g)
-          → Growing J rec prices' start t q f w st rm g × Priced (net J) dart_length (view rec) (price_at prices') × Lifted start prices prices'
-          × (get_or prices start 0 < get_or prices' start 0)
-      by (higher G P L h) = (G, P, L, h)
-
-  pub was-found : {i k n : ℕ} → y ≡ Exit i k n → (prices' ≡ prices) × Out J rec prices start t q f w i k n
-  was-found {i} {k} {n} e = by (subst (λ (x : Step). Rounded J rec prices start prices' t q f w st rm x) e o)
-    where
-      by : Rounded J rec prices start prices' t q f w st rm (Exit i k n) → (prices' ≡ prices) × Out J rec prices start t q f w i k n
-      by (out e F) = (e, F)
+      pub round-higher : Higher J rec prices start prices' t q f w st' rm (record { n = g.n; top = g.rims; rims = 0; least = 1500000 })
+      round-higher = record { growing = growing-raised; priced = priced-raised; lifted = lifted-raised; rose = omega (arith, start-raised, G.kept.some) }
 
 -- ---- the way out is laid
 
 module _ {J : Job} {rec prices : List ℕ} {start : ℕ} {prices' t q f w : List ℕ} {y : Way} (O : Opened J rec prices start prices' t q f w y) (H : Held J rec)
     (W : Wireable J) (ls : start < spots) (u : Unwired J rec start) {rec' t' : List ℕ} (L : LaidTo q f w y.place y.slot 0 rec rec')
-    (U : Unmarked q y.n t t') where
-  F : Out J rec prices' start t q f w y.place y.slot y.n
+    (U : Unmarked q y.count t t') where
+  F : Out J rec prices' start t q f w y.place y.slot y.count
   F = O.out
 
   path : Path (net J) (Tight (net J) dart_length (view rec) (price_at prices')) L.way start (rev (8 * get_or q y.place 0 + y.slot) / 8)
@@ -200,7 +179,7 @@ module _ {J : Job} {rec prices : List ℕ} {start : ℕ} {prices' t q f w : List
   unmarked : (x : ℕ) → x < spots → get_or t' x 0 ≡ 0
   unmarked x l = ⊎_elim
       (λ e. ⊎_elim (λ b. absurd (omega (arith, F.cleared.all x l))) (λ (i, li, p). subst (λ (z : ℕ). get_or t' z 0 ≡ 0) p (U.gone i li)) (F.spread.owed x e))
-      (λ e. let new : (i : ℕ) → i < y.n → get_or q i 0 ≢ x = λ i li p. e (subst (λ (z : ℕ). get_or t z 0 ≡ 1) p (F.spread.hit i li)) in
+      (λ e. let new : (i : ℕ) → i < y.count → get_or q i 0 ≢ x = λ i li p. e (subst (λ (z : ℕ). get_or t z 0 ≡ 1) p (F.spread.hit i li)) in
       U.same x new ∙ F.spread.same x new ∙ F.cleared.all x l)
       (same_or (get_or t x 0) 1)
 

@@ -1,12 +1,14 @@
 // The search along tight moves, from one spot: moves that leave nothing lead on, and the others say by how much prices may be raised.
-ghost use Rattle.std.specs.Prelude.{◌≡◌, min, ◌+◌, ◌*◌, ◌<◌, T, get_or};
+ghost use Rattle.std.specs.Prelude.{◌≡◌, ◌+◌, ◌*◌, ◌≤◌, ◌<◌, T, length, get_or};
 ghost use Rattle.model.specs.Record.{job_of};
-ghost use Rattle.channel.specs.Map.{moves};
+ghost use Rattle.channel.specs.Map.{spots, moves};
 ghost use Rattle.augment.specs.Steps.{Whole};
-ghost use Rattle.shortest.specs.Growing.{Trial, Tried, Growing, Outcome};
+ghost use Rattle.slots.specs.Ahead.{Bits};
+ghost use Rattle.augment.specs.Slots.{goes_on};
+ghost use Rattle.shortest.specs.Search.{SameLent, TrialAt, TriedAt, GrowingAt, OutcomeAt};
 
 use crate::slack::slack;
-use augment::reach::onward;
+use augment::reach::{Way, onward};
 use channel::{head_of, is_outside, lowest};
 
 // So many spots are in the queue, on the stack and on the rim; the moves of those on the rim leave `least` or more.
@@ -18,134 +20,99 @@ pub struct Growth {
     pub least: usize,
 }
 
-// A way out: a place in the queue, a slot of the spot there, and how many spots are in the queue; or the search goes on.
-#[derive(Clone, Copy)]
-pub enum Step {
-    Exit(usize, usize, usize),
-    More(Growth),
+// The search: the marks, the queue of spots with the places and slots from which each was reached, the stack and the rim, all lent to it; and how it stands.
+#[derive(Drop)]
+pub struct Search<'a> {
+    pub marks: &'a mut [u8],
+    pub queue: &'a mut [u16],
+    pub parent: &'a mut [u16],
+    pub slot: &'a mut [u8],
+    pub stack: &'a mut [u16],
+    pub rim: &'a mut [u16],
+    pub growth: Growth,
 }
 
-// The smaller of two.
-fn smaller(a: usize, b: usize) -> usize
-    ensures { result ≡ min a b }
-{
-    if a < b { a } else { b }
-}
-
-// Slot k of the spot u, a move; u is the i-th in the queue, and has a place on a rim of so many.
-fn attempt(
-    job: &[u8],
-    loads: &[u8],
-    prices: &[u32],
-    u: usize,
-    k: usize,
-    i: usize,
-    edge: usize,
-    marks: &mut [u8],
-    queue: &mut [u16],
-    parent: &mut [u16],
-    slot: &mut [u8],
-    stack: &mut [u16],
-    g: Growth,
-) -> Step
-    requires { Trial job.now loads.now prices.now marks.old queue.old parent.old slot.old stack.old u i g × (k < 8)
-        × T (moves (job_of job.now) loads.now (8 * u + k)) }
-    ensures { Tried (job_of job.now) loads.now prices.now u k i edge
-        marks.old queue.old parent.old slot.old stack.old g
-        marks.new queue.new parent.new slot.new stack.new result }
-{
-    let d = 8 * u + k;
-    let v = head_of(d);
-    if marks[v] == 1 {
-        return Step::More(g);
-    }
-    let x = slack(loads, prices, d);
-    let n = g.n;
-    let top = g.top;
-    if x != 0 {
-        return Step::More(Growth {
-            n: n,
-            top: top,
-            rims: edge,
-            least: smaller(g.least, x),
-        });
-    }
-    if is_outside(job, v) {
-        return Step::Exit(i, k, n);
-    }
-    marks[v] = 1;
-    queue[n] = v as u16;
-    parent[n] = i as u16;
-    slot[n] = k as u8;
-    stack[top] = n as u16;
-    Step::More(Growth {
-        n: n + 1,
-        top: top + 1,
-        rims: g.rims,
-        least: g.least,
-    })
-}
-
-// All slots of the spot on top of the stack, up to one that leads outside. It is put behind the rim, and stands on it if a move leaves something.
-pub fn expand(
-    job: &[u8],
-    loads: &[u8],
-    prices: &[u32],
-    marks: &mut [u8],
-    queue: &mut [u16],
-    parent: &mut [u16],
-    slot: &mut [u8],
-    stack: &mut [u16],
-    rim: &mut [u16],
-    g: Growth,
-) -> Step
-    requires { Whole job.now loads.now × (0 < g.top)
-        × Growing (job_of job.now) loads.now prices.now (get_or queue.old 0 0)
-        marks.old queue.old parent.old slot.old stack.old rim.old g }
-    ensures { Outcome (job_of job.now) loads.now prices.now (get_or queue.old 0 0)
-        marks.new queue.new parent.new slot.new stack.new rim.new
-        (λ a. a.n + g.top ≡ a.top + g.n + 1) result }
-{
-    let top = g.top - 1;
-    let m = g.rims;
-    let i = stack[top] as usize;
-    let u = queue[i] as usize;
-    rim[m] = i as u16;
-    let mut a = Growth {
-        n: g.n,
-        top: top,
-        rims: m,
-        least: g.least,
-    };
-    let mut k = 0;
-    let mut left = onward(job, loads, marks, u);
-    while left != 0 {
-        let skip = lowest(left);
-        k += skip;
-        match attempt(
-            job,
-            loads,
-            prices,
-            u,
-            k,
-            i,
-            m + 1,
-            marks,
-            queue,
-            parent,
-            slot,
-            stack,
-            a,
-        ) {
-            Step::Exit(x, y, z) => {
-                return Step::Exit(x, y, z);
-            }
-            Step::More(b) => {
-                a = b;
-            }
+impl<'a> Search<'a> {
+    // Slot k of the spot u, a move; u is the i-th in the queue, and has a place on a rim of so many. A way out is an error.
+    fn attempt(
+        &mut self,
+        job: &[u8],
+        loads: &[u8],
+        prices: &[u32],
+        u: usize,
+        k: usize,
+        i: usize,
+        edge: usize,
+    ) -> Result<(), Way>
+        requires trial { TrialAt job.now loads.now prices.now self.old u i }
+        requires slot { k < 8 }
+        requires may { T (moves (job_of job.now) loads.now (8 * u + k)) }
+        ensures lent { SameLent self.old self.new }
+        ensures rim { self.new.rim.now ≡ self.old.rim.now }
+        ensures tried { TriedAt (job_of job.now) loads.now prices.now u k i edge self.old self.new result }
+    {
+        let d = 8 * u + k;
+        let v = head_of(d);
+        if self.marks[v] == 1 {
+            return Ok(());
         }
-        k += 1;
-        left = left >> (skip + 1);
+        let x = slack(loads, prices, d);
+        if x != 0 {
+            self.growth.rims = edge;
+            self.growth.least = self.growth.least.min(x);
+            return Ok(());
+        }
+        let n = self.growth.n;
+        if is_outside(job, v) {
+            return Err(Way {
+                place: i,
+                slot: k,
+                count: n,
+            });
+        }
+        let top = self.growth.top;
+        self.marks[v] = 1;
+        self.queue[n] = v as u16;
+        self.parent[n] = i as u16;
+        self.slot[n] = k as u8;
+        self.stack[top] = n as u16;
+        self.growth.n = n + 1;
+        self.growth.top = top + 1;
+        Ok(())
     }
-    Step::More(a)
+
+    // The slots of u by which the search goes on.
+    fn ahead(&self, job: &[u8], loads: &[u8], u: usize) -> usize
+        requires { Whole job.now loads.now × (spots ≤ length self.now.marks.now) × (u < spots) }
+        ensures { Bits 8 (goes_on (job_of job.now) loads.now self.now.marks.now u) result }
+    {
+        onward(job, loads, self.marks, u)
+    }
+
+    // All slots of the spot on top of the stack, up to one that leads outside. It is put behind the rim, and stands on it if a move leaves something.
+    pub fn expand(&mut self, job: &[u8], loads: &[u8], prices: &[u32]) -> Result<(), Way>
+        requires whole { Whole job.now loads.now }
+        requires some { 0 < self.old.growth.top }
+        requires growing { GrowingAt (job_of job.now) loads.now prices.now (get_or self.old.queue.now 0 0) self.old }
+        ensures lent { SameLent self.old self.new }
+        ensures outcome { OutcomeAt (job_of job.now) loads.now prices.now (get_or self.old.queue.now 0 0)
+            (λ a. a.n + self.old.growth.top ≡ a.top + self.old.growth.n + 1) self.new result }
+    {
+        let top = self.growth.top - 1;
+        let m = self.growth.rims;
+        let i = self.stack[top] as usize;
+        let u = self.queue[i] as usize;
+        self.rim[m] = i as u16;
+        self.growth.top = top;
+        let mut k = 0;
+        let mut left = self.ahead(job, loads, u);
+        while left != 0 {
+            let skip = lowest(left);
+            k += skip;
+            self.attempt(job, loads, prices, u, k, i, m + 1)?;
+            k += 1;
+            left = left >> (skip + 1);
+        }
+        Ok(())
+    }
 }

@@ -1,5 +1,5 @@
 // First prices: 10 for each ring between a spot and the rim, and 14 more for the entry of a missing pin.
-ghost use Rattle.std.specs.Prelude.{◌≡◌, ◌-◌, ◌+◌, ◌*◌, ◌≤◌, ◌<◌, min, length};
+ghost use Rattle.std.specs.Prelude.{◌≡◌, ◌-◌, ◌+◌, ◌*◌, ◌≤◌, ◌<◌, length};
 ghost use Rattle.sums.specs.Counting.{sum};
 ghost use Rattle.model.specs.Record.{job_of};
 ghost use Rattle.channel.specs.Map.{spots, want};
@@ -10,13 +10,6 @@ ghost use Rattle.shortest.specs.FirstRow.{FirstRow};
 use crate::slack::beyond;
 use channel::{columns, is_outside, is_start, rows};
 
-// The smaller of two numbers.
-fn smaller(a: usize, b: usize) -> usize
-    ensures { result ≡ min a b }
-{
-    if a < b { a } else { b }
-}
-
 // How many tiles lie between the pin (r, c) and the rim, for k = 1, or between the tile (r, c) and the rim, for k = 2.
 fn ring(job: &[u8], r: usize, c: usize, k: usize) -> usize
     requires { (32768 ≤ length job.now) × (r < 40) × (c < 40) × (k ≤ 2) }
@@ -24,7 +17,7 @@ fn ring(job: &[u8], r: usize, c: usize, k: usize) -> usize
 {
     let south = beyond(k + r, rows(job));
     let east = beyond(k + c, columns(job));
-    smaller(smaller(r, c), smaller(south, east))
+    r.min(c).min(south.min(east))
 }
 
 // The first price of a spot of the kind k at the cell (r, c).

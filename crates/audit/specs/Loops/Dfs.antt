@@ -1,18 +1,12 @@
 -- The state of the loop finder. fin has 0 for a spot that is not seen, 1 for one on the stack, and 2 more than the number of those done before it for one
 -- that is done; st has the spots on the stack, and sl the slots at which they stand, each with 8 times the loaded slots from it on, as bits. Assumes nothing.
-use Rattle.std.specs.Prelude.{◌≡◌, ◌≢◌, ◌⊎◌, List, ℕ, ◌+◌, ◌-◌, ◌*◌, ◌/◌, ◌%◌, ◌≤◌, ◌<◌, T, eqb, get_or, set}
+use Rattle.std.specs.Prelude.{◌≡◌, ◌≢◌, ◌⊎◌, List, ℕ, ◌+◌, ◌*◌, ◌/◌, ◌%◌, ◌≤◌, ◌<◌, T, eqb, get_or, set}
 use Rattle.sums.specs.Counting.{when, sum}
 use Rattle.channel.specs.Map.{spots, rev, view}
 use Rattle.channel.specs.Map.Fresh.{is_fresh}
 use Rattle.channel.specs.Map.LoadedSlots.{loaded_from}
 use Rattle.channel.specs.Map.Origins.{origin_of}
-use Rattle.audit.specs.Loops.{Room, Closed}
-use Rattle.audit.specs.declared.loops.Turn.{Turn}
-use Rattle.audit.specs.declared.loops.Turn.TheVariants.{New, More, Hit}
-use Rattle.audit.specs.declared.loops.Way.{Way}
-use Rattle.audit.specs.declared.loops.Way.TheVariants.{Down, Up, Back}
-use Rattle.audit.specs.declared.loops.Search.{Search}
-use Rattle.audit.specs.declared.loops.Search.TheVariants.{Over, Ring}
+use Rattle.audit.specs.Loops.{Room}
 
 -- slot k of u is loaded, and leads to v
 pub record Edge (rec : List ℕ) (u k v : ℕ) : Type 0 where
@@ -97,35 +91,6 @@ pub record Entered (rec fin st sl : List ℕ) (n v : ℕ) (fin' st' sl' : List �
   pub stack : st' ≡ set st n v
   pub slots : sl' ≡ set sl n (8 * loaded_from rec v 0)
 
--- one turn: the top leads to v, which is not seen; or it is done, and the stack shrinks; or it leads to v, which is on the stack
-pub data Turned (rec fin : List ℕ) (n m : ℕ) (fin' st' sl' : List ℕ) : Turn → Type 0 where
-  new : {v : ℕ} → Aimed rec fin' st' sl' n m v → Still fin fin' → Turned rec fin n m fin' st' sl' (New v)
-  more : {n' m' : ℕ} → Dfs rec fin' st' sl' n' m' → Still fin fin' → n' < n → Turned rec fin n m fin' st' sl' (More n' m')
-  hit : {v : ℕ} → Dfs rec fin' st' sl' n m → Edge rec (get_or st' (n - 1) 0) (get_or sl' (n - 1) 0 % 8) v → get_or fin' v 0 ≡ 1
-      → Turned rec fin n m fin' st' sl' (Hit v)
-
--- the turns up to a new spot: the top leads to it; or nothing is left on the stack; or the top leads to v, which is on the stack
-pub data Resumed (rec fin fin' st' sl' : List ℕ) : Way → Type 0 where
-  down : {n' m' v : ℕ} → Aimed rec fin' st' sl' n' m' v → Still fin fin' → Resumed rec fin fin' st' sl' (Down n' m' v)
-  up : {m' : ℕ} → Dfs rec fin' st' sl' 0 m' → Kept fin fin' → Resumed rec fin fin' st' sl' (Up m')
-  back : {n' m' v : ℕ} → Dfs rec fin' st' sl' n' m' → Edge rec (get_or st' (n' - 1) 0) (get_or sl' (n' - 1) 0 % 8) v → get_or fin' v 0 ≡ 1
-      → Resumed rec fin fin' st' sl' (Back n' m' v)
-
--- the search from one spot: all that was seen is done; or a ring stands, and nothing is left on the stack
-pub data Searched (rec fin fin' st' sl' : List ℕ) : Search → Type 0 where
-  over : {m' : ℕ} → Dfs rec fin' st' sl' 0 m' → Kept fin fin' → Searched rec fin fin' st' sl' (Over m')
-  ring : {j n m' : ℕ} → Closed rec st' sl' j n → Dfs rec fin' st' sl' 0 m' → Searched rec fin fin' st' sl' (Ring j n m')
-
--- the search from the spot of the i-th load byte: where there is one, it is seen
-pub record Traced (rec : List ℕ) (i : ℕ) (fin fin' st' sl' : List ℕ) (s : Search) : Type 0 where
-  pub search : Searched rec fin fin' st' sl' s
-  pub seen : {m' : ℕ} → s ≡ Over m' → origin_of rec i < spots → get_or fin' (origin_of rec i) 0 ≢ 0
-
 -- the spot of the i-th load byte is seen, if its link is fresh
 abbrev pub Begun : List ℕ → List ℕ → List ℕ → ℕ → Type 0
 Begun old rec fin i = T (is_fresh old rec i) → origin_of rec i < spots → get_or fin (origin_of rec i) 0 ≢ 0
-
--- the search from the spots of the fresh links from the a-th to before the b-th: they are seen
-pub record FreshTraced (old rec : List ℕ) (a b : ℕ) (fin fin' st' sl' : List ℕ) (s : Search) : Type 0 where
-  pub search : Searched rec fin fin' st' sl' s
-  pub seen : {m' : ℕ} → s ≡ Over m' → (i : ℕ) → a ≤ i → i < b → Begun old rec fin' i

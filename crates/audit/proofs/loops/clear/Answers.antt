@@ -1,23 +1,31 @@
 -- `loops::clear` meets its contract: the marks passed are 0. Assumes nothing.
-use borrow.Author.Count.{below_more}
-use mathlib.Core.Path.{◌≡◌, ◌∙◌}
+use Prim.Native.Nat.{ℕ, ◌≤◌}
+use mathlib.Core.Path.{◌≡◌}
+use mathlib.Core.List.{List}
 use native.Mathlib.Omega.{arith}
-use lib.ListN.{get_or, set, length-set}
-use lib.Seq.{get_or-set_same, get_or-set_other}
+use lib.ListN.{length, take, get_or-append}
+use Rattle.channel.specs.Map.{spots}
 use Rattle.channel.specs.Map.Numbers.{spots-is}
+use Rattle.std.proofs.lemmas.List.{length-take-le}
 use Rattle.audit.proofs.loops.clear.Goals as goal
 
-pub bounds-fin-i : goal.bounds-fin-i
-bounds-fin-i c = omega (arith, spots-is)
+first-marks : (n : ℕ) (fin : List ℕ) → n ≡ spots → spots ≤ length fin → length (take n fin) ≡ n
+first-marks n fin e l = length-take-le n fin (omega arith)
 
-pub loop-i-preserved : goal.loop-i-preserved
-loop-i-preserved c =
-    let l = c.loop-i in (
-      omega (arith, spots-is),
-      simp length-set l.invariant.1,
-      below_more (λ j. get_or (set l.fin l.i 0) j 0 ≡ 0) l.i
-          (λ j lj. get_or-set_other l.fin l.i j 0 0 (λ e. omega arith) ∙ l.invariant.2 j lj) (get_or-set_same l.fin l.i 0 0 (omega (arith, spots-is))),
-    )
+pub slice_bounds-mark-items-end : goal.slice_bounds-mark-items-end
+slice_bounds-mark-items-end c = omega (arith, spots-is)
+
+pub slice_bounds-mark-items-end-2 : goal.slice_bounds-mark-items-end-2
+slice_bounds-mark-items-end-2 c = omega (arith, first-marks 13128 c.args.fin.now (omega (arith, spots-is)) c.requires)
+
+pub offset_bounds-mark-items-mark-index : goal.offset_bounds-mark-items-mark-index
+offset_bounds-mark-items-mark-index c = omega (arith, first-marks 13128 c.args.fin.now (omega (arith, spots-is)) c.requires)
 
 pub returns : goal.returns
-returns c = record { all = λ i l. c.loop-i.invariant.2 i (omega (arith, spots-is)) }
+returns c =
+    let e = first-marks 13128 c.args.fin.now (omega (arith, spots-is)) c.requires in
+    record {
+      all = λ u l.
+          rw (get_or-append c.loop-mark.mark-items _ 0 u (omega (arith, spots-is, c.loop-mark.auto.mark-items, e)))
+          (c.loop-mark.invariant u (omega (arith, spots-is, c.loop-mark-test.false, e)));
+    }

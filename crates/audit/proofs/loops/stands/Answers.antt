@@ -4,7 +4,7 @@ use native.Mathlib.Omega.{arith}
 use lib.ListN.{get_or-replicate}
 use Rattle.channel.specs.Map.Numbers.{spots-is}
 use Rattle.audit.specs.Loops.Stack.{dfs-start}
-use Rattle.audit.specs.Loops.Stands.{no_loop, a-loop}
+use Rattle.audit.specs.Loops.Stands.{loop-decided}
 use Rattle.audit.proofs.loops.stands.Goals as goal
 
 pub lead_outward-requires : goal.lead_outward-requires
@@ -13,8 +13,5 @@ lead_outward-requires c = (search rules, c.rows.ensures.1, c.columns.ensures.1, 
 pub find-requires : goal.find-requires
 find-requires c = (dfs-start (search (rules, spots-is)) (record { all = λ u l. get_or-replicate 13128 u 0 0 (omega (arith, spots-is)) }), search rules)
 
-pub returns-in-Free : goal.returns-in-Free
-returns-in-Free c = no_loop c.find.ensures _ c.lead_outward.ensures c.in-Free.is
-
-pub returns-in-Ring : goal.returns-in-Ring
-returns-in-Ring c = a-loop c.find.ensures c.in-Ring.is
+pub returns : goal.returns
+returns c = rw c.is_some.ensures (loop-decided _ _ _ _ _ _ c.lead_outward.ensures c.find.result c.find.ensures)

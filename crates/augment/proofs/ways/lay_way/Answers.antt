@@ -8,16 +8,12 @@ use Rattle.augment.proofs.ways.lay_way.Goals as goal
 
 pub lay-requires : goal.lay-requires
 lay-requires c =
-    let c6 = c in
-    omega (arith, spots-is, c6.requires.spot c6.args.j (omega arith), c6.requires.slot, c6.requires.whole)
+    omega (arith, spots-is, c.requires.spot c.args.j (omega arith), c.requires.slot, c.requires.whole)
 
 pub lay-requires-in-loop-i : goal.lay-requires-in-loop-i
 lay-requires-in-loop-i c =
-    let c5 = c in
-    let c8 = c5 in
-    let c15 = c8 in
     let f = c.requires.falls c.loop-i.i c.loop-i-test.true c.loop-i.invariant.0 in
-    omega (arith, spots-is, c.requires.spot (get_or c.args.parent.now c.loop-i.i 0) (omega (arith, f, c.loop-i.invariant.0)), c.requires.slots< c.loop-i.i c.loop-i-test.true c.loop-i.invariant.0, c5.loop-i.invariant.1, c8.lay.auto.loads, c15.requires.whole)
+    omega (arith, spots-is, c.requires.spot (get_or c.args.parent.now c.loop-i.i 0) (omega (arith, f, c.loop-i.invariant.0)), c.requires.slots< c.loop-i.i c.loop-i-test.true c.loop-i.invariant.0, c.loop-i.invariant.1, c.lay.auto.loads, c.requires.whole)
 
 pub loop-i-preserved : goal.loop-i-preserved
 loop-i-preserved c =

@@ -1,9 +1,8 @@
 -- What each turn of `fill::clear` keeps. Assumes nothing.
-use Prim.Native.Nat.{ℕ, ◌≤◌, ◌<◌}
+use Prim.Native.Nat.{ℕ, ◌<◌}
 use mathlib.Core.Path.{◌≡◌}
-use lib.ListN.{length, get_or}
-use Rattle.channel.specs.Map.{spots}
+use lib.ListN.{get_or}
 use Rattle.search.proofs.fill.clear.Given as goal
 
-abbrev pub invariant-loop-i : goal.invariant-loop-i
-invariant-loop-i l = (l.i ≤ spots) × (length l.marks ≡ length l.initial.marks) × ((j : ℕ) → j < l.i → get_or l.marks j 0 ≡ 0)
+abbrev pub invariant-loop-mark : goal.invariant-loop-mark
+invariant-loop-mark l = (j : ℕ) → j < l.mark-index → get_or l.mark-items j 0 ≡ 0

@@ -1,50 +1,61 @@
--- `fill::fill` meets its contract: each turn lays a wire, or clears the marks after the last one was laid. Assumes nothing.
-use mathlib.Core.Path.{refl, ◌∙◌}
+-- `fill::fill` meets its contract: each turn lays a wire, and the last search began with no marks. Assumes nothing.
+use mathlib.Core.Path.{refl, sym, ◌∙◌}
 use native.Mathlib.Omega.{arith}
-use Rattle.augment.specs.Queue.{alike_refl, alike_then}
-use Rattle.search.specs.Filling.{filling-start, filling-clear, filling-laid, filling-less, filling-end}
-use Rattle.augment.specs.Passing.{was-nothing}
+use Rattle.augment.specs.Queue.{alike_refl, alike_then, alike-room}
+use Rattle.search.specs.Filling.{cleared-dead, more-refl, more-then, more-lacking, was-laid, was-none, laid-more, laid-less, filled}
 use Rattle.search.proofs.fill.fill.Goals as goal
 
-pub loop-fresh-init : goal.loop-fresh-init
-loop-fresh-init c =
-    let c11 = c in
-    (refl, alike_refl _ _ _ _, filling-start c11.requires.2 c.clear.ensures, refl)
+pub loop-loads-init : goal.loop-loads-init
+loop-loads-init c = record { loads = refl; alike = alike_refl _ _ _ _; lists = refl; more = more-refl c.requires.2; cleared = c.clear.ensures }
 
-pub loop-fresh-smaller-in-Laid : goal.loop-fresh-smaller-in-Laid
-loop-fresh-smaller-in-Laid c =
-    let c14 = c in
-    let c21 = c14 in
-    omega (arith, filling-less c21.loop-fresh.invariant.2 c14.next_wire.ensures c.in-Laid.is)
-
-pub loop-fresh-preserved-in-Laid : goal.loop-fresh-preserved-in-Laid
-loop-fresh-preserved-in-Laid c =
-    let c14 = c in
-    let c21 = c14 in
-    let l = c21.loop-fresh.invariant in
-    let k = c14.next_wire.auto in (
-      k.loads ∙ l.0,
-      alike_then l.1 k.marks k.queue k.parent k.slot,
-      filling-laid l.2 c14.next_wire.ensures c.in-Laid.is,
-      k.lists ∙ l.3,
+pub next_wire-requires : goal.next_wire-requires
+next_wire-requires c =
+    let l = c.loop-loads.invariant in
+    let p = c.requires in
+    let r = p.1 in (
+      record { asked = p.0.asked; loads = omega (arith, p.0.loads, l.loads) },
+      alike-room (record { marks = omega (arith, r.marks, c.clear.auto.marks); queue = r.queue; parents = r.parents; slots = r.slots }) l.alike,
+      l.more.held,
+      cleared-dead l.cleared,
+      omega (arith, p.3, l.lists),
     )
 
-pub returns-then-fresh : goal.returns-then-fresh
-returns-then-fresh c =
-    let c15 = c in
-    let c22 = c15 in
-    filling-end c22.loop-fresh.invariant.2 c15.next_wire.ensures c.if-fresh.true c.in-Nothing.is
+pub loop-loads-smaller : goal.loop-loads-smaller
+loop-loads-smaller c =
+    let l = c.loop-loads.invariant in
+    let (u, a) = was-laid _ _ _ _ _ c.next_wire.result (sym c.is_some.ensures ∙ c.loop-loads-test.true) c.next_wire.ensures in
+    omega (arith, laid-less l.more.held a, more-lacking c.lay_on.ensures)
 
-pub loop-fresh-preserved : goal.loop-fresh-preserved
-loop-fresh-preserved c =
-    let c2 = c in
-    let c5 = c2 in
-    let c19 = c5 in
-    let c26 = c19 in
-    let l = c26.loop-fresh.invariant in
-    let k = c19.next_wire.auto in (
-      k.loads ∙ l.0,
-      alike_then l.1 (c2.clear-in-Nothing.auto.marks ∙ k.marks) k.queue k.parent k.slot,
-      filling-clear l.2 (was-nothing c19.next_wire.ensures c5.in-Nothing.is).0 c2.clear-in-Nothing.ensures,
-      k.lists ∙ l.3,
+pub loop-loads-preserved : goal.loop-loads-preserved
+loop-loads-preserved c =
+    let l = c.loop-loads.invariant in
+    let k = c.next_wire.auto in
+    let o = c.lay_on.auto in
+    let (u, a) = was-laid _ _ _ _ _ c.next_wire.result (sym c.is_some.ensures ∙ c.loop-loads-test.true) c.next_wire.ensures in
+    record {
+      loads = o.loads ∙ k.loads ∙ l.loads;
+      alike = alike_then l.alike (c.clear-in-loop-loads.auto.marks ∙ o.marks ∙ k.marks) (o.queue ∙ k.queue) (o.parent ∙ k.parent) (o.slot ∙ k.slot);
+      lists = o.lists ∙ k.lists ∙ l.lists;
+      more = more-then l.more (more-then (laid-more l.more.held a) c.lay_on.ensures);
+      cleared = c.clear-in-loop-loads.ensures;
+    }
+
+pub lay_on-requires : goal.lay_on-requires
+lay_on-requires c =
+    let l = c.loop-loads.invariant in
+    let k = c.next_wire.auto in
+    let p = c.requires in
+    let r = p.1 in
+    let (u, a) = was-laid _ _ _ _ _ c.next_wire.result (sym c.is_some.ensures ∙ c.loop-loads-test.true) c.next_wire.ensures in (
+      record { asked = p.0.asked; loads = omega (arith, p.0.loads, l.loads, k.loads) },
+      alike-room (record { marks = omega (arith, r.marks, c.clear.auto.marks); queue = r.queue; parents = r.parents; slots = r.slots })
+          (alike_then l.alike k.marks k.queue k.parent k.slot),
+      (laid-more l.more.held a).held,
+      a.dead,
+      omega (arith, p.3, l.lists, k.lists),
     )
+
+pub returns : goal.returns
+returns c =
+    let l = c.loop-loads.invariant in
+    filled l.more l.cleared (was-none _ _ _ _ _ c.next_wire.result (sym c.is_some.ensures ∙ c.loop-loads-test.false) c.next_wire.ensures)

@@ -3,13 +3,17 @@ use mathlib.Core.Path.{◌≡◌}
 use lib.ListN.{length}
 use Rattle.model.specs.Record.{job_of}
 use Rattle.augment.specs.Spread.{Alike}
-use Rattle.search.specs.Fill.{Filling, left}
+use Rattle.search.specs.Fill.{Cleared, More, lacking}
 use Rattle.search.proofs.fill.fill.Given as goal
 
-abbrev pub invariant-loop-fresh : goal.invariant-loop-fresh
-invariant-loop-fresh l =
-    (length l.loads ≡ length l.initial.loads) × Alike l.initial.marks l.initial.queue l.initial.parent l.initial.slot l.marks l.queue l.parent l.slot × Filling (job_of l.job) l.initial.loads l.loads l.marks l.fresh
-    × (length l.lists ≡ length l.initial.lists)
+abbrev pub invariant-loop-loads : goal.invariant-loop-loads
+invariant-loop-loads l = record {
+  loads : length l.loads ≡ length l.initial.loads;
+  alike : Alike l.initial.marks l.initial.queue l.initial.parent l.initial.slot l.marks l.queue l.parent l.slot;
+  lists : length l.lists ≡ length l.initial.lists;
+  more : More (job_of l.job) l.initial.loads l.loads;
+  cleared : Cleared l.marks;
+}
 
-abbrev pub decreases-loop-fresh : goal.decreases-loop-fresh
-decreases-loop-fresh l = left (job_of l.job) l.loads l.fresh
+abbrev pub decreases-loop-loads : goal.decreases-loop-loads
+decreases-loop-loads l = lacking (job_of l.job) l.loads

@@ -8,10 +8,15 @@ use Rattle.augment.specs.Pins.{Held}
 use Rattle.search.specs.Loose.{Loosened}
 use Rattle.search.proofs.untangle.untangle.Given as goal
 
-abbrev pub invariant-loop-j : goal.invariant-loop-j
-invariant-loop-j l =
-    (length l.loads ≡ length l.initial.loads) × (length l.fin ≡ length l.initial.fin) × (length l.st ≡ length l.initial.st) × (length l.sl ≡ length l.initial.sl)
-    × ((J : Job) → Held J l.initial.loads → Loosened J l.initial.loads l.loads) × Dfs l.loads l.fin l.st l.sl 0 l.m
+abbrev pub invariant-loop-ring : goal.invariant-loop-ring
+invariant-loop-ring l = record {
+  loads : length l.loads ≡ length l.initial.loads;
+  marks : length l.fin ≡ length l.initial.fin;
+  stack : length l.st ≡ length l.initial.st;
+  slots : length l.sl ≡ length l.initial.sl;
+  loose : (J : Job) → Held J l.initial.loads → Loosened J l.initial.loads l.loads;
+  state : Dfs l.loads l.fin l.st l.sl 0 l.done;
+}
 
-abbrev pub decreases-loop-j : goal.decreases-loop-j
-decreases-loop-j l = total_load l.loads
+abbrev pub decreases-loop-ring : goal.decreases-loop-ring
+decreases-loop-ring l = total_load l.loads

@@ -12,9 +12,9 @@ returns c =
     let k = s.k in
     let south = c.beyond-south.ensures ∙ ap (λ (x : ℕ). x - (k + r)) c.rows.ensures.0 in
     let east = c.beyond-east.ensures ∙ ap (λ (x : ℕ). x - (k + s.c)) c.columns.ensures.0 in (
-      c.smaller-3.ensures
-          ∙ (λ i. min (c.smaller.ensures i) (c.smaller-2.ensures i))
+      c.min-3.ensures
+          ∙ (λ i. min (c.min.ensures i) (c.min-2.ensures i))
           ∙ (λ i. min (min r s.c) (min (south i) (east i)))
           ∙ least4-is r s.c _ _,
-      omega (arith, c.smaller-3.ensures, c.smaller.ensures, c.requires.1),
+      omega (arith, c.min-3.ensures, c.min.ensures, c.requires.1),
     )
