@@ -1,8 +1,8 @@
 // The program of document 02, K1: the capacities that four measures give. Its arguments are pitch, pad diameter, wire width and spacing, in micrometres.
 #![tactic(auto)]
 
-use rules::argument::{Argument, read_number};
-use rules::{Answer, Figures, refusal_of};
+use rules::argument::read_number;
+use rules::{Figures, Refusal};
 use std::env::{Env, FillError};
 use std::io;
 
@@ -12,19 +12,19 @@ fn show_figures(rt: &HostRuntime, f: Figures) -> io::Result<()> {
     println!(rt; " (d {}))", f.diagonal)
 }
 
-fn show(rt: &HostRuntime, answer: Answer) -> io::Result<()> {
-    let Answer::Gives(f) = answer else {
-        return println!(rt; "(refused {})", refusal_of(answer));
-    };
-    show_figures(rt, f)
+fn show(rt: &HostRuntime, answer: Result<Figures, Refusal>) -> io::Result<()> {
+    match answer {
+        Ok(f) => show_figures(rt, f),
+        Err(refusal) => println!(rt; "(refused {})", refusal.number()),
+    }
 }
 
 // The number that argument i is.
-fn measure(rt: &HostRuntime, i: usize) -> Argument {
+fn measure(rt: &HostRuntime, i: usize) -> Option<u64> {
     let mut text = [0u8; 4096];
     match rt.arg(i, &mut text) {
         Ok(n) => read_number(&text[..n]),
-        Err(_) => Argument::NoNumber,
+        Err(_) => None,
     }
 }
 
@@ -42,16 +42,16 @@ fn main(rt: HostRuntime) -> io::Result<()> {
     if is_given(&rt, 5) {
         return usage(&rt);
     }
-    let Argument::Number(p) = measure(&rt, 1) else {
+    let Some(p) = measure(&rt, 1) else {
         return usage(&rt);
     };
-    let Argument::Number(d) = measure(&rt, 2) else {
+    let Some(d) = measure(&rt, 2) else {
         return usage(&rt);
     };
-    let Argument::Number(w) = measure(&rt, 3) else {
+    let Some(w) = measure(&rt, 3) else {
         return usage(&rt);
     };
-    let Argument::Number(s) = measure(&rt, 4) else {
+    let Some(s) = measure(&rt, 4) else {
         return usage(&rt);
     };
     show(&rt, rules::rules(p, d, w, s))

@@ -35,6 +35,11 @@ module _ {rec was : List ℕ} (g : Legal rec) (e : was ≡ over (front rec) (rep
   as-copied : (P : Job → (Step → ℕ) → List ℕ) → P (job_of was) (load was) ≡ P (job_of rec) (load rec)
   as-copied P = λ i. P (copied-job i) (copy-loads rec was g same_bytes i)
 
+  -- what any edit leaves of the copy's job and loads it leaves of the record's
+  pub edit-copied : (K : Job → Job) (left : Job → (Step → ℕ) → Step → ℕ)
+      → over (record_of (K (job_of was)) (left (job_of was) (load was))) rec ≡ over (record_of (K (job_of rec)) (left (job_of rec) (load rec))) rec
+  edit-copied K left = as-copied (λ J f. over (record_of (K J) (left J f)) rec)
+
   pub mark-copied : (r c m : ℕ) → over (record_of (marked (job_of was) r c m) (mark_left (job_of was) (load was) r c)) rec ≡ set_in false r c m rec
   mark-copied r c m = as-copied (λ J f. over (record_of (marked J r c m) (mark_left J f r c)) rec)
 

@@ -64,12 +64,12 @@ module _ (rec : List ℕ) (r c d : ℕ) where
                 range-most 1 8 J.O (and_left (in_range 1 8 J.O) (in_range J.O (2 * J.O) J.D && in_range 0 16 J.E) g.values.caps),
               )
 
-          -- w is what the tile has, read by its cell
+          -- w is what the tile has, read by its cell, and z whether that is d
           module _ (w : ℕ) (m : c < 40) (q : w ≡ tile_d J (row_of (41 + 40 * r + c)) (column_of (41 + 40 * r + c))) where
             there : w ≡ tile_d J r c
             there = q ∙ (λ i. tile_d J (cell_row (41 + 40 * r + c) r c (λ j. 41 + 40 * r + c) m i) (cell-column (41 + 40 * r + c) r c (λ j. 41 + 40 * r + c) m i))
 
-            given-as : (z : Bool) → eqb w d ≡ z → edited z (diagonal_by J r c d) left rec ≡ diagonal_in r c d rec
+            pub given-as : (z : Bool) → eqb w d ≡ z → edited z (diagonal_by J r c d) left rec ≡ diagonal_in r c d rec
             given-as z s =
                 ap (λ (b : Bool). edited b (diagonal_by J r c d) left rec) (sym s ∙ ap (λ (n : ℕ). eqb n d) there)
                 ∙ sym (is-there ∙ asked-holds rec [] given (in_range J.O (2 * J.O) d) 3 [] (sym range-read ∙ not-false u y))

@@ -9,15 +9,15 @@ ghost use Rattle.model.specs.Record.{job_of, Legal};
 ghost use Rattle.escape.specs.Handed.{IsRead, Handed, Held};
 ghost use Rattle.escape.specs.Prints.{Lists, Prints};
 
-use pages::{Shown, show_near, show_refused, show_wires};
+use pages::{show_near, show_refused, show_wires};
 use shortest::shorten::route_all;
 use std::env::{Env, FillError};
 use std::io::{Error, Read, Write};
 use std::{fs, io, str};
-use text::{Judged, read_into};
+use text::read_into;
 
 // The wires of a job in which all are laid, together of the least length, or the near side where some pin stays unwired.
-fn show_routed<W: Write>(rec: &mut [u8], out: &mut W) -> Shown
+fn show_routed<W: Write>(rec: &mut [u8], out: &mut W) -> io::Result<usize>
     requires { Legal rec.old }
     ensures { (bytes : List ℕ) × Lists (job_of rec.old) bytes × Handed result bytes
         × Held (W.contents out.old) (W.contents out.new) result bytes }
@@ -31,14 +31,14 @@ fn show_routed<W: Write>(rec: &mut [u8], out: &mut W) -> Shown
 }
 
 // The listing of a text.
-fn show_text<W: Write>(text: &[u8], out: &mut W) -> Shown
+fn show_text<W: Write>(text: &[u8], out: &mut W) -> io::Result<usize>
     ensures { (bytes : List ℕ) × Prints text.now bytes × Handed result bytes
         × Held (W.contents out.old) (W.contents out.new) result bytes }
 {
     let mut rec = [0u8; 32768];
     match read_into(text, &mut rec) {
-        Judged::Reads => show_routed(&mut rec, out),
-        Judged::WrongAt(o) => show_refused(o, out),
+        Ok(()) => show_routed(&mut rec, out),
+        Err(wrong) => show_refused(wrong.offset, out),
     }
 }
 
@@ -59,8 +59,8 @@ fn fill<R: Read>(from: &mut R, buf: &mut [u8]) -> io::Result<usize>
     Ok(done)
 }
 
-// The listing of the text that a reader gives, handed to a writer; an error where reading fails.
-fn list<R: Read, W: Write>(from: &mut R, out: &mut W) -> io::Result<Shown>
+// The listing of the text that a reader gives, handed to a writer: what writing it gives, or an error where reading fails.
+fn list<R: Read, W: Write>(from: &mut R, out: &mut W) -> io::Result<io::Result<usize>>
     ensures { IfOk result (λ shown. (text : List ℕ) × (bytes : List ℕ) × IsRead (R.remaining from.old) text × Prints text bytes
         × Handed shown bytes × Held (W.contents out.old) (W.contents out.new) shown bytes) }
 {
@@ -77,8 +77,8 @@ fn say(rt: &impl Eprint, what: &str, error: Error) {
 // The listing of what a reader gives, on standard output; false where writing fails.
 fn show(rt: &HostRuntime, from: &mut impl Read) -> bool {
     match list(from, &mut rt.stdout()) {
-        Ok(Shown::All(_)) => true,
-        Ok(Shown::Stopped(error)) => {
+        Ok(Ok(_)) => true,
+        Ok(Err(error)) => {
             say(rt, "write", error);
             false
         }
@@ -91,10 +91,8 @@ fn show(rt: &HostRuntime, from: &mut impl Read) -> bool {
 
 // The listing of a file; false where writing fails.
 fn show_file(rt: &HostRuntime, name: &[u8]) -> bool {
-    if name.len() == 1 {
-        if name[0] == b'-' {
-            return show(rt, &mut rt.stdin());
-        }
+    if name == b"-".as_slice() {
+        return show(rt, &mut rt.stdin());
     }
     let Ok(path) = str::from_utf8(name) else {
         say(rt, "argument", Error::from(io::ErrorKind::InvalidFilename));

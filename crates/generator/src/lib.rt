@@ -14,24 +14,25 @@ pub fn draw(x: u32) -> u32
 }
 
 // A generator holds the number that was drawn last, or the one that it started from.
-#[derive(Clone, Copy)]
+#[derive(Debug, Clone, Copy, PartialEq, Eq)]
 pub struct Generator {
     pub number: u32,
 }
 
-// Moves on by one draw, in place, and gives it.
-pub fn next(g: &mut Generator) -> u32
-    ensures { (result ≡ drawn g.old.number) × (g.new.number ≡ result) }
-{
-    let r = draw(g.number);
-    g.number = r;
-    r
+impl Generator {
+    // Moves on by one draw, in place, and gives it.
+    pub fn next(&mut self) -> u32
+        ensures { (result ≡ drawn self.old.number) × (self.new.number ≡ result) }
+    {
+        self.number = draw(self.number);
+        self.number
+    }
 }
 
 // The number after a number, by a generator of its own.
 pub fn step(number: u32) -> u32
     ensures { result ≡ drawn number }
 {
-    let mut g = Generator { number: number };
-    next(&mut g)
+    let mut generator = Generator { number };
+    generator.next()
 }

@@ -1,31 +1,33 @@
 // New.
 ghost use Rattle.std.specs.Prelude.{[]};
 ghost use Rattle.model.specs.Calls.{new as New, after, Did};
-ghost use Rattle.answers.specs.Answers.{as_answer};
+ghost use Rattle.answers.specs.Answers.{answered, as_done};
 
-use answers::Answer;
+use answers::Refusal;
 use channel::write_fresh;
 use model::{Array, Capacities};
 
 // An idle, open, unwired job.
-pub fn new(rec: &mut [u8], rows: usize, columns: usize, o: usize, d: usize, e: usize) -> Answer
-    ensures { Did (New rows columns o d e) rec.old (after (as_answer result) rec.new [] []) }
+pub fn new(rec: &mut [u8], array: Array, capacities: Capacities) -> Result<(), Refusal>
+    ensures { Did (New array.rows array.columns capacities.orthogonal capacities.diagonal capacities.extra) rec.old
+        (after (answered as_done result) rec.new [] []) }
 {
     if rec.len() < 32768 {
-        return Answer::Refused(1);
+        return Err(Refusal::Damaged);
     }
-    let array = Array { rows, columns };
     if !array.fits() {
-        return Answer::Refused(2);
+        return Err(Refusal::Size);
     }
-    let capacities = Capacities {
-        orthogonal: o,
-        diagonal: d,
-        extra: e,
-    };
     if !capacities.admitted() {
-        return Answer::Refused(3);
+        return Err(Refusal::Capacities);
     }
-    write_fresh(rec, rows, columns, o, d, e);
-    Answer::Done
+    write_fresh(
+        rec,
+        array.rows,
+        array.columns,
+        capacities.orthogonal,
+        capacities.diagonal,
+        capacities.extra,
+    );
+    Ok(())
 }

@@ -4,8 +4,7 @@ use Prim.Native.Nat.{ℕ, ◌≤◌}
 use native.Mathlib.Nat.{min-eq_left}
 use native.Mathlib.Omega.{arith}
 use lib.Dec.{T}
-use Rattle.rules.specs.declared.Answer.{Answer}
-use Rattle.rules.specs.Rules.{measured, Answered, beyond, under, outside, given}
+use Rattle.rules.specs.Rules.{Answer, measured, Answered, beyond, under, outside, given}
 use Rattle.rules.specs.Ranges.{Ranges, ranges}
 use Rattle.rules.specs.Arguments.{capped}
 

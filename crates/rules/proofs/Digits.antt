@@ -5,20 +5,11 @@ use mathlib.Core.List.{List}
 use Prim.Native.Nat.{ℕ, ◌+◌, ◌-◌, ◌*◌, ◌≤◌, ◌<◌}
 use native.Mathlib.Numerals.{add-one}
 use native.Mathlib.Omega.{arith}
-use lib.Dec.{T, leb, leb→le, le→leb}
+use lib.Dec.{T}
 use lib.ListN.{length, get_or}
-use Rattle.sums.specs.Tests.{below_or, and_left, and_right, and_both}
-use Rattle.rules.specs.declared.argument.Argument.TheVariants.{Number}
+use Rattle.sums.specs.Tests.{below_or}
+use Rattle.std.specs.Prelude.{Some}
 use Rattle.rules.specs.Arguments.{is_digit, decimal, capped, Written, digits}
-
-pub below-digits : (b : ℕ) → b < 48 → T (is_digit b) → ⊥
-below-digits b l t = omega (arith, leb→le 48 b (and_left (leb 48 b) (leb b 57) t))
-
-pub above-digits : (b : ℕ) → 57 < b → T (is_digit b) → ⊥
-above-digits b l t = omega (arith, leb→le b 57 (and_right (leb 48 b) (leb b 57) t))
-
-pub is_digit_lem : (b : ℕ) → 48 ≤ b → b ≤ 57 → T (is_digit b)
-is_digit_lem b l m = and_both (leb 48 b) (leb b 57) (le→leb 48 b l) (le→leb b 57 m)
 
 pub digits_more : (text : List ℕ) (i : ℕ) → ((j : ℕ) → j < i → T (is_digit (get_or text j 0))) → T (is_digit (get_or text i 0))
     → (j : ℕ) → j < i + 1 → T (is_digit (get_or text j 0))
@@ -33,5 +24,5 @@ unfolding decimal
 decimal-more text i n e = rw add-one (omega (arith, e))
 
 pub written : (text : List ℕ) (i n : ℕ) → i ≡ length text → 0 < length text → n ≡ capped (decimal text i)
-    → ((j : ℕ) → j < i → T (is_digit (get_or text j 0))) → Written text (Number n)
-written text i n e l q h = subst (λ m. Written text (Number m)) (sym (q ∙ ap (λ m. capped (decimal text m)) e)) (digits l (λ j k. h j (omega arith)))
+    → ((j : ℕ) → j < i → T (is_digit (get_or text j 0))) → Written text (Some n)
+written text i n e l q h = subst (λ m. Written text (Some m)) (sym (q ∙ ap (λ m. capped (decimal text m)) e)) (digits l (λ j k. h j (omega arith)))

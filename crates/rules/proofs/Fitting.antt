@@ -9,7 +9,7 @@ use lib.Dec.{T, leb, leb→le, le→leb}
 use Rattle.sums.specs.Tests.{below_or, and_right, and_both}
 use Rattle.model.specs.Job.{in_range, caps_fit, caps_admitted}
 use Rattle.rules.specs.declared.Figures.{Figures}
-use Rattle.rules.specs.declared.Answer.TheVariants.{Gives}
+use Rattle.std.specs.Prelude.{Ok}
 use Rattle.rules.specs.Rules.{across, Passes, Given, Answered, given}
 
 range-both : (least most n : ℕ) → least ≤ n → n ≤ most → T (in_range least most n)
@@ -37,13 +37,13 @@ module _ (p d w s : ℕ) (f : Figures) where
       by (inl h) = absurd (g.count.most O h (orthogonal-passes l g))
       by (inr h) = h
 
-  pub capacities-order : Answered p d w s (Gives f) → (O ≤ k) × (O ≤ D) × (D ≤ 2 * O)
+  pub capacities-order : Answered p d w s (Ok f) → (O ≤ k) × (O ≤ D) × (D ≤ 2 * O)
   capacities-order (given _ t l r g) =
       let h : O ≤ k = orthogonal-most l g in
       (h, omega (arith, g.diagonal), omega (arith, g.diagonal))
 
   -- a new job may have them, with every E up to D
-  pub capacities-fit : Answered p d w s (Gives f) → (E : ℕ) → E ≤ D → T (caps_admitted O D E)
+  pub capacities-fit : Answered p d w s (Ok f) → (E : ℕ) → E ≤ D → T (caps_admitted O D E)
   capacities-fit a E e =
       let (h, l, m) = capacities-order a in
       let o : O ≤ 8 = leb→le O 8 (and_right (leb 1 O) (leb O 8) (in-range a)) in
@@ -52,5 +52,5 @@ module _ (p d w s : ℕ) (f : Figures) where
       (and_both (in_range O (2 * O) D) (in_range 0 16 E) (range-both O (2 * O) D l m) (range-both 0 16 E (omega arith) (omega arith))))
       (le→leb E D e)
     where
-      in-range : Answered p d w s (Gives f) → T (in_range 1 8 O)
+      in-range : Answered p d w s (Ok f) → T (in_range 1 8 O)
       in-range (given _ t l r g) = r

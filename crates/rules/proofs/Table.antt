@@ -8,9 +8,9 @@ use lib.Dec.{T, eqb, leb, ltb, eqb→eq, leb→le, ltb→lt}
 use Rattle.sums.specs.Tests.{and_left, and_right, or-by, every, every-at}
 use Rattle.model.specs.Job.{in_range}
 use Rattle.rules.specs.declared.Figures.{Figures}
-use Rattle.rules.specs.declared.Answer.{Answer}
-use Rattle.rules.specs.declared.Answer.TheVariants.{OutOfRange, NoCapacity, Gives}
-use Rattle.rules.specs.Rules.{across, measured, Given, Answered, beyond, under, outside, given}
+use Rattle.std.specs.Prelude.{Ok, Err}
+use Rattle.rules.specs.declared.Refusal.TheVariants.{OutOfRange, NoCapacity}
+use Rattle.rules.specs.Rules.{Answer, across, measured, Given, Answered, beyond, under, outside, given}
 use Rattle.rules.specs.Ranges.{ranges}
 use Rattle.rules.specs.Examples.{Row, rows}
 use Rattle.rules.proofs.Quotient.{divided}
@@ -56,14 +56,14 @@ module _ (p d w s : ℕ) where
       }
 
   holds : Answer → Bool
-  holds OutOfRange = not (measured p d w s)
-  holds NoCapacity = measured p d w s && (ltb p (d + s) || (leb (d + s) p && not (in_range 1 8 ((p - d - s) / (w + s)))))
-  holds (Gives f) = measured p d w s && (leb (d + s) p && (in_range 1 8 f.orthogonal && fits f))
+  holds (Err OutOfRange) = not (measured p d w s)
+  holds (Err NoCapacity) = measured p d w s && (ltb p (d + s) || (leb (d + s) p && not (in_range 1 8 ((p - d - s) / (w + s)))))
+  holds (Ok f) = measured p d w s && (leb (d + s) p && (in_range 1 8 f.orthogonal && fits f))
 
   holds-answered : (a : Answer) → T (holds a) → Answered p d w s a
   unfolding holds
-  holds-answered OutOfRange t = beyond (not_so (measured p d w s) t)
-  holds-answered NoCapacity t =
+  holds-answered (Err OutOfRange) t = beyond (not_so (measured p d w s) t)
+  holds-answered (Err NoCapacity) t =
       let m = and_left (measured p d w s) _ t in
       or-by (ltb p (d + s)) _ (λ u. under m (ltb→lt p (d + s) u))
       (λ u. outside ((p - d - s) / (w + s)) ((p - d - s) % (w + s)) m (leb→le (d + s) p (and_left (leb (d + s) p) _ u))
@@ -72,7 +72,7 @@ module _ (p d w s : ℕ) where
     where
       positive : T (measured p d w s) → 0 < w + s
       positive m = omega (arith, ranges p d w s m)
-  holds-answered (Gives f) t =
+  holds-answered (Ok f) t =
       let u = and_right (measured p d w s) _ t in
       let v = and_right (leb (d + s) p) _ u in
       given f (and_left (measured p d w s) _ t) (leb→le (d + s) p (and_left (leb (d + s) p) _ u)) (and_left (in_range 1 8 f.orthogonal) (fits f) v)

@@ -6,8 +6,7 @@ use native.Mathlib.Nat.{mul-le-mul_right, add-mul}
 use native.Mathlib.Omega.{arith}
 use Rattle.sums.specs.Tests.{below_or}
 use Rattle.rules.specs.declared.Figures.{Figures}
-use Rattle.rules.specs.declared.Answer.{Answer}
-use Rattle.rules.specs.Rules.{Divided, across, Largest, Given, Answered, beyond, under, outside, given}
+use Rattle.rules.specs.Rules.{Answer, Divided, across, Largest, Given, Answered, beyond, under, outside, given}
 
 -- the two are equal where neither is less
 by_order : {a b : ℕ} → (a < b → ⊥) → (b < a → ⊥) → a ≡ b

@@ -1,8 +1,6 @@
 -- A number as an argument of a program writes it: one or more decimal digits. Assumes nothing.
-use Rattle.std.specs.Prelude.{◌≡◌, Bool, List, ℕ, zero, suc, ◌+◌, ◌-◌, ◌*◌, min, ◌<◌, T, length, get_or}
+use Rattle.std.specs.Prelude.{◌≡◌, Bool, List, Option, Some, None, ℕ, zero, suc, ◌+◌, ◌-◌, ◌*◌, min, ◌<◌, T, length, get_or}
 use Rattle.model.specs.Job.{in_range}
-use Rattle.rules.specs.declared.argument.Argument.{Argument}
-use Rattle.rules.specs.declared.argument.Argument.TheVariants.{NoNumber, Number}
 
 -- the bytes of 0 to 9
 abbrev pub is_digit : ℕ → Bool
@@ -17,7 +15,7 @@ decimal text (suc n) = 10 * decimal text n + (get_or text n 0 - 48)
 abbrev pub capped : ℕ → ℕ
 capped n = min n 10000000000
 
-pub data Written (text : List ℕ) : Argument → Type 0 where
-  empty : length text ≡ 0 → Written text NoNumber
-  other : (i : ℕ) → i < length text → (T (is_digit (get_or text i 0)) → ⊥) → Written text NoNumber
-  digits : 0 < length text → ((i : ℕ) → i < length text → T (is_digit (get_or text i 0))) → Written text (Number (capped (decimal text (length text))))
+pub data Written (text : List ℕ) : Option ℕ → Type 0 where
+  empty : length text ≡ 0 → Written text None
+  other : (i : ℕ) → i < length text → (T (is_digit (get_or text i 0)) → ⊥) → Written text None
+  digits : 0 < length text → ((i : ℕ) → i < length text → T (is_digit (get_or text i 0))) → Written text (Some (capped (decimal text (length text))))

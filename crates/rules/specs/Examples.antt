@@ -1,7 +1,7 @@
 -- Document 02, K1: measures with the answer that they get. Assumes nothing.
-use Rattle.std.specs.Prelude.{List, [], ◌∷◌, ℕ}
-use Rattle.rules.specs.declared.Answer.{Answer}
-use Rattle.rules.specs.declared.Answer.TheVariants.{OutOfRange, NoCapacity, Gives}
+use Rattle.std.specs.Prelude.{List, [], ◌∷◌, Ok, Err, ℕ}
+use Rattle.rules.specs.declared.Refusal.TheVariants.{OutOfRange, NoCapacity}
+use Rattle.rules.specs.Rules.{Answer}
 
 pub record Row : Type 0 where
   pub p : ℕ
@@ -15,7 +15,7 @@ row p d w s a = record { p = p; d = d; w = w; s = s; answer = a }
 
 -- O, its remainder, k, what is left, D
 abbrev five : ℕ → ℕ → ℕ → ℕ → ℕ → Answer
-five O remainder k left D = Gives (record { orthogonal = O; remainder = remainder; count = k; left = left; diagonal = D })
+five O remainder k left D = Ok (record { orthogonal = O; remainder = remainder; count = k; left = left; diagonal = D })
 
 abbrev pub rows : List Row
 rows =
@@ -24,19 +24,19 @@ rows =
     -- "For 1000, 500, 100, 100: O is 2 remainder 0, k is 4 with 40,000 left, D is 4."
     ∷ row 1000 500 100 100 (five 2 0 4 40000 4)
     -- each measure below and above its range
-    ∷ row 0 400 100 75 OutOfRange
-    ∷ row 100001 400 100 75 OutOfRange
-    ∷ row 800 0 100 75 OutOfRange
-    ∷ row 800 100001 100 75 OutOfRange
-    ∷ row 800 400 0 75 OutOfRange
-    ∷ row 800 400 100001 75 OutOfRange
-    ∷ row 800 400 100 0 OutOfRange
-    ∷ row 800 400 100 100001 OutOfRange
+    ∷ row 0 400 100 75 (Err OutOfRange)
+    ∷ row 100001 400 100 75 (Err OutOfRange)
+    ∷ row 800 0 100 75 (Err OutOfRange)
+    ∷ row 800 100001 100 75 (Err OutOfRange)
+    ∷ row 800 400 0 75 (Err OutOfRange)
+    ∷ row 800 400 100001 75 (Err OutOfRange)
+    ∷ row 800 400 100 0 (Err OutOfRange)
+    ∷ row 800 400 100 100001 (Err OutOfRange)
     -- p one under d + s
-    ∷ row 399 300 100 100 NoCapacity
+    ∷ row 399 300 100 100 (Err NoCapacity)
     -- O is 0, 1, 8 and 9
-    ∷ row 599 300 100 100 NoCapacity
+    ∷ row 599 300 100 100 (Err NoCapacity)
     ∷ row 600 300 100 100 (five 1 0 2 80000 2)
     ∷ row 2199 300 100 100 (five 8 199 13 671202 13)
-    ∷ row 2200 300 100 100 NoCapacity
+    ∷ row 2200 300 100 100 (Err NoCapacity)
     ∷ []

@@ -1,9 +1,13 @@
 -- Document 02, K1, "Capacities from the design rules": what is answered to pitch p, pad diameter d, wire width w and spacing s. Assumes nothing.
-use Rattle.std.specs.Prelude.{◌≡◌, Bool, ◌&&◌, ℕ, ◌+◌, ◌-◌, ◌*◌, min, ◌≤◌, ◌<◌, T}
+use Rattle.std.specs.Prelude.{◌≡◌, Bool, ◌&&◌, Result, Ok, Err, ℕ, ◌+◌, ◌-◌, ◌*◌, min, ◌≤◌, ◌<◌, T}
 use Rattle.model.specs.Job.{in_range}
 use Rattle.rules.specs.declared.Figures.{Figures}
-use Rattle.rules.specs.declared.Answer.{Answer}
-use Rattle.rules.specs.declared.Answer.TheVariants.{OutOfRange, NoCapacity, Gives}
+use Rattle.rules.specs.declared.Refusal.{Refusal}
+use Rattle.rules.specs.declared.Refusal.TheVariants.{OutOfRange, NoCapacity}
+
+-- the figures of the measures, or why there are none
+abbrev pub Answer : Type 0
+Answer = Result Figures Refusal
 
 -- what the division of n by m gives: the quotient q, and the remainder r below m
 pub record Divided (n m q r : ℕ) : Type 0 where
@@ -41,13 +45,16 @@ module _ (p d w s : ℕ) where
 
   -- "Turned away: 9 a measure out of range; then 10 p under d + s, or O outside 1 to 8."
   pub data Answered : Answer → Type 0 where
-    beyond : (T measured → ⊥) → Answered OutOfRange
-    under : T measured → p < d + s → Answered NoCapacity
-    outside : (O remainder : ℕ) → T measured → d + s ≤ p → Orthogonal O remainder → (T (in_range 1 8 O) → ⊥) → Answered NoCapacity
-    given : (f : Figures) → T measured → d + s ≤ p → T (in_range 1 8 f.orthogonal) → Given f → Answered (Gives f)
+    beyond : (T measured → ⊥) → Answered (Err OutOfRange)
+    under : T measured → p < d + s → Answered (Err NoCapacity)
+    outside : (O remainder : ℕ) → T measured → d + s ≤ p → Orthogonal O remainder → (T (in_range 1 8 O) → ⊥) → Answered (Err NoCapacity)
+    given : (f : Figures) → T measured → d + s ≤ p → T (in_range 1 8 f.orthogonal) → Given f → Answered (Ok f)
 
 -- the refusals' numbers, 0 for an accepted call
+abbrev pub number_of : Refusal → ℕ
+number_of OutOfRange = 9
+number_of NoCapacity = 10
+
 abbrev pub refusal : Answer → ℕ
-refusal OutOfRange = 9
-refusal NoCapacity = 10
-refusal (Gives f) = 0
+refusal (Ok f) = 0
+refusal (Err e) = number_of e

@@ -1,34 +1,22 @@
 // A number as an argument writes it.
 ghost use Rattle.rules.specs.Arguments.{Written};
 
-use crate::smaller;
+// The number that stands for every larger one: each is out of every range.
+const MOST: u64 = 10000000000;
 
-// What an argument is: a number, 10,000,000,000 for every larger one, or none.
-#[derive(Clone, Copy)]
-pub enum Argument {
-    NoNumber,
-    Number(u64),
-}
-
-// The number that the digits of a text write. At each turn the bytes passed are digits, and n is their number, capped.
-pub fn read_number(text: &[u8]) -> Argument
+// The number that the digits of a text write, capped; `None` where it is not written in digits.
+pub fn read_number(text: &[u8]) -> Option<u64>
     ensures { Written text.now result }
 {
-    if text.len() == 0 {
-        return Argument::NoNumber;
+    if text.is_empty() {
+        return None;
     }
     let mut n: u64 = 0;
-    let mut i = 0;
-    while i < text.len() {
-        let b = text[i];
-        if b < b'0' {
-            return Argument::NoNumber;
+    for &b in text {
+        if !b.is_ascii_digit() {
+            return None;
         }
-        if b'9' < b {
-            return Argument::NoNumber;
-        }
-        n = smaller(10 * n + (b - b'0') as u64, 10000000000);
-        i += 1;
+        n = (10 * n + u64::from(b - b'0')).min(MOST);
     }
-    Argument::Number(n)
+    Some(n)
 }

@@ -1,2 +1,4 @@
 -- the rule of the table
 pub mod TableExact
+-- `all` over the numbers below a bound
+pub mod Below

@@ -15,11 +15,7 @@ fn row_whole(rec: &[u8], r: usize) -> bool
     requires { 32768 ≤ length rec.now }
     ensures { result ≡ below 40 (λ c. not (is_missing (job_of rec.now) r c)) }
 {
-    let mut whole = true;
-    for c in 0..40 {
-        whole = whole & !is_missing(rec, r, c);
-    }
-    whole
+    (0..40).all(|c| !is_missing(rec, r, c))
 }
 
 // Whether O is 2 and no pin is missing.
@@ -27,11 +23,7 @@ pub fn job_fits(rec: &[u8]) -> bool
     requires { 32768 ≤ length rec.now }
     ensures { result ≡ sheet_job (job_of rec.now) }
 {
-    let mut whole = true;
-    for r in 0..40 {
-        whole = whole & row_whole(rec, r);
-    }
-    (orthogonal(rec) == 2) & whole
+    (orthogonal(rec) == 2) & (0..40).all(|r| row_whole(rec, r))
 }
 
 // Whether the byte is a load of at most so many wires.
@@ -125,11 +117,7 @@ fn row_fits(rec: &[u8], sheet: &[u8], r: usize) -> bool
     requires { (32768 ≤ length rec.now) × (length sheet.now ≡ 9600) × (r < 40) × ((job_of rec.now).O ≡ 2) }
     ensures { result ≡ below 40 (sheet_cell_fits (job_of rec.now) sheet.now r) }
 {
-    let mut fit = true;
-    for c in 0..40 {
-        fit = fit & cell_fits(rec, sheet, r, c);
-    }
-    fit
+    (0..40).all(|c| cell_fits(rec, sheet, r, c))
 }
 
 // Whether the sheet is of the published length and all its bytes are in order.
@@ -140,9 +128,5 @@ pub fn fits(rec: &[u8], sheet: &[u8]) -> bool
     if sheet.len() != 9600 {
         return false;
     }
-    let mut fit = true;
-    for r in 0..40 {
-        fit = fit & row_fits(rec, sheet, r);
-    }
-    fit
+    (0..40).all(|r| row_fits(rec, sheet, r))
 }

@@ -5,56 +5,43 @@ mod table; // the constant array
 mod tile; // what one tile carries
 mod fits; // which jobs and sheets are turned away
 
-ghost use Rattle.std.specs.Prelude.{◌≡◌, [], ◌≤◌, length};
+ghost use Rattle.std.specs.Prelude.{◌≡◌, [], MatchOption, ◌<◌, ◌≤◌, length};
 ghost use Rattle.model.specs.Record.{job_of};
-ghost use Rattle.model.specs.Calls.{sheet as Sheet, sheet_is, after, Did};
-ghost use Rattle.answers.specs.Answers.{as_answer};
+ghost use Rattle.model.specs.Calls.{sheet as Sheet, after, Did};
+ghost use Rattle.answers.specs.Answers.{answered, as_verdict};
 ghost use Rattle.sheets.specs.Tiles.{Ready};
-ghost use Rattle.sheets.specs.First.{First, passes_at, verdict_at};
+ghost use Rattle.sheets.specs.First.{First, passes_at};
 
-use answers::Answer;
-use audit::sound;
+use answers::{Refusal, Verdict, undamaged};
 use fits::{fits, job_fits};
 pub use tile::entry;
 use tile::passes;
 
-// The first failing tile by its number, 40 to a row; 1,600 where none fails.
-fn first_failing(rec: &[u8], loads: &[u8]) -> usize
+// The first failing tile by its number, 40 to a row.
+fn first_failing(rec: &[u8], loads: &[u8]) -> Option<usize>
     requires { (32768 ≤ length rec.now) × Ready (job_of rec.now) loads.now }
-    ensures { First (passes_at (job_of rec.now) loads.now) 1600 result }
+    ensures { MatchOption result (First (passes_at (job_of rec.now) loads.now) 1600 1600)
+        (λ i. (i < 1600) × First (passes_at (job_of rec.now) loads.now) 1600 i) }
 {
-    let mut i = 0;
-    while i < 1600 {
-        if !passes(rec, loads, i / 40, i % 40) {
-            return i;
-        }
-        i += 1;
-    }
-    i
+    (0..1600).find(|i| !passes(rec, loads, *i / 40, *i % 40))
 }
 
-// What is said of a sheet that is not turned away.
-fn judge(i: usize) -> Answer
-    ensures { as_answer result ≡ sheet_is (verdict_at i) }
+// Whether the tiles carry the sheet, or which does not.
+pub fn sheet(rec: &[u8], loads: &[u8]) -> Result<Verdict, Refusal>
+    ensures { Did (Sheet loads.now) rec.now (after (answered as_verdict result) rec.now [] []) }
 {
-    if i < 1600 {
-        return Answer::Fails(i / 40, i % 40);
-    }
-    Answer::Carried
-}
-
-// Whether the tiles carry the sheet.
-pub fn sheet(rec: &[u8], loads: &[u8]) -> Answer
-    ensures { Did (Sheet loads.now) rec.now (after (as_answer result) rec.now [] []) }
-{
-    if !sound(rec) {
-        return Answer::Refused(1);
-    }
+    undamaged(rec)?;
     if !job_fits(rec) {
-        return Answer::Refused(14);
+        return Err(Refusal::UnfitJob);
     }
     if !fits(rec, loads) {
-        return Answer::Refused(15);
+        return Err(Refusal::UnfitSheet);
     }
-    judge(first_failing(rec, loads))
+    Ok(match first_failing(rec, loads) {
+        None => Verdict::Carried,
+        Some(i) => Verdict::Fails {
+            row: i / 40,
+            column: i % 40,
+        },
+    })
 }

@@ -11,3 +11,5 @@ pub mod Decoded
 pub mod Small
 -- the five numbers that design rules give
 pub mod Stored
+-- the word of a result is that of the answer
+pub mod Results

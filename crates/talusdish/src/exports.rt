@@ -6,6 +6,8 @@ ghost use Rattle.model.specs.Calls.{Answer, after, Did};
 ghost use Rattle.talusdish.specs.Words.{word};
 
 use crate::word::word_of;
+use model::{Array, Capacities};
+use service::Draws;
 
 // An idle, open, unwired job.
 #[unsafe(no_mangle)]
@@ -20,14 +22,16 @@ pub extern "C" fn talusdish_new(
     ensures { (a : Answer) × (result ≡ word a)
         × Did (New rows columns o d e) rec.old (after a rec.new [] []) }
 {
-    word_of(service::new(
-        rec,
-        rows as usize,
-        columns as usize,
-        o as usize,
-        d as usize,
-        e as usize,
-    ))
+    let array = Array {
+        rows: rows as usize,
+        columns: columns as usize,
+    };
+    let capacities = Capacities {
+        orthogonal: o as usize,
+        diagonal: d as usize,
+        extra: e as usize,
+    };
+    word_of(service::new(rec, array, capacities))
 }
 
 // The mark of a pin.
@@ -152,18 +156,22 @@ pub extern "C" fn talusdish_trial(
     ensures { (a : Answer) × (result ≡ word a)
         × Did (Trial (trial_of rows columns o d e seed chosen missing closed)) rec.old (after a rec.new [] []) }
 {
-    word_of(service::trial(
-        rec,
-        rows as usize,
-        columns as usize,
-        o as usize,
-        d as usize,
-        e as usize,
-        seed as usize,
-        chosen as usize,
-        missing as usize,
-        closed as usize,
-    ))
+    let array = Array {
+        rows: rows as usize,
+        columns: columns as usize,
+    };
+    let capacities = Capacities {
+        orthogonal: o as usize,
+        diagonal: d as usize,
+        extra: e as usize,
+    };
+    let draws = Draws {
+        seed: seed as usize,
+        chosen: chosen as usize,
+        missing: missing as usize,
+        closed: closed as usize,
+    };
+    word_of(service::trial(rec, array, capacities, draws))
 }
 
 // Whether the tiles carry a sheet of side loads.

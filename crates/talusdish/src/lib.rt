@@ -2,6 +2,6 @@
 // refusal, 0 for an accepted call. A library exports no symbol: the crate talusdish_c does.
 #![tactic(auto)]
 
-mod word; // the word of an answer
+mod word; // the word of a result
 pub mod exports; // the operations
 pub mod measures; // the capacities that design rules give

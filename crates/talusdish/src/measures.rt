@@ -1,10 +1,7 @@
 // The capacities that design rules give: document 02, K1.
 ghost use Rattle.std.specs.Prelude.{◌≡◌};
-ghost use Rattle.rules.specs.declared.Answer.{Answer as Ruling};
-ghost use Rattle.rules.specs.Rules.{refusal, Answered};
+ghost use Rattle.rules.specs.Rules.{Answer as Ruling, refusal, Answered};
 ghost use Rattle.talusdish.specs.Stored.{figures, stored};
-
-use rules::{Answer, refusal_of};
 
 // The answer's word. Figures are stored through the five references; a refusal stores nothing.
 #[unsafe(no_mangle)]
@@ -23,14 +20,15 @@ pub extern "C" fn talusdish_rules(
         × (figures o.new remainder.new k.new left.new diagonal.new
         ≡ stored a (figures o.old remainder.old k.old left.old diagonal.old)) }
 {
-    let answer = rules::rules(p, d, w, s);
-    let Answer::Gives(f) = answer else {
-        return refusal_of(answer);
-    };
-    *o = f.orthogonal;
-    *remainder = f.remainder;
-    *k = f.count;
-    *left = f.left;
-    *diagonal = f.diagonal;
-    0
+    match rules::rules(p, d, w, s) {
+        Ok(f) => {
+            *o = f.orthogonal;
+            *remainder = f.remainder;
+            *k = f.count;
+            *left = f.left;
+            *diagonal = f.diagonal;
+            0
+        }
+        Err(refusal) => refusal.number(),
+    }
 }

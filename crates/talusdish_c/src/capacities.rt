@@ -1,7 +1,6 @@
 // The capacities that design rules give, exported.
 ghost use Rattle.std.specs.Prelude.{◌≡◌};
-ghost use Rattle.rules.specs.declared.Answer.{Answer as Ruling};
-ghost use Rattle.rules.specs.Rules.{refusal, Answered};
+ghost use Rattle.rules.specs.Rules.{Answer as Ruling, refusal, Answered};
 ghost use Rattle.talusdish.specs.Stored.{figures, stored};
 
 use talusdish::measures;

@@ -2,11 +2,13 @@
 // chosen and missing pins and of closed tiles.
 #![tactic(auto)]
 
-use answers::Answer;
-use rules::argument::{Argument, read_number};
+use answers::Refusal;
+use model::{Array, Capacities};
+use rules::argument::read_number;
 use std::env::{Env, FillError};
 use std::io;
 use std::io::Write;
+use trials::{Draws, trial};
 
 // The nine numbers, in the order of the arguments.
 type Numbers = [usize; 9];
@@ -16,11 +18,11 @@ fn usage(rt: &HostRuntime) -> io::Result<()> {
 }
 
 // The number that argument i is.
-fn number(rt: &HostRuntime, i: usize) -> Argument {
+fn number(rt: &HostRuntime, i: usize) -> Option<u64> {
     let mut text = [0u8; 4096];
     match rt.arg(i, &mut text) {
         Ok(n) => read_number(&text[..n]),
-        Err(_) => Argument::NoNumber,
+        Err(_) => None,
     }
 }
 
@@ -33,7 +35,7 @@ fn is_given(rt: &HostRuntime, i: usize) -> bool {
 // Reads the nine arguments; false where one is no number.
 fn read_all(rt: &HostRuntime, numbers: &mut Numbers) -> bool {
     for i in 0..9 {
-        let Argument::Number(n) = number(rt, i + 1) else {
+        let Some(n) = number(rt, i + 1) else {
             return false;
         };
         numbers[i] = n as usize;
@@ -52,24 +54,36 @@ fn print(rt: &HostRuntime, text: &[u8], n: usize) -> io::Result<()> {
 // The text of the job that the record holds.
 fn show(rt: &HostRuntime, rec: &[u8]) -> io::Result<()> {
     let mut text = [0u8; 49152];
-    let Answer::Wrote(n) = making::write_text(rec, &mut text) else {
+    let Ok(n) = making::write_text(rec, &mut text) else {
         return Ok(());
     };
     print(rt, &text, n)
 }
 
-fn refuse(rt: &HostRuntime, k: usize) -> io::Result<()> {
-    eprintln!(rt; "(refused {k})")
+fn refuse(rt: &HostRuntime, refusal: Refusal) -> io::Result<()> {
+    eprintln!(rt; "(refused {})", refusal.number())
 }
 
 fn run(rt: &HostRuntime, a: &Numbers) -> io::Result<()> {
     let mut rec = [0u8; 32768];
-    match trials::trial(
-        &mut rec, a[0], a[1], a[2], a[3], a[4], a[5], a[6], a[7], a[8],
-    ) {
-        Answer::Done => show(rt, &rec),
-        Answer::Refused(k) => refuse(rt, k),
-        _ => Ok(()),
+    let array = Array {
+        rows: a[0],
+        columns: a[1],
+    };
+    let capacities = Capacities {
+        orthogonal: a[2],
+        diagonal: a[3],
+        extra: a[4],
+    };
+    let draws = Draws {
+        seed: a[5],
+        chosen: a[6],
+        missing: a[7],
+        closed: a[8],
+    };
+    match trial(&mut rec, array, capacities, draws) {
+        Ok(()) => show(rt, &rec),
+        Err(refusal) => refuse(rt, refusal),
     }
 }
 

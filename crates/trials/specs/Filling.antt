@@ -187,6 +187,16 @@ module _ (tiles : Bool) (height width seed low high : ℕ) where
   filling-all rec out f J under long e =
       f J under long e ∙ retable tiles J under (up_to height width seed low high height 0) (whole height width seed low high) (all-before height width seed low high)
 
+  -- behind a whole row
+  pub filling-turn : (r : ℕ) (rec out : List ℕ) → Filling tiles height width seed low high r width rec out → Filling tiles height width seed low high (r + 1) 0 rec out
+  filling-turn r rec out f =
+      let k : suc r ≡ r + 1 = omega arith in
+      let turned : Filling tiles height width seed low high (suc r) 0 rec out =
+      λ J under long z.
+      f J under long z
+      ∙ retable tiles J under (up_to height width seed low high r width) (up_to height width seed low high (suc r) 0) (next_row height width seed low high r) in
+      subst (λ (n : ℕ). Filling tiles height width seed low high n 0 rec out) k turned
+
   module _ (r c : ℕ) (lr : r < height) (lc : c < width) (high-enough : height ≤ 40) (wide_enough : width ≤ 40) (rec out out' : List ℕ) (v : ℕ)
       (f : Filling tiles height width seed low high r c rec out) (is : v ≡ value_at height width seed low high r c)
       (e : out' ≡ set out (offset (plane_of tiles) r c) v) where

@@ -1,168 +1,204 @@
 // Document 02, K6: the operation that makes a job for a load trial. The pins by row and column take one draw each, then the tiles.
 #![tactic(auto)]
 
-ghost use Rattle.std.specs.Prelude.{◌≡◌, [], ◌*◌, ◌%◌, ◌^◌, ◌≤◌, ◌<◌, T, length, set};
+ghost use Rattle.std.specs.Prelude.{◌≡◌, Bool, true, false, ℕ, List, [], ◌+◌, ◌*◌, ◌%◌, ◌≤◌, ◌<◌, T, length, set};
 ghost use Rattle.model.specs.Job.{array_fits, caps_admitted};
 ghost use Rattle.model.specs.Record.{record_size, offset, unwired_record, over};
 ghost use Rattle.model.specs.Trial.{number_after, trial_of, seed_fits, percents_fit, trial_job};
 ghost use Rattle.model.specs.Calls.{trial as Trial, after, Did};
-ghost use Rattle.answers.specs.Answers.{as_answer};
-ghost use Rattle.trials.specs.Filling.{value_drawn, plane_of, Filled};
+ghost use Rattle.answers.specs.Answers.{answered, as_done};
+ghost use Rattle.trials.specs.Filling.{value_drawn, plane_of, Filling, Filled};
 
-use answers::Answer;
+use answers::Refusal;
 use channel::{set_mark, set_state, write_fresh};
-use generator::step;
+use generator::Generator;
 use model::{Array, Capacities};
 
-// What a draw makes of a cell: 1 below the one bound, 2 below the other, else 0.
-fn value_of(draw: u32, low: usize, high: usize) -> usize
-    ensures { (result ≡ value_drawn low high (draw % 100)) × (result < 256) }
-{
-    let n = (draw % 100) as usize;
-    if n < low {
-        return 1;
-    }
-    if n < high {
-        return 2;
-    }
-    0
+// What a trial draws: the number that it starts from, and the percentages of chosen and missing pins and of closed tiles.
+#[derive(Debug, Clone, Copy, PartialEq, Eq)]
+pub struct Draws {
+    pub seed: usize,
+    pub chosen: usize,
+    pub missing: usize,
+    pub closed: usize,
 }
 
-// The state of a tile, or the mark of a pin.
-fn put(rec: &mut [u8], tiles: bool, r: usize, c: usize, v: usize)
-    requires record_size_in_bounds { record_size ≤ length rec.old }
-    requires r_bound { (r < 40) × (c < 40) × (v < 256) }
-    ensures { rec.new ≡ set rec.old (offset (plane_of tiles) r c) v }
-{
-    if tiles {
-        set_state(rec, r, c, v);
-        return;
+impl Draws {
+    // Whether a trial may start from the number.
+    pub fn starts(self) -> bool
+        ensures { result ≡ seed_fits self.seed }
+    {
+        if self.seed == 0 {
+            return false;
+        }
+        self.seed < 4294967296
     }
-    set_mark(rec, r, c, v);
+
+    // Whether the percentages are such.
+    pub fn are_percentages(self) -> bool
+        ensures { result ≡ percents_fit self.chosen self.missing self.closed }
+    {
+        if self.chosen > 100 {
+            return false;
+        }
+        if self.missing > 100 - self.chosen {
+            return false;
+        }
+        self.closed <= 100
+    }
 }
 
-// An array of cells by row and column, each by one draw; gives the number drawn last.
-fn fill(
-    rec: &mut [u8],
-    tiles: bool,
-    height: usize,
-    width: usize,
-    seed: u32,
+// The percentages below which a draw makes 1 and 2 of a cell.
+#[derive(Debug, Clone, Copy, PartialEq, Eq)]
+struct Bounds {
     low: usize,
     high: usize,
-) -> u32
-    requires record_size_in_bounds { record_size ≤ length rec.old }
-    requires height_bound { (height ≤ 40) × (0 < width) × (width ≤ 40) }
-    ensures { (result ≡ number_after (width * height) seed) × Filled tiles height width seed low high rec.old rec.new }
-{
-    let mut number = seed;
-    let mut r = 0;
-    let mut c = 0;
-    while r < height {
-        number = step(number);
-        put(rec, tiles, r, c, value_of(number, low, high));
-        if c + 1 < width {
-            c += 1;
-        } else {
-            c = 0;
-            r += 1;
+}
+
+impl Bounds {
+    // What a draw makes of a cell: 1 below the one bound, 2 below the other, else 0.
+    fn value_of(self, draw: u32) -> usize
+        ensures { (result ≡ value_drawn self.low self.high (draw % 100)) × (result < 256) }
+    {
+        let n = (draw % 100) as usize;
+        if n < self.low {
+            return 1;
         }
+        if n < self.high {
+            return 2;
+        }
+        0
     }
-    number
+}
+
+// A plane of a record that is filled by draws: the marks of pins, or the states of tiles.
+trait Plane {
+    ghost tiles: { Bool };
+
+    // The value of a cell.
+    fn put(rec: &mut [u8], r: usize, c: usize, v: usize)
+        requires long { record_size ≤ length rec.old }
+        requires cell { (r < 40) × (c < 40) × (v < 256) }
+        ensures { rec.new ≡ set rec.old (offset (plane_of tiles) r c) v };
+}
+
+struct Marks;
+
+struct States;
+
+impl Plane for Marks {
+    ghost tiles = { false };
+
+    fn put(rec: &mut [u8], r: usize, c: usize, v: usize) {
+        set_mark(rec, r, c, v);
+    }
+}
+
+impl Plane for States {
+    ghost tiles = { true };
+
+    fn put(rec: &mut [u8], r: usize, c: usize, v: usize) {
+        set_state(rec, r, c, v);
+    }
+}
+
+// A row of cells, each by one draw.
+fn fill_row<P: Plane>(
+    rec: &mut [u8],
+    r: usize,
+    width: usize,
+    generator: &mut Generator,
+    bounds: Bounds,
+)
+    requires long { record_size ≤ length rec.old }
+    requires row { (r < 40) × (width ≤ 40) }
+    ensures { (height first : ℕ) (start : List ℕ) → r < height → height ≤ 40
+        → generator.old.number ≡ number_after (width * r) first
+        → Filling P.tiles height width first bounds.low bounds.high r 0 start rec.old
+        → (generator.new.number ≡ number_after (width * (r + 1)) first)
+        × Filling P.tiles height width first bounds.low bounds.high (r + 1) 0 start rec.new }
+{
+    for c in 0..width {
+        P::put(rec, r, c, bounds.value_of(generator.next()));
+    }
+}
+
+// An array of cells by row and column, each by one draw.
+fn fill<P: Plane>(
+    rec: &mut [u8],
+    height: usize,
+    width: usize,
+    generator: &mut Generator,
+    bounds: Bounds,
+)
+    requires long { record_size ≤ length rec.old }
+    requires array { (height ≤ 40) × (width ≤ 40) }
+    ensures { (generator.new.number ≡ number_after (width * height) generator.old.number)
+        × Filled P.tiles height width generator.old.number bounds.low bounds.high rec.old rec.new }
+{
+    for r in 0..height {
+        fill_row::<P>(rec, r, width, generator, bounds);
+    }
 }
 
 // The record of a trial's job.
-fn make(
-    rec: &mut [u8],
-    array: Array,
-    capacities: Capacities,
-    seed: u32,
-    chosen: usize,
-    missing: usize,
-    closed: usize,
-)
-    requires record_size_in_bounds { record_size ≤ length rec.old }
-    requires t { T (array_fits array.rows array.columns) × T (caps_admitted capacities.orthogonal capacities.diagonal capacities.extra) }
-    requires t_2 { T (percents_fit chosen missing closed) }
+fn make(rec: &mut [u8], array: Array, capacities: Capacities, draws: Draws)
+    requires long { record_size ≤ length rec.old }
+    requires job { T (array_fits array.rows array.columns) × T (caps_admitted capacities.orthogonal capacities.diagonal capacities.extra) }
+    requires draws { T (seed_fits draws.seed) × T (percents_fit draws.chosen draws.missing draws.closed) }
     ensures { rec.new
-        ≡ over (unwired_record (trial_job (trial_of array.rows array.columns capacities.orthogonal capacities.diagonal capacities.extra seed chosen missing closed))) rec.old }
+        ≡ over (unwired_record (trial_job (trial_of array.rows array.columns capacities.orthogonal capacities.diagonal capacities.extra draws.seed draws.chosen draws.missing draws.closed))) rec.old }
 {
-    let rows = array.rows;
-    let columns = array.columns;
-    let height = rows - 1;
-    let width = columns - 1;
-    let both = chosen + missing;
     write_fresh(
         rec,
-        rows,
-        columns,
+        array.rows,
+        array.columns,
         capacities.orthogonal,
         capacities.diagonal,
         capacities.extra,
     );
-    let number = fill(rec, false, rows, columns, seed, chosen, both);
-    fill(rec, true, height, width, number, closed, closed);
-}
-
-// Whether a trial may start from the number.
-fn starts(seed: usize) -> bool
-    ensures { result ≡ seed_fits seed }
-{
-    if seed == 0 {
-        return false;
-    }
-    seed < 4294967296
-}
-
-// Whether the percentages are such.
-fn percents(chosen: usize, missing: usize, closed: usize) -> bool
-    ensures { result ≡ percents_fit chosen missing closed }
-{
-    if chosen > 100 {
-        return false;
-    }
-    if missing > 100 - chosen {
-        return false;
-    }
-    closed <= 100
+    let mut generator = Generator {
+        number: draws.seed as u32,
+    };
+    let pins = Bounds {
+        low: draws.chosen,
+        high: draws.chosen + draws.missing,
+    };
+    let tiles = Bounds {
+        low: draws.closed,
+        high: draws.closed,
+    };
+    let height = array.rows - 1;
+    let width = array.columns - 1;
+    fill::<Marks>(rec, array.rows, array.columns, &mut generator, pins);
+    fill::<States>(rec, height, width, &mut generator, tiles);
 }
 
 // The job of a trial.
 pub fn trial(
     rec: &mut [u8],
-    rows: usize,
-    columns: usize,
-    o: usize,
-    d: usize,
-    e: usize,
-    seed: usize,
-    chosen: usize,
-    missing: usize,
-    closed: usize,
-) -> Answer
-    ensures { Did (Trial (trial_of rows columns o d e seed chosen missing closed)) rec.old (after (as_answer result) rec.new [] []) }
+    array: Array,
+    capacities: Capacities,
+    draws: Draws,
+) -> Result<(), Refusal>
+    ensures { Did (Trial (trial_of array.rows array.columns capacities.orthogonal capacities.diagonal capacities.extra draws.seed draws.chosen draws.missing draws.closed)) rec.old
+        (after (answered as_done result) rec.new [] []) }
 {
     if rec.len() < 32768 {
-        return Answer::Refused(1);
+        return Err(Refusal::Damaged);
     }
-    let array = Array { rows, columns };
     if !array.fits() {
-        return Answer::Refused(2);
+        return Err(Refusal::Size);
     }
-    let capacities = Capacities {
-        orthogonal: o,
-        diagonal: d,
-        extra: e,
-    };
     if !capacities.admitted() {
-        return Answer::Refused(3);
+        return Err(Refusal::Capacities);
     }
-    if !starts(seed) {
-        return Answer::Refused(12);
+    if !draws.starts() {
+        return Err(Refusal::Seed);
     }
-    if !percents(chosen, missing, closed) {
-        return Answer::Refused(13);
+    if !draws.are_percentages() {
+        return Err(Refusal::Percentages);
     }
-    make(rec, array, capacities, seed as u32, chosen, missing, closed);
-    Answer::Done
+    make(rec, array, capacities, draws);
+    Ok(())
 }

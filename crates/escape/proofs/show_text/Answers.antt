@@ -10,14 +10,14 @@ abbrev zeros : List ℕ
 zeros = replicate 32768 0
 
 pub show_routed-requires : goal.show_routed-requires
-show_routed-requires g c = code-round-trip.read-legal c.args.text.now zeros c.read_into.new.rec c.in-Reads.ensures
+show_routed-requires g c = code-round-trip.read-legal c.args.text.now zeros c.read_into.new.rec c.in-Ok.ensures
 
-pub returns-in-Reads : goal.returns-in-Reads
-returns-in-Reads g c =
+pub returns-in-Ok : goal.returns-in-Ok
+returns-in-Ok g c =
     let (bytes, l, h, d) = c.show_routed.ensures in
-    (bytes, prints-routed c.args.text.now c.read_into.new.rec zeros bytes c.in-Reads.ensures l, h, d)
+    (bytes, prints-routed c.args.text.now c.read_into.new.rec zeros bytes c.in-Ok.ensures l, h, d)
 
-pub returns-in-WrongAt : goal.returns-in-WrongAt
-returns-in-WrongAt g c =
-    let o = c.in-WrongAt.o in
-    (refused_listing o, refused o c.in-WrongAt.ensures.0 refl, c.show_refused.ensures.handed, c.show_refused.ensures.held)
+pub returns-in-Err : goal.returns-in-Err
+returns-in-Err g c =
+    let o = c.in-Err.wrong.offset in
+    (refused_listing o, refused o c.in-Err.ensures.0 refl, c.show_refused.ensures.handed, c.show_refused.ensures.held)

@@ -5,5 +5,5 @@ use Rattle.routing.proofs.shortfall.Goals as goal
 
 pub returns : goal.returns
 returns c =
-    on-legal (c.sound.ensures.yes c.if-not-sound.false)
+    on-legal (c.in_ok-undamaged.ensures)
     (lacks-enough _ _ _ c.if-scratch-lt65536.false c.if-output-lt32768.false _ _ _ c.clear.ensures c.shortfall-lack.ensures)

@@ -5,12 +5,9 @@ use Rattle.trials.proofs.make.Goals as goal
 
 pub returns : goal.returns
 returns c =
-    let c2 = c in
-    let c6 = c2 in
-    let c10 = c6 in
-    let s = c10 in
-    let a = s.args in
+    let a = c.args in
     let k = a.capacities in
-    trial-made (trial_of a.array.rows a.array.columns k.orthogonal k.diagonal k.extra a.seed a.chosen a.missing a.closed)
-    a.rec.now c10.write_fresh.new.rec c6.fill-number.new.rec c2.fill.new.rec c6.fill-number.result s.requires.record_size_in_bounds c10.write_fresh.ensures
-    c6.fill-number.ensures.1 c6.fill-number.ensures.0 c2.fill.ensures.1
+    let d = a.draws in
+    trial-made (trial_of a.array.rows a.array.columns k.orthogonal k.diagonal k.extra d.seed d.chosen d.missing d.closed)
+    a.rec.now c.write_fresh.new.rec c.fill.new.rec c.fill-2.new.rec _ c.requires.long c.write_fresh.ensures
+    c.fill.ensures.1 c.fill.ensures.0 c.fill-2.ensures.1

@@ -1,32 +1,35 @@
 -- Each way out is the case of the definition that the tests say. Assumes nothing.
-use Rattle.std.proofs.Common.{refl, ◌∙◌, get_or, arith}
+use Rattle.std.specs.Prelude.{◌≡◌, false, ℕ, zero, suc, ◌+◌, ◌*◌, ◌<◌, min, eqb}
+use Rattle.std.proofs.Common.{refl, sym, ap, subst, ◌∙◌, T, length, arith, eqb→eq}
+use Rattle.sums.specs.Tests.{so}
 use Rattle.rules.specs.Arguments.{decimal, empty, other}
-use Rattle.rules.proofs.Digits.{below-digits, above-digits, is_digit_lem, digits_more, decimal-more, written}
+use Rattle.rules.proofs.Digits.{digits_more, decimal-more, written}
 use Rattle.rules.proofs.argument.read_number.Goals as goal
 
-pub returns-then-text-eq0 : goal.returns-then-text-eq0
-returns-then-text-eq0 c = empty (omega arith)
+some-left : (n : ℕ) → eqb n 0 ≡ false → 0 < n
+some-left zero e = absurd (subst T e tt)
+some-left (suc n) e = omega arith
 
-pub loop-i-init : goal.loop-i-init
+pub returns-then-is_empty : goal.returns-then-is_empty
+returns-then-is_empty c = empty (eqb→eq (length c.args.text.now) 0 (so (sym c.is_empty.ensures ∙ c.if-is_empty.true)))
+
+pub loop-b-init : goal.loop-b-init
 unfolding decimal
-loop-i-init c = (omega arith, refl, λ j l. absurd (omega arith))
+loop-b-init c = (refl, λ j l. absurd (omega arith))
 
-pub returns-then-b-lt48 : goal.returns-then-b-lt48
-returns-then-b-lt48 c = other c.loop-i.i (omega arith) (below-digits (get_or c.args.text.now c.loop-i.i 0) c.if-b-lt48.true)
+pub returns-then-not-is_ascii_digit : goal.returns-then-not-is_ascii_digit
+returns-then-not-is_ascii_digit c =
+    other c.loop-b.b-index c.loop-b-test.true (λ t. subst T (sym c.is_ascii_digit.ensures.value ∙ c.if-not-is_ascii_digit.true) t)
 
-pub returns-then-b-gt57 : goal.returns-then-b-gt57
-returns-then-b-gt57 c = other c.loop-i.i (omega arith) (above-digits (get_or c.args.text.now c.loop-i.i 0) c.if-b-gt57.true)
-
-pub loop-i-preserved : goal.loop-i-preserved
-loop-i-preserved c =
+pub loop-b-preserved : goal.loop-b-preserved
+loop-b-preserved c =
     let x = c.args.text.now in
-    let l = c.loop-i in (
-      omega arith,
-      c.smaller-n.ensures ∙ decimal-more x l.i l.n l.invariant.1,
-      digits_more x l.i l.invariant.2 (is_digit_lem (get_or x l.i 0) c.if-b-lt48.false c.if-b-gt57.false),
+    let l = c.loop-b in (
+      c.min-n.ensures ∙ (ap (λ (d : ℕ). min (10 * l.n + d) 10000000000) c.from.ensures ∙ decimal-more x l.b-index l.n l.invariant.0),
+      digits_more x l.b-index l.invariant.1 (so (sym c.is_ascii_digit.ensures.value ∙ c.if-not-is_ascii_digit.false)),
     )
 
 pub returns : goal.returns
 returns c =
-    let l = c.loop-i in
-    written c.args.text.now l.i l.n (omega arith) (omega arith) l.invariant.1 l.invariant.2
+    let l = c.loop-b in
+    written c.args.text.now l.b-index l.n (omega arith) (some-left (length c.args.text.now) (sym c.is_empty.ensures ∙ c.if-is_empty.false)) l.invariant.0 l.invariant.1

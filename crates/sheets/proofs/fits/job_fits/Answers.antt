@@ -1,23 +1,14 @@
--- `fits::job_fits` meets its contract. The loop's invariant: what was found is the test of the rows passed. Assumes nothing.
-use native.Mathlib.Omega.{arith}
-use mathlib.Core.Path.{ap, ap₂, ◌∙◌}
-use mathlib.Core.Bool.{Bool, not, ◌&&◌}
-use Prim.Native.Nat.{ℕ}
-use lib.Dec.{eqb}
+-- `fits::job_fits` meets its contract: the test of each row. Assumes nothing.
+use Rattle.std.specs.Prelude.{Bool, not, ◌&&◌, ℕ, eqb}
+use Rattle.std.proofs.Common.{refl, ap, ap₂, rules, tests}
 use Rattle.sums.specs.Tests.{below}
 use Rattle.model.specs.Job.{is_missing}
 use Rattle.model.specs.Record.{job_of}
-use Rattle.sheets.specs.Tests.{below_none, below_next}
+use Rattle.sheets.proofs.Below.{all-below}
 use Rattle.sheets.proofs.fits.job_fits.Goals as goal
 
 pub returns : goal.returns
 returns c =
-    let l = c.loop-r in
-    ap₂ (λ (a b : Bool). a && b) (ap (λ (o : ℕ). eqb o 2) c.orthogonal.ensures.0)
-    (l.invariant.1 ∙ ap (λ (n : ℕ). below n (λ i. below 40 (λ j. not (is_missing (job_of c.args.rec.now) i j)))) (omega arith))
-
-pub loop-r-init : goal.loop-r-init
-loop-r-init c = (omega arith, below_none _)
-
-pub loop-r-preserved : goal.loop-r-preserved
-loop-r-preserved c = (omega arith, cc (below_next c.loop-r.r (λ i. below 40 (λ j. not (is_missing (job_of c.args.rec.now) i j)))))
+    let J = job_of c.args.rec.now in
+    let e = all-below (λ (i : ℕ). below 40 (λ j. not (is_missing J i j))) 40 refl _ _ c.all.result c.all.ensures.ran (λ x b q k. search (rules, tests)) in
+    ap₂ (λ (a b : Bool). a && b) (ap (λ (o : ℕ). eqb o 2) c.orthogonal.ensures.0) e

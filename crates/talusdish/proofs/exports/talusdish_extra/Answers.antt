@@ -1,9 +1,15 @@
 -- `talusdish_extra` meets its contract: the answer of lowering E fits a word. Assumes nothing.
+use Rattle.std.specs.Prelude.{ℕ, ◌^◌, ◌<◌}
+use Rattle.std.proofs.Common.{sym, subst, ◌∙◌}
 use Rattle.model.specs.Calls.{extra}
+use Rattle.talusdish.specs.Results.{word-done}
 use Rattle.talusdish.specs.Small.{did-small}
 use Rattle.talusdish.proofs.exports.talusdish_extra.Goals as goal
 
 pub word_of-requires : goal.word_of-requires
 word_of-requires c =
     let a = c.args in
-    did-small (extra a.e) _ _ c.extra.ensures
+    subst (λ (n : ℕ). n < 2 ^ 64) (sym (word-done _)) (did-small (extra a.e) _ _ c.extra.ensures)
+
+pub returns : goal.returns
+returns c = (_, c.word_of.ensures ∙ word-done _, c.extra.ensures)

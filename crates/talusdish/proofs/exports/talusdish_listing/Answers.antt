@@ -1,7 +1,14 @@
 -- `talusdish_listing` meets its contract: the answer fits a word. Assumes nothing.
+use Rattle.std.specs.Prelude.{ℕ, ◌^◌, ◌<◌}
+use Rattle.std.proofs.Common.{sym, subst, ◌∙◌}
 use Rattle.model.specs.Calls.{listing}
+use Rattle.talusdish.specs.Results.{word-wrote}
 use Rattle.talusdish.specs.Small.{did-small}
 use Rattle.talusdish.proofs.exports.talusdish_listing.Goals as goal
 
 pub word_of-requires : goal.word_of-requires
-word_of-requires c = did-small (listing _) _ _ c.list_wires.ensures
+word_of-requires c =
+    subst (λ (n : ℕ). n < 2 ^ 64) (sym (word-wrote _)) (did-small (listing _) _ _ c.list_wires.ensures)
+
+pub returns : goal.returns
+returns c = (_, c.word_of.ensures ∙ word-wrote _, c.list_wires.ensures)
