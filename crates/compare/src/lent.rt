@@ -1,5 +1,6 @@
 // The operations on the first bytes of a buffer.
-use service::Answer;
+use crate::said::{Answer, lacks, wrote};
+use model::{Array, Capacities};
 
 pub fn new_on(
     rec: &mut [u8],
@@ -11,42 +12,48 @@ pub fn new_on(
     e: usize,
 ) -> Answer {
     if n <= rec.len() {
-        return service::new(&mut rec[..n], rows, columns, o, d, e);
+        let array = Array { rows, columns };
+        let capacities = Capacities {
+            orthogonal: o,
+            diagonal: d,
+            extra: e,
+        };
+        return Answer::from(service::new(&mut rec[..n], array, capacities));
     }
     Answer::Done
 }
 
 pub fn read_on(rec: &mut [u8], n: usize, text: &[u8]) -> Answer {
     if n <= rec.len() {
-        return service::read_text(&mut rec[..n], text);
+        return Answer::from(service::read_text(&mut rec[..n], text));
     }
     Answer::Done
 }
 
 pub fn mark_on(rec: &mut [u8], n: usize, row: usize, column: usize, value: usize) -> Answer {
     if n <= rec.len() {
-        return service::mark(&mut rec[..n], row, column, value);
+        return Answer::from(service::mark(&mut rec[..n], row, column, value));
     }
     Answer::Done
 }
 
 pub fn close_on(rec: &mut [u8], n: usize, row: usize, column: usize, value: usize) -> Answer {
     if n <= rec.len() {
-        return service::close(&mut rec[..n], row, column, value);
+        return Answer::from(service::close(&mut rec[..n], row, column, value));
     }
     Answer::Done
 }
 
 pub fn diagonal_on(rec: &mut [u8], n: usize, row: usize, column: usize, d: usize) -> Answer {
     if n <= rec.len() {
-        return service::diagonal(&mut rec[..n], row, column, d);
+        return Answer::from(service::diagonal(&mut rec[..n], row, column, d));
     }
     Answer::Done
 }
 
 pub fn extra_on(rec: &mut [u8], n: usize, e: usize) -> Answer {
     if n <= rec.len() {
-        return service::extra(&mut rec[..n], e);
+        return Answer::from(service::extra(&mut rec[..n], e));
     }
     Answer::Done
 }
@@ -60,14 +67,14 @@ pub fn lay_on(
     count: usize,
 ) -> Answer {
     if n <= rec.len() {
-        return service::lay(&mut rec[..n], row, column, side, count);
+        return Answer::from(service::lay(&mut rec[..n], row, column, side, count));
     }
     Answer::Done
 }
 
 fn step_scratch(rec: &mut [u8], scratch: &mut [u8], m: usize) -> Answer {
     if m <= scratch.len() {
-        return service::step(rec, &mut scratch[..m]);
+        return Answer::from(service::step(rec, &mut scratch[..m]));
     }
     Answer::Done
 }
@@ -81,7 +88,7 @@ pub fn step_on(rec: &mut [u8], n: usize, scratch: &mut [u8], m: usize) -> Answer
 
 fn shortfall_scratch(rec: &[u8], scratch: &mut [u8], m: usize, output: &mut [u8]) -> Answer {
     if m <= scratch.len() {
-        return service::shortfall(rec, &mut scratch[..m], output);
+        return lacks(service::shortfall(rec, &mut scratch[..m], output));
     }
     Answer::Done
 }
@@ -101,14 +108,14 @@ pub fn shortfall_on(
 
 pub fn write_on(rec: &[u8], output: &mut [u8], m: usize) -> Answer {
     if m <= output.len() {
-        return service::write_text(rec, &mut output[..m]);
+        return wrote(service::write_text(rec, &mut output[..m]));
     }
     Answer::Done
 }
 
 pub fn list_on(rec: &[u8], output: &mut [u8], m: usize) -> Answer {
     if m <= output.len() {
-        return service::list_wires(rec, &mut output[..m]);
+        return wrote(service::list_wires(rec, &mut output[..m]));
     }
     Answer::Done
 }

@@ -2,12 +2,11 @@
 ghost use Rattle.std.specs.Prelude.{◌<◌, ◌≤◌};
 
 use audit::sound;
-use listing::{NearFilled, near_page, refused_page, short_page};
-use oracle_text::job::{CHOSEN, Job, mark, set_mark};
-use oracle_text::page::Page as Sheet;
-use service::{Answer, list_wires};
+use listing::{Page as Leaf, near_page, refused_page, short_page};
+use oracle_text::job::{Job, Mark};
+use service::list_wires;
 use shortest::shorten::route_all;
-use text::{Judged, read_into};
+use text::read_into;
 use verdict::bytes::first;
 use verdict::legal::is_wired;
 use verdict::record::Record;
@@ -19,12 +18,6 @@ pub type Page = [u8; 1048576];
 
 // What `routed` and `listed` answer of a damaged record.
 pub const DAMAGED: usize = 100000;
-
-// The first `n` bytes of the sheet.
-pub fn held(sheet: &Sheet, n: usize) -> &[u8] {
-    let all: &[u8] = sheet;
-    first(all, n)
-}
 
 // The first `n` bytes of the page.
 pub fn shown(page: &Page, n: usize) -> &[u8] {
@@ -46,15 +39,15 @@ fn append(out: &mut Page, at: usize, s: &[u8]) -> usize {
 
 // The wires of a record; gives the length.
 pub fn listed(rec: &[u8], page: &mut Page) -> usize {
-    let Answer::Wrote(n) = list_wires(rec, page) else {
+    let Ok(n) = list_wires(rec, page) else {
         return DAMAGED;
     };
     n
 }
 
 fn idle(job: &mut Job, rec: &Record, p: usize) {
-    if !is_wired(rec, p) && mark(job, p) == CHOSEN {
-        set_mark(job, p, 0);
+    if !is_wired(rec, p) && job.mark(p) == Mark::Chosen {
+        job.set_mark(p, Mark::Idle);
     }
 }
 
@@ -75,39 +68,24 @@ pub fn routed(rec: &mut [u8], near: &mut Near) -> usize {
     route_all(rec, near)
 }
 
-// A page of the near side, from this entry on.
-fn near_part(rec: &Near, near: &Near, from: usize, work: &mut Near) -> NearFilled
-    requires { from < 4800 }
-    ensures { (from < result.next) × (result.next ≤ 4800) }
-{
-    near_page(rec, near, from, work)
-}
-
-// The first `n` bytes of a page of 32 KB.
-fn laid(work: &Near, n: usize) -> &[u8] {
-    let all: &[u8] = work;
-    first(all, n)
-}
-
 // The near side of a job that lacks `short` wires, page by page.
 fn list_near(rec: &Near, near: &Near, short: usize, page: &mut Page) -> usize {
-    let mut work = [0u8; 32768];
-    let a = short_page(short, &mut work);
-    let mut n = append(page, 0, laid(&work, a));
-    let mut from: usize = 0;
-    while from < 4800 {
-        let filled = near_part(rec, near, from, &mut work);
-        n = append(page, n, laid(&work, filled.length));
-        from = filled.next;
+    let mut work = Leaf::new();
+    short_page(short, &mut work);
+    let mut n = append(page, 0, work.filled());
+    let mut next = Some(0);
+    while let Some(entry) = next {
+        next = near_page(rec, near, entry, &mut work);
+        n = append(page, n, work.filled());
     }
     n
 }
 
 // A refusal at this offset.
 fn list_refused(offset: usize, page: &mut Page) -> usize {
-    let mut work = [0u8; 32768];
-    let n = refused_page(offset, &mut work);
-    append(page, 0, laid(&work, n))
+    let mut work = Leaf::new();
+    refused_page(offset, &mut work);
+    append(page, 0, work.filled())
 }
 
 // The listing of a text; gives its length.
@@ -115,8 +93,8 @@ pub fn list_text(text: &[u8], page: &mut Page) -> usize {
     let mut rec = [0u8; 32768];
     let mut near = [0u8; 32768];
     match read_into(text, &mut rec) {
-        Judged::WrongAt(o) => list_refused(o, page),
-        Judged::Reads => {
+        Err(wrong) => list_refused(wrong.offset, page),
+        Ok(()) => {
             let short = routed(&mut rec, &mut near);
             if short == 0 {
                 listed(&rec, page)

@@ -1,7 +1,64 @@
-// The answer of an operation as a kind and a number, so that two answers can be compared.
-use oracle_text::page::{Page, byte, decimal, pair, word};
-use service::Answer;
-use wire::Part;
+// The answer of an operation, and as a kind and a number, so that two answers can be compared.
+use oracle_text::page::Page;
+use service::{Refusal, Stepped, Verdict};
+use wire::{Part, Place};
+
+// The answer of any operation, so that all can be held to what is expected.
+#[derive(Clone, Copy)]
+pub enum Answer {
+    Refused(Refusal),
+    Done,
+    Stepped(Stepped),
+    // the chosen pins less the greatest number
+    Lacks(usize),
+    Lists(Part),
+    // the length of the text or of the listing
+    Wrote(usize),
+    Judged(Verdict),
+}
+
+impl From<Result<(), Refusal>> for Answer {
+    fn from(outcome: Result<(), Refusal>) -> Answer {
+        match outcome {
+            Ok(()) => Answer::Done,
+            Err(refusal) => Answer::Refused(refusal),
+        }
+    }
+}
+
+impl From<Result<Stepped, Refusal>> for Answer {
+    fn from(outcome: Result<Stepped, Refusal>) -> Answer {
+        match outcome {
+            Ok(stepped) => Answer::Stepped(stepped),
+            Err(refusal) => Answer::Refused(refusal),
+        }
+    }
+}
+
+impl From<Result<Part, Refusal>> for Answer {
+    fn from(outcome: Result<Part, Refusal>) -> Answer {
+        match outcome {
+            Ok(part) => Answer::Lists(part),
+            Err(refusal) => Answer::Refused(refusal),
+        }
+    }
+}
+
+// What Shortfall answers.
+pub fn lacks(outcome: Result<usize, Refusal>) -> Answer {
+    match outcome {
+        Ok(n) => Answer::Lacks(n),
+        Err(refusal) => Answer::Refused(refusal),
+    }
+}
+
+// What Write text and the listing answer.
+pub fn wrote(outcome: Result<usize, Refusal>) -> Answer {
+    match outcome {
+        Ok(n) => Answer::Wrote(n),
+        Err(refusal) => Answer::Refused(refusal),
+    }
+}
 
 // The kinds. The number is that of a refusal, the offset of a wrong text, what a job lacks, or the length of a text; else 0.
 pub const REFUSED: usize = 0;
@@ -38,17 +95,17 @@ pub fn say(kind: usize, number: usize) -> Said {
 
 pub fn coded(a: Answer) -> Said {
     match a {
-        Answer::Refused(n) => say(REFUSED, n),
-        Answer::WrongText(n) => say(WRONG_TEXT, n),
+        Answer::Refused(Refusal::WrongText { offset }) => say(WRONG_TEXT, offset),
+        Answer::Refused(refusal) => say(REFUSED, refusal.number()),
         Answer::Done => say(DONE, 0),
-        Answer::Added => say(ADDED, 0),
-        Answer::AllWired => say(ALL_WIRED, 0),
-        Answer::Short => say(SHORT, 0),
+        Answer::Stepped(Stepped::Added) => say(ADDED, 0),
+        Answer::Stepped(Stepped::AllWired) => say(ALL_WIRED, 0),
+        Answer::Stepped(Stepped::Short) => say(SHORT, 0),
         Answer::Lacks(n) => say(LACKS, n),
         Answer::Lists(_) => say(LISTS, 0),
         Answer::Wrote(n) => say(WROTE, n),
-        Answer::Carried => say(CARRIED, 0),
-        Answer::Fails(_, _) => say(FAILS, 0),
+        Answer::Judged(Verdict::Carried) => say(CARRIED, 0),
+        Answer::Judged(Verdict::Fails { .. }) => say(FAILS, 0),
     }
 }
 
@@ -61,56 +118,54 @@ pub fn is(a: Answer, kind: usize, number: usize) -> bool {
     agree(coded(a), say(kind, number))
 }
 
-// The letter of a place by the kind of its spot.
-fn letter(place: usize) -> u8 {
+// The letter of a place.
+fn letter(place: Place) -> u8 {
     match place {
-        0 => b'r',
-        1 => b'p',
-        2 => b'n',
-        3 => b'e',
-        4 => b's',
-        5 => b'w',
-        6 => b'c',
-        _ => b'?',
+        Place::Missing => b'r',
+        Place::Pin => b'p',
+        Place::North => b'n',
+        Place::East => b'e',
+        Place::South => b's',
+        Place::West => b'w',
+        Place::Centre => b'c',
     }
 }
 
-fn lettered(out: &mut Page, at: usize, place: usize, lane: usize) -> usize {
-    let a = byte(out, at, letter(place));
-    let b = byte(out, a, b' ');
-    let c = decimal(out, b, lane);
-    byte(out, c, b')')
+fn lettered(out: &mut Page, place: Place, lane: usize) {
+    out.push(letter(place));
+    out.push(b' ');
+    out.decimal(lane);
+    out.push(b')');
 }
 
 // A part as the listing prints it; `unwired` and `past` where it prints none.
-pub fn put_part(out: &mut Page, at: usize, part: Part) -> usize {
+pub fn put_part(out: &mut Page, part: Part) {
     match part {
-        Part::Unwired => word(out, at, b"unwired"),
-        Part::PastTheEnd => word(out, at, b"past"),
+        Part::Unwired => out.word(b"unwired"),
+        Part::PastTheEnd => out.word(b"past"),
         Part::To {
             row,
             column,
             place,
             lane,
         } => {
-            let a = word(out, at, b" (to ");
-            let b = pair(out, a, row, column);
-            let c = byte(out, b, b' ');
-            lettered(out, c, place, lane)
+            out.word(b" (to ");
+            out.pair(row, column);
+            out.push(b' ');
+            lettered(out, place, lane);
         }
         Part::Out { side, lane } => {
-            let a = word(out, at, b" (out ");
-            lettered(out, a, side, lane)
+            out.word(b" (out ");
+            lettered(out, side, lane);
         }
     }
 }
 
 // What Part answers, as the listing prints it; nothing where it is refused.
-pub fn put_listed(out: &mut Page, at: usize, answer: Answer) -> usize {
-    let Answer::Lists(part) = answer else {
-        return at;
-    };
-    put_part(out, at, part)
+pub fn put_listed(out: &mut Page, answer: Answer) {
+    if let Answer::Lists(part) = answer {
+        put_part(out, part);
+    }
 }
 
 // Part answers with a `to` or an `out`.

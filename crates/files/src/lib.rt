@@ -13,30 +13,30 @@ pub fn read_full(from: &mut impl Read, buf: &mut [u8]) -> usize
 {
     let mut done = 0;
     while done < buf.len() {
-        let Ok(n) = from.read(&mut buf[done..]) else {
-            break;
-        };
-        if n == 0 {
-            break;
+        match from.read(&mut buf[done..]) {
+            Ok(0) | Err(_) => break,
+            Ok(n) => done += n,
         }
-        done += n;
     }
     done
 }
 
-// Reads the file of this name into the page, and gives its length. Where it cannot be opened, it says so on standard error, and the length is 0.
-pub fn load(rt: &(impl Files + Eprint), name: &[u8], page: &mut [u8]) -> usize
-    ensures { result ≤ length page.new }
+// Reads the file of this name into the page, and gives what it read. Where the file cannot be opened, it says so on standard error, and that is nothing.
+pub fn load<'a>(rt: &(impl Files + Eprint), name: &[u8], page: &'a mut [u8]) -> &'a [u8]
+    ensures { length result.now ≤ length page.old }
 {
     let Ok(path) = str::from_utf8(name) else {
         let _ = eprintln!(rt; "the name of a file is no text");
-        return 0;
+        return b"";
     };
     match fs::open(rt, path) {
-        Ok(mut file) => read_full(&mut file, page),
+        Ok(mut file) => {
+            let done = read_full(&mut file, page);
+            &page[..done]
+        }
         Err(error) => {
             let _ = eprintln!(rt; "{path}: {error}");
-            0
+            b""
         }
     }
 }

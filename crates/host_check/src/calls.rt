@@ -3,17 +3,19 @@
 use crate::words::{Counts, count, says};
 use check::same;
 use compare::lent::list_on;
-use compare::listed::held;
-use oracle_text::job::blank;
-use oracle_text::random::{below, random_job, xorshift};
+use compare::said::{Answer, lacks, wrote};
+use model::{Array, Capacities};
+use oracle_text::job::Job;
+use oracle_text::page::Page as Sheet;
+use oracle_text::random::{Generator, below, random_job, xorshift};
 use oracle_text::text::write_text;
-use service::Answer;
+use service::Draws;
 use talusdish::exports::{
     talusdish_close, talusdish_diagonal, talusdish_extra, talusdish_lay, talusdish_listing,
     talusdish_mark, talusdish_new, talusdish_part, talusdish_read_text, talusdish_shortfall,
     talusdish_step, talusdish_trial, talusdish_write_text,
 };
-use verdict::bytes::{Tally, hold, line};
+use verdict::bytes::{Tally, line};
 use verdict::record::{BEYOND, Record};
 
 // A number of the `n` from `least` on, and now and then one that fits nothing; its last 32 bits may fit.
@@ -42,7 +44,13 @@ fn call_new(
     let side = pick(b, 1, 4);
     let diagonal = pick(c, side, 4);
     let extra = pick(d, 0, 8);
-    let answer = service::new(rec, rows, columns, side, diagonal, extra);
+    let array = Array { rows, columns };
+    let capacities = Capacities {
+        orthogonal: side,
+        diagonal,
+        extra,
+    };
+    let answer = Answer::from(service::new(rec, array, capacities));
     let word = talusdish_new(
         twin,
         rows as u64,
@@ -51,7 +59,7 @@ fn call_new(
         diagonal as u64,
         extra as u64,
     );
-    hold(rt, tally, says(word, answer), b"the word of new");
+    tally.hold(rt, says(word, answer), b"the word of new");
     answer
 }
 
@@ -63,18 +71,17 @@ fn call_read(
     twin: &mut [u8],
     seed: u32,
 ) -> Answer {
-    let mut sheet = [0u8; 262144];
-    let mut job = blank();
-    let x = random_job(seed, 10, &mut job);
-    let length = write_text(&job, &mut sheet);
-    let n = if below(x, 4) == 0 {
-        below(x / 4, length)
-    } else {
-        length
-    };
-    let answer = service::read_text(rec, held(&sheet, n));
-    let word = talusdish_read_text(twin, held(&sheet, n));
-    hold(rt, tally, says(word, answer), b"the word of read text");
+    let mut sheet = Sheet::EMPTY;
+    let mut job = Job::BLANK;
+    let mut generator = Generator::new(seed);
+    random_job(&mut generator, 10, &mut job);
+    write_text(&job, &mut sheet);
+    if below(generator.last, 4) == 0 {
+        sheet.truncate(below(generator.last / 4, sheet.text().len()));
+    }
+    let answer = Answer::from(service::read_text(rec, sheet.text()));
+    let word = talusdish_read_text(twin, sheet.text());
+    tally.hold(rt, says(word, answer), b"the word of read text");
     answer
 }
 
@@ -90,9 +97,9 @@ fn call_mark(
     let row = pick(seed, 0, 7);
     let column = pick(a, 0, 7);
     let mark = pick(b, 0, 4);
-    let answer = service::mark(rec, row, column, mark);
+    let answer = Answer::from(service::mark(rec, row, column, mark));
     let word = talusdish_mark(twin, row as u64, column as u64, mark as u64);
-    hold(rt, tally, says(word, answer), b"the word of mark");
+    tally.hold(rt, says(word, answer), b"the word of mark");
     answer
 }
 
@@ -108,9 +115,9 @@ fn call_close(
     let row = pick(seed, 0, 7);
     let column = pick(a, 0, 7);
     let state = pick(b, 0, 3);
-    let answer = service::close(rec, row, column, state);
+    let answer = Answer::from(service::close(rec, row, column, state));
     let word = talusdish_close(twin, row as u64, column as u64, state as u64);
-    hold(rt, tally, says(word, answer), b"the word of close");
+    tally.hold(rt, says(word, answer), b"the word of close");
     answer
 }
 
@@ -127,9 +134,9 @@ fn call_lay(
     let column = pick(a, 0, 7);
     let side = pick(b, 0, 5);
     let count = pick(xorshift(b), 0, 4);
-    let answer = service::lay(rec, row, column, side, count);
+    let answer = Answer::from(service::lay(rec, row, column, side, count));
     let word = talusdish_lay(twin, row as u64, column as u64, side as u64, count as u64);
-    hold(rt, tally, says(word, answer), b"the word of lay");
+    tally.hold(rt, says(word, answer), b"the word of lay");
     answer
 }
 
@@ -145,9 +152,9 @@ fn call_diagonal(
     let row = pick(seed, 0, 7);
     let column = pick(a, 0, 7);
     let d = pick(b, 0, 9);
-    let answer = service::diagonal(rec, row, column, d);
+    let answer = Answer::from(service::diagonal(rec, row, column, d));
     let word = talusdish_diagonal(twin, row as u64, column as u64, d as u64);
-    hold(rt, tally, says(word, answer), b"the word of diagonal");
+    tally.hold(rt, says(word, answer), b"the word of diagonal");
     answer
 }
 
@@ -159,10 +166,10 @@ fn step_both(
     scratch: &mut [u8],
     other: &mut [u8],
 ) -> Answer {
-    let answer = service::step(rec, scratch);
+    let answer = Answer::from(service::step(rec, scratch));
     let word = talusdish_step(twin, other);
-    hold(rt, tally, says(word, answer), b"the word of step");
-    hold(rt, tally, same(scratch, other), b"the scratch of step");
+    tally.hold(rt, says(word, answer), b"the word of step");
+    tally.hold(rt, same(scratch, other), b"the scratch of step");
     answer
 }
 
@@ -194,11 +201,11 @@ fn shortfall_both(
     output: &mut [u8],
     target: &mut [u8],
 ) -> Answer {
-    let answer = service::shortfall(rec, scratch, output);
+    let answer = lacks(service::shortfall(rec, scratch, output));
     let word = talusdish_shortfall(twin, other, target);
-    hold(rt, tally, says(word, answer), b"the word of shortfall");
-    hold(rt, tally, same(scratch, other), b"the scratch of shortfall");
-    hold(rt, tally, same(output, target), b"the output of shortfall");
+    tally.hold(rt, says(word, answer), b"the word of shortfall");
+    tally.hold(rt, same(scratch, other), b"the scratch of shortfall");
+    tally.hold(rt, same(output, target), b"the output of shortfall");
     answer
 }
 
@@ -256,9 +263,9 @@ fn call_part(rt: &impl Print, tally: &mut Tally, rec: &[u8], twin: &[u8], seed: 
     let row = pick(seed, 0, 9);
     let column = pick(a, 0, 9);
     let index = pick(b, 0, 8);
-    let answer = service::part(rec, row, column, index);
+    let answer = Answer::from(service::part(rec, row, column, index));
     let word = talusdish_part(twin, row as u64, column as u64, index as u64);
-    hold(rt, tally, says(word, answer), b"the word of part");
+    tally.hold(rt, says(word, answer), b"the word of part");
     answer
 }
 
@@ -270,10 +277,10 @@ fn write_both(
     output: &mut [u8],
     target: &mut [u8],
 ) -> Answer {
-    let answer = service::write_text(rec, output);
+    let answer = wrote(service::write_text(rec, output));
     let word = talusdish_write_text(twin, target);
-    hold(rt, tally, says(word, answer), b"the word of write text");
-    hold(rt, tally, same(output, target), b"the output of write text");
+    tally.hold(rt, says(word, answer), b"the word of write text");
+    tally.hold(rt, same(output, target), b"the output of write text");
     answer
 }
 
@@ -300,10 +307,7 @@ fn listing_on(rec: &[u8], output: &mut [u8], m: usize) -> u64 {
 // The length of the listing; 0 where there is none.
 fn listing_length(rec: &[u8]) -> usize {
     let mut whole = [0u8; 50000];
-    let Answer::Wrote(n) = service::list_wires(rec, &mut whole) else {
-        return 0;
-    };
-    n
+    service::list_wires(rec, &mut whole).unwrap_or(0)
 }
 
 // The output is empty, as long as the listing, a byte shorter, a byte longer, or all.
@@ -320,8 +324,8 @@ fn call_listing(rt: &impl Print, tally: &mut Tally, rec: &[u8], twin: &[u8], see
     };
     let answer = list_on(rec, &mut output, m);
     let word = listing_on(twin, &mut target, m);
-    hold(rt, tally, says(word, answer), b"the word of listing");
-    hold(rt, tally, same(&output, &target), b"the output of listing");
+    tally.hold(rt, says(word, answer), b"the word of listing");
+    tally.hold(rt, same(&output, &target), b"the output of listing");
     answer
 }
 
@@ -338,7 +342,19 @@ fn call_trial(
     let number = pick(xorshift(a), 0, 100000);
     let chosen = pick(a / 2, 0, 80);
     let closed = pick(a / 4, 0, 102);
-    let answer = service::trial(rec, rows, columns, 2, 3, 1, number, chosen, 30, closed);
+    let array = Array { rows, columns };
+    let capacities = Capacities {
+        orthogonal: 2,
+        diagonal: 3,
+        extra: 1,
+    };
+    let draws = Draws {
+        seed: number,
+        chosen,
+        missing: 30,
+        closed,
+    };
+    let answer = Answer::from(service::trial(rec, array, capacities, draws));
     let word = talusdish_trial(
         twin,
         rows as u64,
@@ -351,7 +367,7 @@ fn call_trial(
         30,
         closed as u64,
     );
-    hold(rt, tally, says(word, answer), b"the word of trial");
+    tally.hold(rt, says(word, answer), b"the word of trial");
     answer
 }
 
@@ -364,9 +380,9 @@ fn call_extra(
     seed: u32,
 ) -> Answer {
     let e = pick(seed, 0, 4);
-    let answer = service::extra(rec, e);
+    let answer = Answer::from(service::extra(rec, e));
     let word = talusdish_extra(twin, e as u64);
-    hold(rt, tally, says(word, answer), b"the word of extra");
+    tally.hold(rt, says(word, answer), b"the word of extra");
     answer
 }
 
@@ -405,7 +421,7 @@ fn call_both(
     kind: usize,
 ) -> Answer {
     let answer = call(rt, tally, rec, twin, seed, kind);
-    hold(rt, tally, same(rec, twin), b"the record");
+    tally.hold(rt, same(rec, twin), b"the record");
     answer
 }
 
@@ -493,13 +509,13 @@ fn draw(
 ) -> u32 {
     let a = xorshift(seed);
     let b = xorshift(a);
-    let wrong = tally[1];
+    let wrong = tally.wrong();
     let kind = kind_of(below(a, 32), k);
     count(
         counts,
         call_on(rt, tally, rec, twin, b, kind, below(a / 32, 32)),
     );
-    if tally[1] != wrong {
+    if tally.wrong() != wrong {
         line(rt, b"in the random call", k as u64);
     }
     xorshift(xorshift(xorshift(xorshift(xorshift(b)))))

@@ -5,7 +5,7 @@ use talusdish::exports::{
     talusdish_new, talusdish_part, talusdish_read_text, talusdish_shortfall, talusdish_step,
     talusdish_write_text,
 };
-use verdict::bytes::{Tally, hold, span};
+use verdict::bytes::{Tally, span};
 
 type Bytes = [u8; 32768];
 
@@ -45,7 +45,7 @@ fn news(
 ) {
     let mut rec = [7u8; 32768];
     let word = talusdish_new(&mut rec, rows, columns, o, d, e);
-    hold(rt, tally, word == expected, b"an example of new");
+    tally.hold(rt, word == expected, b"an example of new");
 }
 
 // The least and the greatest, and what is past them; where two numbers fit, the first.
@@ -60,8 +60,8 @@ fn ranges(rt: &impl Print, tally: &mut Tally) {
     news(rt, tally, 1, 2, 2, 5, 0, 2);
     let mut short = [7u8; 32767];
     let word = talusdish_new(&mut short, 1, 2, 2, 5, 0);
-    hold(rt, tally, word == 1, b"new on a short record");
-    hold(rt, tally, same(&short, &[7u8; 32767]), b"a refused new");
+    tally.hold(rt, word == 1, b"new on a short record");
+    tally.hold(rt, same(&short, &[7u8; 32767]), b"a refused new");
 }
 
 // All four pins chosen, and the listing of their wires.
@@ -78,12 +78,12 @@ const ROUND: [u8; 135] =
 // Read text gives the word; the text stands for what came out wrong.
 fn reads(rt: &impl Print, tally: &mut Tally, rec: &mut Bytes, text: &[u8], expected: u64) {
     let word = talusdish_read_text(rec, text);
-    hold(rt, tally, word == expected, text);
+    tally.hold(rt, word == expected, text);
 }
 
 // No byte is changed.
 fn untouched(rt: &impl Print, tally: &mut Tally, rec: &Bytes) {
-    hold(rt, tally, same(rec, &[7u8; 32768]), b"a refused text");
+    tally.hold(rt, same(rec, &[7u8; 32768]), b"a refused text");
 }
 
 fn texts(rt: &impl Print, tally: &mut Tally) {
@@ -95,12 +95,12 @@ fn texts(rt: &impl Print, tally: &mut Tally) {
     reads(rt, tally, &mut rec, &SIXTY_FOUR, 0);
     let mut short = [7u8; 32767];
     let word = talusdish_read_text(&mut short, &EXCHANGED);
-    hold(rt, tally, word == 1, b"a text on a short record");
+    tally.hold(rt, word == 1, b"a text on a short record");
 }
 
 fn writes(rt: &impl Print, tally: &mut Tally, rec: &Bytes, output: &mut [u8], expected: u64) {
     let word = talusdish_write_text(rec, output);
-    hold(rt, tally, word == expected, b"an example of write text");
+    tally.hold(rt, word == expected, b"an example of write text");
 }
 
 // The 64 bytes are written, and nothing where a byte is wanting.
@@ -112,8 +112,8 @@ fn written(rt: &impl Print, tally: &mut Tally) {
     reads(rt, tally, &mut rec, &SIXTY_FOUR, 0);
     writes(rt, tally, &rec, &mut short, 7);
     writes(rt, tally, &rec, &mut output, 256 * 64);
-    hold(rt, tally, same(&short, &[9u8; 63]), b"a refused output");
-    hold(rt, tally, same(&output, &SIXTY_FOUR), b"the 64 bytes");
+    tally.hold(rt, same(&short, &[9u8; 63]), b"a refused output");
+    tally.hold(rt, same(&output, &SIXTY_FOUR), b"the 64 bytes");
 }
 
 fn marks(
@@ -126,7 +126,7 @@ fn marks(
     expected: u64,
 ) {
     let word = talusdish_mark(rec, row, column, mark);
-    hold(rt, tally, word == expected, b"an example of mark");
+    tally.hold(rt, word == expected, b"an example of mark");
 }
 
 fn closes(
@@ -139,7 +139,7 @@ fn closes(
     expected: u64,
 ) {
     let word = talusdish_close(rec, row, column, state);
-    hold(rt, tally, word == expected, b"an example of close");
+    tally.hold(rt, word == expected, b"an example of close");
 }
 
 fn gives(
@@ -152,13 +152,13 @@ fn gives(
     expected: u64,
 ) {
     let word = talusdish_diagonal(rec, row, column, d);
-    hold(rt, tally, word == expected, b"an example of diagonal");
+    tally.hold(rt, word == expected, b"an example of diagonal");
 }
 
 // The north side of tile 1 1.
 fn lays(rt: &impl Print, tally: &mut Tally, rec: &mut Bytes, count: u64, expected: u64) {
     let word = talusdish_lay(rec, 1, 1, 0, count);
-    hold(rt, tally, word == expected, b"an example of lay");
+    tally.hold(rt, word == expected, b"an example of lay");
 }
 
 fn edits(rt: &impl Print, tally: &mut Tally) {
@@ -184,14 +184,14 @@ fn edits(rt: &impl Print, tally: &mut Tally) {
 fn steps(rt: &impl Print, tally: &mut Tally, rec: &mut Bytes, expected: u64) {
     let mut scratch = [1u8; 65536];
     let word = talusdish_step(rec, &mut scratch);
-    hold(rt, tally, word == expected, b"an example of step");
+    tally.hold(rt, word == expected, b"an example of step");
 }
 
 fn lacks(rt: &impl Print, tally: &mut Tally, rec: &Bytes, expected: u64) {
     let mut scratch = [1u8; 65536];
     let mut output = [2u8; 32768];
     let word = talusdish_shortfall(rec, &mut scratch, &mut output);
-    hold(rt, tally, word == expected, b"an example of shortfall");
+    tally.hold(rt, word == expected, b"an example of shortfall");
 }
 
 // What Part lists at the index, as a value.
@@ -205,9 +205,8 @@ fn lists(
     value: u64,
 ) {
     let word = talusdish_part(rec, row, column, index);
-    hold(
+    tally.hold(
         rt,
-        tally,
         word / 256 == value && word % 256 == 0,
         b"an example of part",
     );
@@ -216,7 +215,7 @@ fn lists(
 // Part knows no such pin, or it is not chosen.
 fn unlisted(rt: &impl Print, tally: &mut Tally, rec: &Bytes, row: u64, column: u64) {
     let word = talusdish_part(rec, row, column, 0);
-    hold(rt, tally, word == 4, b"no part");
+    tally.hold(rt, word == 4, b"no part");
 }
 
 // The 64 bytes: unwired, added, all wired; the pin leaves directly, and no other is chosen.
@@ -244,9 +243,9 @@ fn too_short(rt: &impl Print, tally: &mut Tally, rec: &mut Bytes) {
     let a = talusdish_shortfall(rec, &mut short, &mut output);
     let b = talusdish_shortfall(rec, &mut scratch, &mut output);
     let c = talusdish_step(rec, &mut short);
-    hold(rt, tally, a == 8, b"a shortfall with short scratch");
-    hold(rt, tally, b == 7, b"a shortfall with a short output");
-    hold(rt, tally, c == 8, b"a step with short scratch");
+    tally.hold(rt, a == 8, b"a shortfall with short scratch");
+    tally.hold(rt, b == 7, b"a shortfall with a short output");
+    tally.hold(rt, c == 8, b"a step with short scratch");
 }
 
 // Every tile closed: no wire fits, and one is lacking.
@@ -320,13 +319,8 @@ fn listed(
     begins: &[u8],
 ) {
     let word = talusdish_listing(rec, output);
-    hold(rt, tally, word == expected, b"an example of listing");
-    hold(
-        rt,
-        tally,
-        same(span(output, 0, begins.len()), begins),
-        begins,
-    );
+    tally.hold(rt, word == expected, b"an example of listing");
+    tally.hold(rt, same(span(output, 0, begins.len()), begins), begins);
 }
 
 // The listing of four direct exits, and nothing where a byte is wanting.
@@ -353,8 +347,8 @@ fn ends_with(rt: &impl Print, tally: &mut Tally, rec: &Bytes, last: &[u8]) {
     let mut output = [9u8; 1000];
     let word = talusdish_listing(rec, &mut output);
     let from = std::num::wrapping_sub_usize((word / 256) as usize, last.len());
-    hold(rt, tally, word % 256 == 0, b"an example of listing");
-    hold(rt, tally, same(span(&output, from, last.len()), last), last);
+    tally.hold(rt, word % 256 == 0, b"an example of listing");
+    tally.hold(rt, same(span(&output, from, last.len()), last), last);
 }
 
 // The wire of a pin goes round the pin to its east; once that is missing, an "all wired" leads it past, 14 for two sides, and the next moves nothing.
@@ -370,7 +364,7 @@ fn shorter(rt: &impl Print, tally: &mut Tally) {
     ends_with(rt, tally, &rec, b"(length 24)\n(mean 24 0)\n");
     let before = rec;
     steps(rt, tally, &mut rec, 256);
-    hold(rt, tally, is_same(&rec, &before), b"the next all wired");
+    tally.hold(rt, is_same(&rec, &before), b"the next all wired");
 }
 
 pub fn examples(rt: &impl Print, tally: &mut Tally) {

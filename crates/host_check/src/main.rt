@@ -7,15 +7,15 @@ mod calls; // random lists of calls
 mod examples; // the examples of document 01
 mod words; // what a word says
 
-use verdict::bytes::tell;
+use verdict::bytes::Tally;
 
 fn main(rt: HostRuntime) {
-    let mut examples = [0u64; 2];
+    let mut examples = Tally::NONE;
     examples::examples(&rt, &mut examples);
-    tell(&rt, b"host examples", &examples);
-    let mut calls = [0u64; 2];
+    examples.tell(&rt, b"host examples");
+    let mut calls = Tally::NONE;
     let mut counts = [0u64; 22];
     calls::calls(&rt, &mut calls, &mut counts);
-    tell(&rt, b"host calls", &calls);
+    calls.tell(&rt, b"host calls");
     words::tell_counts(&rt, &counts);
 }

@@ -1,9 +1,8 @@
 // What a word says, by include/talusdish.h: 256 times a value, and a code.
 use check::same;
-use compare::listed::held;
-use compare::said::put_listed;
-use oracle_text::page::{Page as Sheet, byte, decimal, pair, word};
-use service::Answer;
+use compare::said::{Answer, put_listed};
+use oracle_text::page::Page as Sheet;
+use service::{Refusal, Stepped, Verdict};
 use verdict::bytes::line;
 use wire::Part;
 
@@ -22,41 +21,37 @@ fn letter(place: usize) -> u8 {
 }
 
 // The place and the lane of a value.
-fn lettered(out: &mut Sheet, at: usize, value: usize) -> usize {
-    let a = byte(out, at, letter(value / 4 % 8));
-    let b = byte(out, a, b' ');
-    let c = decimal(out, b, value / 32 % 32);
-    byte(out, c, b')')
+fn lettered(out: &mut Sheet, value: usize) {
+    out.push(letter(value / 4 % 8));
+    out.push(b' ');
+    out.decimal(value / 32 % 32);
+    out.push(b')');
 }
 
 // The part of a value as the listing prints it, and nothing where the value is of none.
-fn put_value(out: &mut Sheet, value: usize) -> usize {
+fn put_value(out: &mut Sheet, value: usize) {
     if value == 0 {
-        return word(out, 0, b"unwired");
+        out.word(b"unwired");
+    } else if value == 1 {
+        out.word(b"past");
+    } else if value % 4 == 3 && value < 1024 {
+        out.word(b" (out ");
+        lettered(out, value);
+    } else if value % 4 == 2 && value < 4194304 {
+        out.word(b" (to ");
+        out.pair(value / 1024 % 64, value / 65536);
+        out.push(b' ');
+        lettered(out, value);
     }
-    if value == 1 {
-        return word(out, 0, b"past");
-    }
-    if value % 4 == 3 && value < 1024 {
-        let a = word(out, 0, b" (out ");
-        return lettered(out, a, value);
-    }
-    if value % 4 == 2 && value < 4194304 {
-        let a = word(out, 0, b" (to ");
-        let b = pair(out, a, value / 1024 % 64, value / 65536);
-        let c = byte(out, b, b' ');
-        return lettered(out, c, value);
-    }
-    0
 }
 
 // The value is of the part that Part answers with.
 fn lists(value: usize, answer: Answer) -> bool {
-    let mut read = [0u8; 262144];
-    let mut printed = [0u8; 262144];
-    let a = put_value(&mut read, value);
-    let b = put_listed(&mut printed, 0, answer);
-    same(held(&read, a), held(&printed, b))
+    let mut read = Sheet::EMPTY;
+    let mut printed = Sheet::EMPTY;
+    put_value(&mut read, value);
+    put_listed(&mut printed, answer);
+    same(read.text(), printed.text())
 }
 
 // The word says what the answer says.
@@ -64,18 +59,18 @@ pub fn says(w: u64, answer: Answer) -> bool {
     let code = (w % 256) as usize;
     let value = (w / 256) as usize;
     match answer {
-        Answer::Refused(k) => code == k && value == 0,
-        Answer::WrongText(o) => code == 6 && value == o,
+        Answer::Refused(Refusal::WrongText { offset }) => code == 6 && value == offset,
+        Answer::Refused(refusal) => code == refusal.number() && value == 0,
         Answer::Done => code == 0 && value == 0,
-        Answer::Added => code == 0 && value == 0,
-        Answer::AllWired => code == 0 && value == 1,
-        Answer::Short => code == 0 && value == 2,
+        Answer::Stepped(Stepped::Added) => code == 0 && value == 0,
+        Answer::Stepped(Stepped::AllWired) => code == 0 && value == 1,
+        Answer::Stepped(Stepped::Short) => code == 0 && value == 2,
         Answer::Lacks(k) => code == 0 && value == k,
         Answer::Lists(_) => code == 0 && lists(value, answer),
         Answer::Wrote(n) => code == 0 && value == n,
-        Answer::Carried => code == 0 && value == 0,
-        Answer::Fails(r, c) => {
-            code == 0 && value % 1024 == 1 && value / 1024 % 64 == r && value / 65536 == c
+        Answer::Judged(Verdict::Carried) => code == 0 && value == 0,
+        Answer::Judged(Verdict::Fails { row, column }) => {
+            code == 0 && value % 1024 == 1 && value / 1024 % 64 == row && value / 65536 == column
         }
     }
 }
@@ -100,17 +95,21 @@ fn part_kind(part: Part) -> usize {
 // Where an answer is counted: a refusal at its number, those from 9 on together.
 fn kind(answer: Answer) -> usize {
     match answer {
-        Answer::Refused(k) => { if k < 9 { k } else { 21 } }
-        Answer::WrongText(_) => 6,
+        Answer::Refused(refusal) => {
+            if refusal.number() < 9 {
+                refusal.number()
+            } else {
+                21
+            }
+        }
         Answer::Done => 9,
-        Answer::Added => 10,
-        Answer::AllWired => 11,
-        Answer::Short => 12,
+        Answer::Stepped(Stepped::Added) => 10,
+        Answer::Stepped(Stepped::AllWired) => 11,
+        Answer::Stepped(Stepped::Short) => 12,
         Answer::Lacks(_) => 13,
         Answer::Lists(part) => part_kind(part),
         Answer::Wrote(_) => 20,
-        Answer::Carried => 22,
-        Answer::Fails(_, _) => 22,
+        Answer::Judged(_) => 22,
     }
 }
 

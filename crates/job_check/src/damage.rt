@@ -3,14 +3,14 @@
 ghost use Rattle.std.specs.Prelude.{◌<◌};
 
 use check::same;
-use compare::listed::{held, routed};
-use compare::said::{REFUSED, is};
-use oracle_text::job::blank;
-use oracle_text::random::{below, random_job, random_laid, random_own, xorshift};
+use compare::listed::routed;
+use compare::said::{Answer, REFUSED, is, lacks, wrote};
+use oracle_text::job::Job;
+use oracle_text::page::Page as Sheet;
+use oracle_text::random::{Generator, below, random_job, random_laid, random_own, xorshift};
 use oracle_text::text::write_text;
-use service::Answer;
-use verdict::bytes::{Tally, all, hold, line};
-use verdict::ends::load;
+use verdict::bytes::{Tally, all, line};
+use verdict::ends::{Fields, Link, Plane};
 use verdict::record::{BEYOND, Record, legal};
 
 fn set(rec: &mut Record, k: usize, v: usize) {
@@ -56,13 +56,17 @@ fn less(x: usize) -> usize
 
 // One wire more on the link of the plane at row r, column c, the positive way or the other.
 fn push(rec: &mut Record, plane: usize, r: usize, c: usize, positive: bool) {
-    if plane < 15 {
-        if r < 40 {
-            if c < 40 {
-                let i = 1600 * plane + 40 * r + c;
-                let x = load(rec, i);
-                set(rec, 3968 + i, if positive { more(x) } else { less(x) });
-            }
+    if r >= 40 || c >= 40 {
+        return;
+    }
+    if let Some(plane) = Plane::ALL.get(plane) {
+        let link = Link {
+            plane: *plane,
+            cell: 40 * r + c,
+        };
+        let x = Fields::of(rec).load(link);
+        if let Some(at) = link.offset() {
+            set(rec, at, if positive { more(x) } else { less(x) });
         }
     }
 }
@@ -195,54 +199,38 @@ fn refuses(answer: Answer, sound: bool) -> bool {
 }
 
 fn hold_kept(rt: &impl Print, tally: &mut Tally, rec: &Record, copy: &Record, sound: bool) {
-    hold(
-        rt,
-        tally,
-        sound || same(rec, copy),
-        b"a damaged record is kept",
-    );
+    tally.hold(rt, sound || same(rec, copy), b"a damaged record is kept");
 }
 
 fn mark_pin(rec: &mut Record) -> Answer {
-    service::mark(rec, 0, 0, 1)
+    Answer::from(service::mark(rec, 0, 0, 1))
 }
 
 fn close_tile(rec: &mut Record) -> Answer {
-    service::close(rec, 0, 0, 1)
+    Answer::from(service::close(rec, 0, 0, 1))
 }
 
 fn lay_one(rec: &mut Record) -> Answer {
-    service::lay(rec, 0, 0, 0, 1)
+    Answer::from(service::lay(rec, 0, 0, 0, 1))
 }
 
 fn step(rec: &mut Record, scratch: &mut [u8; 65536]) -> Answer {
-    service::step(rec, scratch)
+    Answer::from(service::step(rec, scratch))
 }
 
 fn ask_edits(rt: &impl Print, tally: &mut Tally, rec: &Record, sound: bool) {
     let mut copy = *rec;
-    hold(
-        rt,
-        tally,
-        refuses(mark_pin(&mut copy), sound),
-        b"mark on damage",
-    );
+    tally.hold(rt, refuses(mark_pin(&mut copy), sound), b"mark on damage");
     hold_kept(rt, tally, rec, &copy, sound);
     let mut other = *rec;
-    hold(
+    tally.hold(
         rt,
-        tally,
         refuses(close_tile(&mut other), sound),
         b"close on damage",
     );
     hold_kept(rt, tally, rec, &other, sound);
     let mut third = *rec;
-    hold(
-        rt,
-        tally,
-        refuses(lay_one(&mut third), sound),
-        b"lay on damage",
-    );
+    tally.hold(rt, refuses(lay_one(&mut third), sound), b"lay on damage");
     hold_kept(rt, tally, rec, &third, sound);
 }
 
@@ -253,39 +241,33 @@ fn is_kept(scratch: &[u8; 65536], sound: bool) -> bool {
 fn ask_step(rt: &impl Print, tally: &mut Tally, rec: &Record, sound: bool) {
     let mut copy = *rec;
     let mut scratch = [201u8; 65536];
-    hold(
+    tally.hold(
         rt,
-        tally,
         refuses(step(&mut copy, &mut scratch), sound),
         b"step on damage",
     );
-    hold(
-        rt,
-        tally,
-        is_kept(&scratch, sound),
-        b"step's scratch on damage",
-    );
+    tally.hold(rt, is_kept(&scratch, sound), b"step's scratch on damage");
     hold_kept(rt, tally, rec, &copy, sound);
 }
 
 fn ask_shortfall(rt: &impl Print, tally: &mut Tally, rec: &Record, sound: bool) {
     let mut scratch = [201u8; 65536];
     let mut output = [90u8; 32768];
-    hold(
+    tally.hold(
         rt,
-        tally,
-        refuses(service::shortfall(rec, &mut scratch, &mut output), sound),
+        refuses(
+            lacks(service::shortfall(rec, &mut scratch, &mut output)),
+            sound,
+        ),
         b"shortfall on damage",
     );
-    hold(
+    tally.hold(
         rt,
-        tally,
         is_kept(&scratch, sound),
         b"shortfall's scratch on damage",
     );
-    hold(
+    tally.hold(
         rt,
-        tally,
         sound || all(&output, 90),
         b"shortfall's output on damage",
     );
@@ -293,27 +275,24 @@ fn ask_shortfall(rt: &impl Print, tally: &mut Tally, rec: &Record, sound: bool) 
 
 fn ask_views(rt: &impl Print, tally: &mut Tally, rec: &Record, sound: bool) {
     let mut output = [90u8; 66000];
-    hold(
+    tally.hold(
         rt,
-        tally,
-        refuses(service::part(rec, 0, 0, 0), sound),
+        refuses(Answer::from(service::part(rec, 0, 0, 0)), sound),
         b"part on damage",
     );
-    hold(
+    tally.hold(
         rt,
-        tally,
-        refuses(service::write_text(rec, &mut output), sound),
+        refuses(wrote(service::write_text(rec, &mut output)), sound),
         b"write text on damage",
     );
-    hold(
+    tally.hold(
         rt,
-        tally,
         sound || all(&output, 90),
         b"write text's output on damage",
     );
 }
 
-fn count(kept: &mut Tally, sound: bool) {
+fn count(kept: &mut [u64; 2], sound: bool) {
     if sound {
         kept[0] = std::num::wrapping_add_u64(kept[0], 1);
     } else {
@@ -322,7 +301,15 @@ fn count(kept: &mut Tally, sound: bool) {
 }
 
 // Spoils the record once, and counts whether it is still legal.
-fn ask(rt: &impl Print, tally: &mut Tally, kept: &mut Tally, rec: &Record, x: u32, y: u32, z: u32) {
+fn ask(
+    rt: &impl Print,
+    tally: &mut Tally,
+    kept: &mut [u64; 2],
+    rec: &Record,
+    x: u32,
+    y: u32,
+    z: u32,
+) {
     let mut copy = *rec;
     spoil(&mut copy, x, y, z);
     let sound = legal(&copy);
@@ -334,7 +321,13 @@ fn ask(rt: &impl Print, tally: &mut Tally, kept: &mut Tally, rec: &Record, x: u3
 }
 
 // Spoils the record in several ways; gives the generator's number afterwards.
-fn ask_ways(rt: &impl Print, tally: &mut Tally, kept: &mut Tally, rec: &Record, seed: u32) -> u32 {
+fn ask_ways(
+    rt: &impl Print,
+    tally: &mut Tally,
+    kept: &mut [u64; 2],
+    rec: &Record,
+    seed: u32,
+) -> u32 {
     let mut x = seed;
     for k in 0..12usize {
         let y = xorshift(x);
@@ -345,28 +338,29 @@ fn ask_ways(rt: &impl Print, tally: &mut Tally, kept: &mut Tally, rec: &Record, 
     x
 }
 
-fn draw(rt: &impl Print, tally: &mut Tally, kept: &mut Tally, seed: u32) -> u32 {
-    let mut job = blank();
-    let mut sheet = [0u8; 262144];
+fn draw(rt: &impl Print, tally: &mut Tally, kept: &mut [u64; 2], seed: u32) -> u32 {
+    let mut job = Job::BLANK;
+    let mut sheet = Sheet::EMPTY;
     let mut near = [0u8; 32768];
     let mut rec = [BEYOND; 32800];
-    let wrong = tally[1];
-    let y = random_job(seed, 8, &mut job);
-    let z = random_laid(y, 150, &mut job);
-    let x = random_own(z, 150, &mut job);
-    let n = write_text(&job, &mut sheet);
-    service::read_text(&mut rec, held(&sheet, n));
+    let wrong = tally.wrong();
+    let mut generator = Generator::new(seed);
+    random_job(&mut generator, 8, &mut job);
+    random_laid(&mut generator, 150, &mut job);
+    random_own(&mut generator, 150, &mut job);
+    write_text(&job, &mut sheet);
+    let read = service::read_text(&mut rec, sheet.text());
     routed(&mut rec, &mut near);
-    hold(rt, tally, legal(&rec), b"the record before");
-    let next = ask_ways(rt, tally, kept, &rec, x);
-    if tally[1] != wrong {
+    tally.hold(rt, read.is_ok() && legal(&rec), b"the record before");
+    let next = ask_ways(rt, tally, kept, &rec, generator.last);
+    if tally.wrong() != wrong {
         line(rt, b"in the damaged job", seed as u64);
     }
     next
 }
 
 // Damage to random jobs. `kept` counts the changes that left a legal record, and the others.
-pub fn damage(rt: &impl Print, tally: &mut Tally, kept: &mut Tally) {
+pub fn damage(rt: &impl Print, tally: &mut Tally, kept: &mut [u64; 2]) {
     let mut seed = 521288629;
     for k in 0..400usize {
         seed = draw(rt, tally, kept, seed);

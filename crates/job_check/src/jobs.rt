@@ -3,18 +3,18 @@ use crate::legs::lay_north;
 use crate::parts::list_by_parts;
 use check::same;
 use compare::lent::write_on;
-use compare::listed::{Page, held, listed, only_wired, routed, shown};
-use compare::said::{ADDED, ALL_WIRED, DONE, LACKS, REFUSED, SHORT, WROTE, is};
-use compare::shortened::{Found, hold_shortened, length_of};
+use compare::listed::{Page, listed, only_wired, routed, shown};
+use compare::said::{ADDED, ALL_WIRED, Answer, DONE, LACKS, REFUSED, SHORT, WROTE, is, lacks};
+use compare::shortened::{Found, hold_shortened, is_least};
 use judge::listing::check_listing;
-use judge::walk::LEGAL;
 use oracle::near::shortfall;
 use oracle_length::least::least_length;
 use oracle_length::lines::total_lines;
-use oracle_text::job::{CHOSEN, Job, blank, count_marked};
-use oracle_text::random::{random_job, random_laid, random_own};
+use oracle_text::job::{Job, Mark};
+use oracle_text::page::Page as Sheet;
+use oracle_text::random::{Generator, random_job, random_laid, random_own};
 use oracle_text::text::write_text;
-use verdict::bytes::{Tally, all, begins, hold, line, split_at};
+use verdict::bytes::{Tally, all, begins, line, split_at};
 use verdict::record::{
     BEYOND, Record, count_direct, count_wires, hold_added, holds_job, holds_unwired, legal,
 };
@@ -23,21 +23,19 @@ use verdict::record::{
 #[derive(Clone, Copy)]
 struct Asked {
     missed: usize,
-    least: usize,
+    least: Option<usize>,
 }
 
 // One step, of which the answer has to be this.
 fn step(rt: &impl Print, tally: &mut Tally, rec: &mut Record, expected: usize) {
     let mut scratch = [9u8; 65540];
-    hold(
+    tally.hold(
         rt,
-        tally,
-        is(service::step(rec, &mut scratch), expected, 0),
+        is(Answer::from(service::step(rec, &mut scratch)), expected, 0),
         b"step answers",
     );
-    hold(
+    tally.hold(
         rt,
-        tally,
         split_at(&scratch, 65536, 0, 9),
         b"step clears the scratch",
     );
@@ -70,12 +68,7 @@ fn step_last(
         hold_shortened(rt, tally, found, &before, rec, job, asked.least, page);
     } else {
         step(rt, tally, rec, SHORT);
-        hold(
-            rt,
-            tally,
-            is_same(&before, rec),
-            b"a short step changes nothing",
-        );
+        tally.hold(rt, is_same(&before, rec), b"a short step changes nothing");
     }
 }
 
@@ -89,28 +82,25 @@ fn ask_shortfall(
 ) {
     let mut scratch = [9u8; 65540];
     let mut output = [5u8; 32772];
-    hold(
+    tally.hold(
         rt,
-        tally,
         is(
-            service::shortfall(rec, &mut scratch, &mut output),
+            lacks(service::shortfall(rec, &mut scratch, &mut output)),
             LACKS,
             missed,
         ),
         b"shortfall answers",
     );
-    hold(
+    tally.hold(
         rt,
-        tally,
         split_at(&scratch, 65536, 0, 9),
         b"shortfall clears the scratch",
     );
     if missed == 0 {
-        hold(rt, tally, all(&output, 5), b"shortfall leaves the output");
+        tally.hold(rt, all(&output, 5), b"shortfall leaves the output");
     } else {
-        hold(
+        tally.hold(
             rt,
-            tally,
             begins(&output, near, 5),
             b"shortfall gives the near side",
         );
@@ -126,8 +116,8 @@ fn ask_listing(
     page: &mut Page,
 ) -> usize {
     let n = listed(rec, page);
-    let w = check_listing(&only_wired(rec, job), shown(page, n));
-    hold(rt, tally, w.fault == LEGAL, b"the listing is legal");
+    let checked = check_listing(&only_wired(rec, job), shown(page, n));
+    tally.hold(rt, checked.is_ok(), b"the listing is legal");
     n
 }
 
@@ -155,18 +145,8 @@ fn ask_route(
     near: &[u8; 32768],
 ) {
     let mut mine = [5u8; 32768];
-    hold(
-        rt,
-        tally,
-        routed(rec, &mut mine) == missed,
-        b"the route lacks",
-    );
-    hold(
-        rt,
-        tally,
-        near_is(&mine, missed, near),
-        b"the route's near side",
-    );
+    tally.hold(rt, routed(rec, &mut mine) == missed, b"the route lacks");
+    tally.hold(rt, near_is(&mine, missed, near), b"the route's near side");
 }
 
 // The wires laid at once have the least length, where every chosen pin has one.
@@ -179,10 +159,9 @@ fn ask_least(
     page: &mut Page,
 ) {
     if asked.missed == 0 {
-        hold(
+        tally.hold(
             rt,
-            tally,
-            length_of(rec, job, page) == asked.least,
+            is_least(rec, job, asked.least, page),
             b"the route has the least length",
         );
     }
@@ -202,13 +181,12 @@ fn ask_copy(
     let mut copy = *rec;
     ask_route(rt, tally, &mut copy, missed, near);
     ask_least(rt, tally, &copy, job, asked, page);
-    hold(rt, tally, holds_job(&copy, job), b"the route keeps the job");
-    hold(rt, tally, legal(&copy), b"the route is legal");
+    tally.hold(rt, holds_job(&copy, job), b"the route keeps the job");
+    tally.hold(rt, legal(&copy), b"the route is legal");
     let n = std::num::wrapping_add_usize(count_wires(&copy), missed);
-    hold(
+    tally.hold(
         rt,
-        tally,
-        n == count_marked(job, CHOSEN),
+        n == job.count_marked(Mark::Chosen),
         b"the route has its wires",
     );
 }
@@ -225,7 +203,7 @@ fn ask_legs(
 ) {
     let mut laid = *rec;
     lay_north(&mut laid, job);
-    hold(rt, tally, legal(&laid), b"the wires of legs are legal");
+    tally.hold(rt, legal(&laid), b"the wires of legs are legal");
     ask_copy(rt, tally, &laid, job, asked, near, page);
 }
 
@@ -248,7 +226,7 @@ fn step_on(
     page: &mut Page,
 ) {
     let missed = asked.missed;
-    let greatest = std::num::wrapping_sub_usize(count_marked(job, CHOSEN), missed);
+    let greatest = std::num::wrapping_sub_usize(job.count_marked(Mark::Chosen), missed);
     let n = least(greatest, MOST);
     ask_shortfall(rt, tally, rec, missed, near);
     steps(rt, tally, rec, job, n / 2);
@@ -260,12 +238,7 @@ fn step_on(
     }
     ask_shortfall(rt, tally, rec, missed, near);
     step_last(rt, tally, found, rec, job, asked, page);
-    hold(
-        rt,
-        tally,
-        count_wires(rec) == greatest,
-        b"the greatest number",
-    );
+    tally.hold(rt, count_wires(rec) == greatest, b"the greatest number");
 }
 
 // Write text gives the text, and no byte more.
@@ -273,98 +246,88 @@ fn ask_text(rt: &impl Print, tally: &mut Tally, rec: &Record, text: &[u8]) {
     let n = text.len();
     let mut out = [3u8; 66000];
     let few = write_on(rec, &mut out, std::num::wrapping_sub_usize(n, 1));
-    hold(
+    tally.hold(
         rt,
-        tally,
         is(few, REFUSED, 7),
         b"write text refuses a short output",
     );
-    hold(rt, tally, all(&out, 3), b"write text leaves a short output");
-    hold(
+    tally.hold(rt, all(&out, 3), b"write text leaves a short output");
+    tally.hold(
         rt,
-        tally,
         is(write_on(rec, &mut out, n), WROTE, n),
         b"write text answers",
     );
-    hold(
-        rt,
-        tally,
-        begins(&out, text, 3),
-        b"write text gives the text",
-    );
+    tally.hold(rt, begins(&out, text, 3), b"write text gives the text");
     let mut more = [3u8; 66000];
-    hold(
+    tally.hold(
         rt,
-        tally,
         is(write_on(rec, &mut more, 66000), WROTE, n),
         b"write text answers with room",
     );
-    hold(rt, tally, same(&more, &out), b"write text leaves the rest");
+    tally.hold(rt, same(&more, &out), b"write text leaves the rest");
 }
 
 // The listing again, from what Part answers, with the length that its parts have by the oracle.
 fn ask_parts(rt: &impl Print, tally: &mut Tally, rec: &Record, job: &Job, list: &[u8]) {
-    let mut sheet = [0u8; 262144];
-    let w = check_listing(&only_wired(rec, job), list);
+    let mut sheet = Sheet::EMPTY;
     let wires = count_wires(rec);
-    let n = list_by_parts(rec, job, wires, &mut sheet);
-    let m = total_lines(&mut sheet, n, wires, w.length as usize);
-    hold(
-        rt,
-        tally,
-        same(held(&sheet, m), list),
-        b"the parts are the listing",
-    );
+    list_by_parts(rec, job, wires, &mut sheet);
+    let right = match check_listing(&only_wired(rec, job), list) {
+        Ok(length) => {
+            total_lines(&mut sheet, wires, length);
+            same(sheet.text(), list)
+        }
+        Err(_) => false,
+    };
+    tally.hold(rt, right, b"the parts are the listing");
 }
 
 // Counts the wires of the record: those that leave directly, and all others.
-fn count_exits(exits: &mut Tally, rec: &Record) {
+fn count_exits(exits: &mut [u64; 2], rec: &Record) {
     let n = count_direct(rec);
     let m = std::num::wrapping_sub_usize(count_wires(rec), n);
     exits[0] = std::num::wrapping_add_u64(exits[0], n as u64);
     exits[1] = std::num::wrapping_add_u64(exits[1], m as u64);
 }
 
-// The least length of a job that lacks this many wires; 0 where it lacks some.
-fn least_of(job: &Job, missed: usize) -> usize {
-    if missed == 0 { least_length(job) } else { 0 }
+// The least length of a job that lacks this many wires; none where it lacks some.
+fn least_of(job: &Job, missed: usize) -> Option<usize> {
+    if missed == 0 { least_length(job) } else { None }
 }
 
 // All that is asked of one job; of the parts only where they are few.
 fn judge(
     rt: &impl Print,
     tally: &mut Tally,
-    exits: &mut Tally,
+    exits: &mut [u64; 2],
     found: &mut Found,
     job: &Job,
     page: &mut Page,
     parts: bool,
 ) {
-    let mut sheet = [0u8; 262144];
+    let mut sheet = Sheet::EMPTY;
     let mut near = [0u8; 32768];
     let mut rec = [BEYOND; 32800];
-    let n = write_text(job, &mut sheet);
+    write_text(job, &mut sheet);
     let missed = shortfall(job, &mut near);
     let least = least_of(job, missed);
     let asked = Asked { missed, least };
-    hold(
+    tally.hold(
         rt,
-        tally,
-        is(service::read_text(&mut rec, held(&sheet, n)), DONE, 0),
+        is(
+            Answer::from(service::read_text(&mut rec, sheet.text())),
+            DONE,
+            0,
+        ),
         b"read text answers",
     );
-    hold(
-        rt,
-        tally,
-        holds_unwired(&rec, job),
-        b"read text gives the job",
-    );
+    tally.hold(rt, holds_unwired(&rec, job), b"read text gives the job");
     ask_copy(rt, tally, &rec, job, asked, &near, page);
     ask_legs(rt, tally, &rec, job, asked, &near, page);
     step_on(rt, tally, found, &mut rec, job, asked, &near, page);
     count_exits(exits, &rec);
     let m = ask_listing(rt, tally, &rec, job, page);
-    ask_text(rt, tally, &rec, held(&sheet, n));
+    ask_text(rt, tally, &rec, sheet.text());
     if parts {
         ask_parts(rt, tally, &rec, job, shown(page, m));
     }
@@ -382,49 +345,47 @@ fn size(k: usize) -> usize {
 }
 
 // Wires are already laid in every other job, on a quarter of its sides.
-fn lay_some(seed: u32, k: usize, job: &mut Job) -> u32 {
-    if k % 2 == 0 {
-        return seed;
+fn lay_some(generator: &mut Generator, k: usize, job: &mut Job) {
+    if k % 2 != 0 {
+        random_laid(generator, 250, job);
     }
-    random_laid(seed, 250, job)
 }
 
 // Tiles have their own D in every third job, a third of them at most.
-fn own_some(seed: u32, k: usize, job: &mut Job) -> u32 {
-    if k % 3 != 0 {
-        return seed;
+fn own_some(generator: &mut Generator, k: usize, job: &mut Job) {
+    if k % 3 == 0 {
+        random_own(generator, 333, job);
     }
-    random_own(seed, 333, job)
 }
 
-// The k-th job; gives the generator's number afterwards.
+// The k-th job.
 fn draw(
     rt: &impl Print,
     tally: &mut Tally,
-    exits: &mut Tally,
+    exits: &mut [u64; 2],
     found: &mut Found,
     page: &mut Page,
-    seed: u32,
+    generator: &mut Generator,
     k: usize,
-) -> u32 {
-    let mut job = blank();
-    let wrong = tally[1];
-    let then = random_job(seed, size(k), &mut job);
-    let last = lay_some(then, k, &mut job);
-    let next = own_some(last, k, &mut job);
+) {
+    let mut job = Job::BLANK;
+    let wrong = tally.wrong();
+    let seed = generator.last;
+    random_job(generator, size(k), &mut job);
+    lay_some(generator, k, &mut job);
+    own_some(generator, k, &mut job);
     judge(rt, tally, exits, found, &job, page, k % 32 == 0);
-    if tally[1] != wrong {
+    if tally.wrong() != wrong {
         line(rt, b"in the random job", seed as u64);
     }
-    next
 }
 
 // Random jobs, each drawn with the number that the one before left. `exits` counts the wires at the end: those that leave directly, and the others; `found` what an
 // "all wired" finds.
-pub fn jobs(rt: &impl Print, tally: &mut Tally, exits: &mut Tally, found: &mut Found) {
+pub fn jobs(rt: &impl Print, tally: &mut Tally, exits: &mut [u64; 2], found: &mut Found) {
     let mut page = [0u8; 1048576];
-    let mut seed = 2463534242;
+    let mut generator = Generator::new(2463534242);
     for k in 0..3000 {
-        seed = draw(rt, tally, exits, found, &mut page, seed, k);
+        draw(rt, tally, exits, found, &mut page, &mut generator, k);
     }
 }

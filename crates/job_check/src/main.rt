@@ -9,24 +9,24 @@ mod parts; // the listing by Part
 mod vectors; // the vectors of data/
 
 use compare::shortened::tell_found;
-use verdict::bytes::{line, tell};
+use verdict::bytes::{Tally, line};
 
 fn main(rt: HostRuntime) {
-    let mut vectors = [0u64; 2];
+    let mut vectors = Tally::NONE;
     vectors::vectors(&rt, &mut vectors);
-    tell(&rt, b"vectors", &vectors);
-    let mut jobs = [0u64; 2];
+    vectors.tell(&rt, b"vectors");
+    let mut jobs = Tally::NONE;
     let mut exits = [0u64; 2];
     let mut found = [0u64; 2];
     jobs::jobs(&rt, &mut jobs, &mut exits, &mut found);
-    tell(&rt, b"random jobs", &jobs);
+    jobs.tell(&rt, b"random jobs");
     line(&rt, b"wires that leave directly", exits[0]);
     line(&rt, b"wires that leave by a side", exits[1]);
     tell_found(&rt, &found);
-    let mut damage = [0u64; 2];
+    let mut damage = Tally::NONE;
     let mut kept = [0u64; 2];
     damage::damage(&rt, &mut damage, &mut kept);
-    tell(&rt, b"damage", &damage);
+    damage.tell(&rt, b"damage");
     line(&rt, b"changes that leave a legal record", kept[0]);
     line(&rt, b"changes that damage it", kept[1]);
 }

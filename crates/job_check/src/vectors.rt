@@ -1,39 +1,44 @@
 // The vectors of data/: NAME.job with NAME.expect, what `escape` prints for it, of a wired job the first line, and from K8 on the last two. A wired job's listing has
 // to be legal, and of the least length.
 use check::same;
-use compare::listed::{Page, held, list_text, shown};
+use compare::listed::{Page, list_text, shown};
 use files::load;
 use judge::listing::check_least;
-use judge::walk::LEGAL;
-use oracle_text::job::blank;
-use oracle_text::page::{Page as Sheet, byte, decimal, word};
+use oracle_text::job::Job;
+use oracle_text::page::Page as Sheet;
 use oracle_text::scan::scan;
 use oracle_text::text::read_text;
 use std::rt::Files;
-use verdict::bytes::{Tally, first, hold, rest};
+use verdict::bytes::{Tally, first, rest};
 
-// Reads the file of the vector `name` that has this ending, and gives its length.
-fn load_vector(rt: &(impl Files + Eprint), name: &[u8], ending: &[u8], sheet: &mut Sheet) -> usize {
-    let mut path = [0u8; 262144];
-    let a = word(&mut path, 0, name);
-    let b = word(&mut path, a, ending);
-    load(rt, held(&path, b), sheet)
+// Reads the file of the vector `name` that has this ending.
+fn load_vector<'a>(
+    rt: &(impl Files + Eprint),
+    name: &[u8],
+    ending: &[u8],
+    buffer: &'a mut [u8; 262144],
+) -> &'a [u8] {
+    let mut path = Sheet::EMPTY;
+    path.word(name);
+    path.word(ending);
+    load(rt, path.text(), buffer)
 }
 
 // The listing begins with the first line that is expected, and ends with the other lines.
 fn frames(expected: &[u8], list: &[u8]) -> bool {
-    let f = scan(expected, 0, b"(wires #)\n");
+    let Some(f) = scan(expected, 0, b"(wires #)\n") else {
+        return false;
+    };
     let last = rest(expected, f.at);
     let from = std::num::wrapping_sub_usize(list.len(), last.len());
-    f.fits && same(first(list, f.at), first(expected, f.at)) && same(rest(list, from), last)
+    same(first(list, f.at), first(expected, f.at)) && same(rest(list, from), last)
 }
 
 // The listing of a wired job is as expected, legal, and of the least length.
 fn is_wired(text: &[u8], expected: &[u8], list: &[u8]) -> bool {
-    let mut job = blank();
-    read_text(text, &mut job);
-    let w = check_least(&job, list);
-    frames(expected, list) && w.fault == LEGAL
+    let mut job = Job::BLANK;
+    let read = read_text(text, &mut job);
+    read.is_ok() && frames(expected, list) && check_least(&job, list).is_ok()
 }
 
 // The router's listing of the text is the expected one.
@@ -48,14 +53,9 @@ fn is_expected(text: &[u8], expected: &[u8], page: &mut Page) -> bool {
 fn vector(rt: &(impl Files + Print + Eprint), tally: &mut Tally, page: &mut Page, name: &[u8]) {
     let mut text = [0u8; 262144];
     let mut expected = [0u8; 262144];
-    let n = load_vector(rt, name, b".job", &mut text);
-    let m = load_vector(rt, name, b".expect", &mut expected);
-    hold(
-        rt,
-        tally,
-        is_expected(held(&text, n), held(&expected, m), page),
-        name,
-    );
+    let text = load_vector(rt, name, b".job", &mut text);
+    let expected = load_vector(rt, name, b".expect", &mut expected);
+    tally.hold(rt, is_expected(text, expected, page), name);
 }
 
 // The vector STEM with the number k, of two digits.
@@ -66,11 +66,13 @@ fn numbered(
     stem: &[u8],
     k: usize,
 ) {
-    let mut name = [0u8; 262144];
-    let a = word(&mut name, 0, stem);
-    let b = if k < 10 { byte(&mut name, a, b'0') } else { a };
-    let c = decimal(&mut name, b, k);
-    vector(rt, tally, page, held(&name, c));
+    let mut name = Sheet::EMPTY;
+    name.word(stem);
+    if k < 10 {
+        name.push(b'0');
+    }
+    name.decimal(k);
+    vector(rt, tally, page, name.text());
 }
 
 // The first `n` vectors of the stem.

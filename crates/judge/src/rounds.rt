@@ -3,18 +3,40 @@
 // departure is joined and struck out, until nothing is left: the joins of the wires have to be these.
 ghost use Rattle.std.specs.Prelude.{◌<◌};
 
-use oracle::net::{FIRST_PIN, IN, NODES, OUTSIDE, kind_of, tile_of};
-use oracle::sheet::{EARLIER, JOINED, PASSED, ROUND, STACK, STATE, Sheet, count, read, write};
+use oracle::arcs::{kind_of, tile_of};
+use oracle::net::{FIRST_PIN, NODES, OUTSIDE};
 
-// Indices of the area STATE.
-const PASSES: usize = 8;
+// The kind of a centre's entry.
+const IN: usize = 4;
 
-const HEIGHT: usize = 9;
+// More passes than any listing has.
+const PASSES: usize = 80000;
 
-const CROSSED: usize = 10;
+// A wire comes to a place at one position round it and leaves it at another. A position is 1 + 32 × slot + order within the link. `earlier` is the pass of the same
+// place before this one, 0 for none.
+#[derive(Clone, Copy)]
+struct Pass {
+    earlier: u32,
+    from: u8,
+    to: u8,
+}
 
-// A position round a place is 1 + 32 × slot + order within the link; departures are marked by 1,000.
-const DEPARTS: usize = 1000;
+// Every pass, and the latest of each node, 0 for none.
+#[derive(Drop)]
+pub struct Passes {
+    latest: [u32; 12328],
+    passes: [Pass; 80000],
+    count: usize,
+}
+
+// What happens at a position round a place, and at which position the wire leaves or came.
+#[derive(Clone, Copy)]
+enum Event {
+    Comes(u8),
+    Leaves(u8),
+}
+
+type Round = [Option<Event>; 256];
 
 // The number of the link to `v` in the clockwise order round `u`, an entry standing for its centre or missing pin.
 fn slot(u: usize, v: usize) -> usize
@@ -44,127 +66,114 @@ fn slot(u: usize, v: usize) -> usize
 }
 
 // The position round `u` of a wire that leaves to `v` by the lane.
-pub fn leaving(u: usize, v: usize, lane: usize) -> usize
-    ensures { result < 256 }
-{
+pub fn leaving(u: usize, v: usize, lane: usize) -> u8 {
     let s = slot(u, v);
-    if lane < 32 { 1 + 32 * s + lane } else { 0 }
+    if lane < 32 {
+        (1 + 32 * s + lane) as u8
+    } else {
+        0
+    }
 }
 
 // The position round `u` of a wire that comes from `v` by the lane.
-pub fn coming(u: usize, v: usize, lane: usize) -> usize
-    ensures { result < 256 }
-{
+pub fn coming(u: usize, v: usize, lane: usize) -> u8 {
     let s = slot(u, v);
     if lane < 32 {
-        1 + 32 * s + (31 - lane)
+        (1 + 32 * s + (31 - lane)) as u8
     } else {
         0
     }
 }
 
-// A wire comes to `u` at the position `a` and leaves it at `b`; a wire that starts at `u` comes at 0.
-pub fn join(m: &mut Sheet, u: usize, a: usize, b: usize) {
-    if a > 0 && a < 256 {
-        let k = count(m, STATE, PASSES) + 1;
-        let before = read(m, PASSED, u);
-        write(m, EARLIER, k, before);
-        write(m, PASSED, u, k);
-        write_join(m, k, a, b);
+// Puts the event at its position.
+fn put(round: &mut Round, k: u8, event: Event) {
+    round[usize::from(k)] = Some(event);
+}
+
+// The position at which the wire of the event leaves or came.
+fn partner(event: Event) -> u8 {
+    match event {
+        Event::Comes(other) | Event::Leaves(other) => other,
     }
 }
 
-fn write_join(m: &mut Sheet, k: usize, a: usize, b: usize) {
-    if a < 256 {
-        if b < 256 {
-            write(m, JOINED, k, 256 * a + b);
+// One of the two comes, and the other leaves.
+fn differ(a: Event, b: Event) -> bool {
+    match (a, b) {
+        (Event::Comes(_), Event::Leaves(_)) | (Event::Leaves(_), Event::Comes(_)) => true,
+        _ => false,
+    }
+}
+
+// Joins the first neighbouring pair of one arrival and one departure and strikes it out, until nothing is left; says whether these joins are those of the wires.
+fn is_struck_out(round: &Round) -> bool {
+    let mut stack = [(0u8, Event::Comes(0)); 256];
+    let mut height: usize = 0;
+    for k in 1..=255u8 {
+        if let Some(event) = round[usize::from(k)] {
+            let (place, top) = stack[height.saturating_sub(1) % 256];
+            if height > 0 && differ(top, event) {
+                if partner(event) != place {
+                    return false;
+                }
+                height -= 1;
+            } else if height < 256 {
+                stack[height] = (k, event);
+                height += 1;
+            }
         }
     }
+    height == 0
 }
 
-// Puts the pass `k` into the round.
-fn enter(m: &mut Sheet, k: usize) {
-    let ab = read(m, JOINED, k);
-    let a = ab / 256;
-    let b = ab % 256;
-    write(m, ROUND, a, b);
-    write(m, ROUND, b, DEPARTS + a);
-}
-
-// Puts the passes of `u` into the round, the latest first.
-fn enter_all(m: &mut Sheet, u: usize) {
-    let mut k = read(m, PASSED, u);
-    let mut turns: u64 = 1000;
-    while turns > 0 && k != 0 {
-        enter(m, k);
-        k = read(m, EARLIER, k);
-        turns -= 1;
-    }
-}
-
-fn clear(m: &mut Sheet) {
-    for k in 0..200 {
-        write(m, ROUND, k, 0);
-    }
-}
-
-// The arrival or departure at `k` is joined to the one on top of the stack, if they differ, and else stands on top of it.
-fn strike(m: &mut Sheet, k: usize) {
-    let x = read(m, ROUND, k);
-    if x == 0 {
-        return;
-    }
-    let height = read(m, STATE, HEIGHT);
-    let top = if height > 0 {
-        read(m, STACK, height)
-    } else {
-        0
+impl Passes {
+    pub const NONE: Passes = Passes {
+        latest: [0; 12328],
+        passes: [Pass {
+            earlier: 0,
+            from: 0,
+            to: 0,
+        }; 80000],
+        count: 0,
     };
-    let y = read(m, ROUND, top);
-    if height == 0 || (x >= DEPARTS) == (y >= DEPARTS) {
-        write(m, STATE, HEIGHT, height + 1);
-        write(m, STACK, height + 1, k);
-        return;
-    }
-    if x % DEPARTS != top {
-        write(m, STATE, CROSSED, 1);
-    }
-    drop_top(m, height);
-}
 
-fn drop_top(m: &mut Sheet, height: usize) {
-    if height > 0 {
-        write(m, STATE, HEIGHT, height - 1);
-    }
-}
-
-fn strike_all(m: &mut Sheet) {
-    for k in 1..200 {
-        strike(m, k);
-    }
-}
-
-// The wires that pass `u` are joined as they have to be; if not, CROSSED is set.
-fn round(m: &mut Sheet, u: usize) {
-    if read(m, PASSED, u) != 0 {
-        clear(m);
-        write(m, STATE, HEIGHT, 0);
-        enter_all(m, u);
-        strike_all(m);
-        if read(m, STATE, HEIGHT) != 0 {
-            write(m, STATE, CROSSED, 1);
+    // A wire comes to `u` at the position `from` and leaves it at `to`; one that starts at `u` comes at no position and is none.
+    pub fn join(&mut self, u: usize, from: Option<u8>, to: u8) {
+        if let Some(from) = from {
+            if u < NODES && self.count < PASSES - 1 {
+                self.count += 1;
+                self.passes[self.count] = Pass {
+                    earlier: self.latest[u],
+                    from,
+                    to,
+                };
+                self.latest[u] = self.count as u32;
+            }
         }
     }
-}
 
-fn round_all(m: &mut Sheet) {
-    for u in 0..NODES {
-        round(m, u);
+    // The wires that pass `u` are joined as they have to be.
+    fn is_paired(&self, u: usize) -> bool {
+        let mut round: Round = [None; 256];
+        let mut k = if u < NODES {
+            self.latest[u] as usize
+        } else {
+            0
+        };
+        for _ in 0..1000 {
+            if k == 0 || k >= PASSES {
+                break;
+            }
+            let pass = self.passes[k];
+            put(&mut round, pass.from, Event::Comes(pass.to));
+            put(&mut round, pass.to, Event::Leaves(pass.from));
+            k = pass.earlier as usize;
+        }
+        is_struck_out(&round)
     }
-}
 
-// At every place the wires are joined as they have to be.
-pub fn are_paired(m: &mut Sheet) -> bool {
-    round_all(m);
-    read(m, STATE, CROSSED) == 0
+    // At every place the wires are joined as they have to be.
+    pub fn are_paired(&self) -> bool {
+        (0..NODES).all(|u| u >= NODES || self.latest[u] == 0 || self.is_paired(u))
+    }
 }

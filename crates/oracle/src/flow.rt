@@ -4,197 +4,127 @@
 // are what START reaches: the smallest near side. Every loop has a count of turns that no run uses up.
 ghost use Rattle.std.specs.Prelude.{◌<◌};
 
-use crate::net::{NODES, OUTSIDE, START};
-use crate::sheet::{
-    CURRENT, HEAD, LEVEL, NEXT, PATH, QUEUE, REST, STATE, Sheet, TO, count, read, write,
-};
-
-// Indices of the area STATE.
-const FRONT: usize = 2;
-
-const BACK: usize = 3;
-
-const DART: usize = 4;
-
-const NODE: usize = 5;
-
-const DEPTH: usize = 6;
-
-pub const LAID: usize = 7;
+use crate::net::{DARTS, NODES, Network, OUTSIDE, START, narrow, wide};
+use crate::path::Path;
 
 const TURNS: u64 = 1000000000000;
 
-// The other dart of the same arc.
-pub fn opposite(d: usize) -> usize {
-    if d % 2 == 1 {
-        d - 1
-    } else if d < 4294967296 {
-        d + 1
-    } else {
-        0
-    }
+// The level of each node, 0 for none, the nodes that have come to one in their order, the path that is looked at, and how many wires are laid.
+#[derive(Drop)]
+pub struct Flow {
+    levels: [u32; 12328],
+    queue: [u32; 12328],
+    back: usize,
+    path: Path,
+    laid: u32,
 }
 
-// Takes the next node from the queue, and says whether there was one.
-fn dequeue(m: &mut Sheet) -> bool {
-    let front = read(m, STATE, FRONT);
-    if front >= read(m, STATE, BACK) {
-        return false;
-    }
-    let u = read(m, QUEUE, front);
-    write(m, STATE, FRONT, front + 1);
-    write(m, STATE, NODE, u);
-    let first = read(m, HEAD, u);
-    write(m, STATE, DART, first);
-    true
-}
+impl Flow {
+    pub const EMPTY: Flow = Flow {
+        levels: [0; 12328],
+        queue: [0; 12328],
+        back: 0,
+        path: Path::EMPTY,
+        laid: 0,
+    };
 
-// Gives `v` this level and puts it into the queue, where it has none yet.
-fn reach(m: &mut Sheet, v: usize, level: usize) {
-    if read(m, LEVEL, v) == 0 {
-        write(m, LEVEL, v, level);
-        let back = count(m, STATE, BACK);
-        write(m, QUEUE, back, v);
+    fn level(&self, u: usize) -> usize
+        ensures { result < 4294967296 }
+    {
+        if u < NODES { wide(self.levels[u]) } else { 0 }
     }
-}
 
-// Looks at one dart, or takes the next node; says whether there was anything to do.
-fn look(m: &mut Sheet) -> bool {
-    let d = read(m, STATE, DART);
-    if d == 0 {
-        return dequeue(m);
+    // The node has a level.
+    pub fn is_near(&self, u: usize) -> bool {
+        self.level(u) > 0
     }
-    if read(m, REST, d) > 0 {
-        let level = read(m, LEVEL, read(m, STATE, NODE));
-        reach(m, read(m, TO, d), level + 1);
-    }
-    let next = read(m, NEXT, d);
-    write(m, STATE, DART, next);
-    true
-}
 
-// Takes the level from every node, and puts every node back to its first dart.
-fn rewind(m: &mut Sheet) {
-    for u in 0..NODES {
-        let first = read(m, HEAD, u);
-        write(m, CURRENT, u, first);
-        write(m, LEVEL, u, 0);
+    // Gives `v` this level and puts it into the queue, where it has none yet.
+    fn reach(&mut self, v: usize, level: usize) {
+        if v < NODES && self.levels[v] == 0 && self.back < NODES {
+            self.levels[v] = narrow(level);
+            self.queue[self.back] = narrow(v);
+            self.back += 1;
+        }
     }
-}
 
-// Gives every node that START reaches its level, and every other node 0.
-fn spread(m: &mut Sheet) {
-    rewind(m);
-    write(m, STATE, FRONT, 0);
-    write(m, STATE, BACK, 0);
-    write(m, STATE, DART, 0);
-    reach(m, START, 1);
-    let mut turns = TURNS;
-    while turns > 0 && look(m) {
-        turns -= 1;
+    // Reaches what the darts of the node with something left lead to.
+    fn reach_from(&mut self, network: &Network, u: usize) {
+        let level = self.level(u) + 1;
+        let mut d = network.first(u);
+        for _ in 0..DARTS {
+            if d == 0 {
+                break;
+            }
+            if network.rest(d) > 0 {
+                self.reach(network.to(d), level);
+            }
+            d = network.next(d);
+        }
     }
-}
 
-// Lays one unit on the dart that stands at `k` of the path.
-fn lay(m: &mut Sheet, k: usize) {
-    let d = read(m, PATH, k);
-    let rest = read(m, REST, d);
-    if rest > 0 {
-        write(m, REST, d, rest - 1);
-        count(m, REST, opposite(d));
+    // Gives every node that START reaches its level, and every other node 0.
+    fn spread(&mut self, network: &Network) {
+        self.levels.fill(0);
+        self.back = 0;
+        self.reach(START, 1);
+        for front in 0..NODES {
+            if front >= self.back {
+                break;
+            }
+            self.reach_from(network, wide(self.queue[front]));
+        }
     }
-}
 
-fn lay_all(m: &mut Sheet, depth: usize) {
-    for k in 0..depth {
-        lay(m, k);
+    // Lays a wire along the path, which has come to the outside, and starts anew.
+    fn finish(&mut self, network: &mut Network) {
+        for k in 0..self.path.depth() {
+            network.lay(self.path.dart(k));
+        }
+        self.path.restart();
+        self.laid = self.laid.wrapping_add(1);
     }
-}
 
-// Lays a wire along the path, which has come to the outside, and starts anew.
-fn finish(m: &mut Sheet) {
-    let depth = read(m, STATE, DEPTH);
-    lay_all(m, depth);
-    count(m, STATE, LAID);
-    write(m, STATE, NODE, START);
-    write(m, STATE, DEPTH, 0);
-}
-
-// Takes the last dart off the path, and says whether there was one.
-fn retreat(m: &mut Sheet) -> bool {
-    let depth = read(m, STATE, DEPTH);
-    if depth == 0 {
-        return false;
+    // The dart has something left, and leads from the path's last node to the next level.
+    fn leads(&self, network: &Network, d: usize) -> bool {
+        network.rest(d) > 0 && self.level(network.to(d)) == self.level(self.path.node()) + 1
     }
-    let d = read(m, PATH, depth - 1);
-    let u = read(m, TO, opposite(d));
-    let next = read(m, NEXT, d);
-    write(m, CURRENT, u, next);
-    write(m, STATE, NODE, u);
-    write(m, STATE, DEPTH, depth - 1);
-    true
-}
 
-// Tries the dart `d` of the node `u`: it lengthens the path, or the node goes on to its next dart.
-fn advance(m: &mut Sheet, u: usize, d: usize) {
-    let v = read(m, TO, d);
-    if read(m, REST, d) > 0 && read(m, LEVEL, v) == read(m, LEVEL, u) + 1 {
-        let depth = count(m, STATE, DEPTH);
-        write(m, PATH, depth, d);
-        write(m, STATE, NODE, v);
-    } else {
-        let next = read(m, NEXT, d);
-        write(m, CURRENT, u, next);
+    // One move of the path's end; says whether there was anything to do.
+    fn explore(&mut self, network: &mut Network) -> bool {
+        if self.path.node() == OUTSIDE {
+            self.finish(network);
+            return true;
+        }
+        match self.path.current() {
+            0 => return self.path.retreat(network),
+            d if self.leads(network, d) => self.path.advance(network, d),
+            d => self.path.skip(network, d),
+        }
+        true
     }
-}
 
-// One move of the path's end; says whether there was anything to do.
-fn explore(m: &mut Sheet) -> bool {
-    let u = read(m, STATE, NODE);
-    if u == OUTSIDE {
-        finish(m);
-        return true;
+    // Lays wires along rising levels until none is left to lay.
+    fn block(&mut self, network: &mut Network) {
+        self.path.rewind(network);
+        for _ in 0..TURNS {
+            if !self.explore(network) {
+                break;
+            }
+        }
     }
-    let d = read(m, CURRENT, u);
-    if d == 0 {
-        return retreat(m);
-    }
-    advance(m, u, d);
-    true
-}
 
-// Lays wires along rising levels until none is left to lay.
-fn block(m: &mut Sheet) {
-    write(m, STATE, NODE, START);
-    write(m, STATE, DEPTH, 0);
-    let mut turns = TURNS;
-    while turns > 0 && explore(m) {
-        turns -= 1;
+    // Lays as many wires as fit on the network, and gives their number. The levels are then those of the near side.
+    pub fn solve(&mut self, network: &mut Network) -> usize
+        ensures { result < 4294967296 }
+    {
+        for _ in 0..TURNS {
+            self.spread(network);
+            if !self.is_near(OUTSIDE) {
+                break;
+            }
+            self.block(network);
+        }
+        wide(self.laid)
     }
-}
-
-// One phase; says whether the outside was reached.
-fn phase(m: &mut Sheet) -> bool {
-    spread(m);
-    if read(m, LEVEL, OUTSIDE) == 0 {
-        return false;
-    }
-    block(m);
-    true
-}
-
-// Lays as many wires as fit on the arcs that are built, and gives their number. The levels are then those of the near side.
-pub fn solve(m: &mut Sheet) -> usize
-    ensures { result < 4294967296 }
-{
-    let mut turns = TURNS;
-    while turns > 0 && phase(m) {
-        turns -= 1;
-    }
-    read(m, STATE, LAID)
-}
-
-// The node has a level.
-pub fn is_near(m: &Sheet, u: usize) -> bool {
-    read(m, LEVEL, u) > 0
 }

@@ -2,8 +2,9 @@
 // and the greatest number comes from Dinic's phases of levels. Each function is proved safe and ending, and no more: what it computes is what the tests compare.
 #![tactic(auto)]
 
-pub mod sheet; // its memory
-pub mod net; // the arcs of a job
+pub mod net; // arcs, and what is left to them
+pub mod arcs; // the arcs of a job
+pub mod path; // a path that grows and shrinks
 pub mod flow; // phases of levels
 pub mod near; // the greatest number, and the near side
 pub mod lines; // the listing of a short or refused job

@@ -2,96 +2,66 @@
 // 8 × (41 + 40 r + c) + kind of each pin, place, entry and exit. And the sum of any near side.
 ghost use Rattle.std.specs.Prelude.{◌<◌};
 
-use crate::flow::{is_near, opposite, solve};
-use crate::net::{FIRST_PIN, NODES, START, build};
-use crate::sheet::{REST, Sheet, TO, read};
-use oracle_text::job::{CHOSEN, Job, count_marked};
+use crate::flow::Flow;
+use crate::net::{DARTS, FIRST_PIN, NODES, Network, START, opposite};
+use oracle_text::job::{Job, Mark};
 
-pub type Side = [u8; 32768];
+pub type Near = [u8; 32768];
 
 // The published byte of the node `u`; 0, which is nothing's, where it has none.
 fn byte_of(u: usize) -> usize
     ensures { result < 32768 }
 {
-    if u < 2 || u >= NODES {
-        return 0;
-    }
-    if u >= 2 {
-        if u < FIRST_PIN {
+    match u {
+        2..FIRST_PIN => {
             let t = (u - 2) / 6;
-            return 8 * (41 + 40 * (t / 39) + t % 39) + 2 + (u - 2) % 6;
+            8 * (41 + 40 * (t / 39) + t % 39) + 2 + (u - 2) % 6
         }
-        if u < NODES {
-            return 8 * (41 + (u - FIRST_PIN) / 2) + u % 2;
-        }
-    }
-    0
-}
-
-// Says at its byte whether the node `u` is near. START and OUTSIDE have none.
-fn tell(m: &Sheet, out: &mut Side, u: usize) {
-    if is_near(m, u) && u >= 2 {
-        out[byte_of(u)] = 1;
-    }
-}
-
-fn tell_all(m: &Sheet, out: &mut Side) {
-    for u in 0..NODES {
-        tell(m, out, u);
-    }
-}
-
-fn clear(out: &mut Side) {
-    for k in 0..32768 {
-        out[k] = 0;
+        FIRST_PIN..NODES => 8 * (41 + (u - FIRST_PIN) / 2) + u % 2,
+        _ => 0,
     }
 }
 
 // Chosen pins less the greatest number. Where that is not 0, `out` is the smallest near side; else it is untouched.
-pub fn shortfall(job: &Job, out: &mut Side) -> usize
+pub fn shortfall(job: &Job, out: &mut Near) -> usize
     ensures { result < 1601 }
 {
-    let mut m = [0u32; 625000];
-    build(&mut m, job);
-    let greatest = solve(&mut m);
-    let wanted = count_marked(job, CHOSEN);
+    let mut network = Network::EMPTY;
+    let mut flow = Flow::EMPTY;
+    network.build(job);
+    let greatest = flow.solve(&mut network);
+    let wanted = job.count_marked(Mark::Chosen);
     if greatest >= wanted {
         return 0;
     }
-    clear(out);
-    tell_all(&m, out);
+    out.fill(0);
+    for u in 2..NODES {
+        if flow.is_near(u) {
+            out[byte_of(u)] = 1;
+        }
+    }
     wanted - greatest
 }
 
 // The node `u` lies in the near side.
-fn holds(near: &Side, u: usize) -> bool {
+fn holds(near: &Near, u: usize) -> bool {
     u == START || near[byte_of(u)] == 1
 }
 
-// What the dart `d` adds to the sum of the near side: its limit, if it leads out.
-fn leak(m: &Sheet, near: &Side, d: usize) -> usize
-    ensures { result < 4294967296 }
-{
-    let u = read(m, TO, opposite(d));
-    let v = read(m, TO, d);
-    if holds(near, u) && !holds(near, v) {
-        read(m, REST, d)
-    } else {
-        0
-    }
-}
-
-fn leaks(m: &Sheet, near: &Side) -> usize {
-    let mut sum = 0;
-    for d in 2..76000 {
-        sum = std::num::wrapping_add_usize(sum, leak(m, near, d));
-    }
-    sum
+// The dart `d` leads out of the near side.
+fn leads_out(network: &Network, near: &Near, d: usize) -> bool {
+    holds(near, network.to(opposite(d))) && !holds(near, network.to(d))
 }
 
 // The sum of a near side: the chosen pins outside it, and every limit on a link that leads out of it.
-pub fn sum_of(job: &Job, near: &Side) -> usize {
-    let mut m = [0u32; 625000];
-    build(&mut m, job);
-    leaks(&m, near)
+pub fn sum_of(job: &Job, near: &Near) -> usize {
+    let mut network = Network::EMPTY;
+    network.build(job);
+    let mut sum: usize = 0;
+    for d in 2..DARTS {
+        if leads_out(&network, near, d) {
+            sum = sum.wrapping_add(network.rest(d));
+        }
+    }
+    sum
 }

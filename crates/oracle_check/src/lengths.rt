@@ -1,13 +1,13 @@
 // Least lengths: of jobs where they are known, of listings with a wrong total or more than the least, and of random jobs, where no change of the wires round a loop
 // may take anything off.
-use crate::direct::Judged;
+use crate::Judged;
+use judge::fault::Fault;
 use judge::listing::check_least;
-use judge::walk::{LEGAL, NOT_ENDED, NOT_LEAST, WRONG_TOTAL};
 use oracle::near::shortfall;
-use oracle_length::least::{UNWIRED, is_settled, least_length};
-use oracle_text::job::{Job, blank};
-use oracle_text::random::{random_job, random_laid, random_own};
-use oracle_text::text::{ACCEPTED, read_text};
+use oracle_length::least::{is_settled, least_length};
+use oracle_text::job::Job;
+use oracle_text::random::{Generator, random_job, random_laid, random_own};
+use oracle_text::text::read_text;
 
 // Two pins that leave over the same rim side, which takes one wire: the other goes on past the rim side that is taken, to the next.
 const CROWDED: [u8; 144] =
@@ -43,127 +43,128 @@ const CORNER: [u8; 51] = *b"(array (pins 2 2) (caps 1 2 0))\n(chosen 0 0)\n(end)
 
 const PAIR: [u8; 64] = *b"(array (pins 2 2) (caps 2 4 0))\n(chosen 0 0)\n(chosen 0 1)\n(end)\n";
 
-fn note(counts: &mut Judged, right: bool) {
-    if right {
-        counts[0] = std::num::wrapping_add_u64(counts[0], 1);
-    } else {
-        counts[1] = std::num::wrapping_add_u64(counts[1], 1);
-    }
-}
-
 // The job has this least length.
-fn measures(counts: &mut Judged, text: &[u8], length: usize) {
-    let mut job = blank();
-    let s = read_text(text, &mut job);
-    let right = least_length(&job) == length && is_settled(&job);
-    note(counts, s.stage == ACCEPTED && right);
+fn measures(judged: &mut Judged, text: &[u8], length: Option<usize>) {
+    let mut job = Job::BLANK;
+    let read = read_text(text, &mut job);
+    judged.count(read.is_ok() && least_length(&job) == length && is_settled(&job));
 }
 
-// The listing has this fault, where its wires have to have the least length.
-fn finds(counts: &mut Judged, text: &[u8], list: &[u8], fault: usize) {
-    let mut job = blank();
-    let s = read_text(text, &mut job);
-    let w = check_least(&job, list);
-    note(counts, s.stage == ACCEPTED && w.fault == fault);
+// The listing is judged so, where its wires have to have the least length.
+fn finds(judged: &mut Judged, text: &[u8], list: &[u8], expected: Result<usize, Fault>) {
+    let mut job = Job::BLANK;
+    let read = read_text(text, &mut job);
+    judged.count(read.is_ok() && check_least(&job, list) == expected);
 }
 
-fn known(counts: &mut Judged) {
-    measures(counts, &CROWDED, 30);
-    measures(counts, &FIRST, 10);
-    measures(counts, &SECOND, 10);
-    measures(counts, &PAST, 24);
-    measures(counts, &ROUND, 30);
-    measures(counts, &THREE, 10);
-    measures(counts, &SHUT, UNWIRED);
-    measures(counts, &NOTHING, 0);
-    measures(counts, &CORNER, 0);
+fn known(judged: &mut Judged) {
+    measures(judged, &CROWDED, Some(30));
+    measures(judged, &FIRST, Some(10));
+    measures(judged, &SECOND, Some(10));
+    measures(judged, &PAST, Some(24));
+    measures(judged, &ROUND, Some(30));
+    measures(judged, &THREE, Some(10));
+    measures(judged, &SHUT, None);
+    measures(judged, &NOTHING, Some(0));
+    measures(judged, &CORNER, Some(0));
 }
 
 // No lines, one of them, a wrong total, a wrong mean, a mean without remainder, and a byte behind them.
-fn totals(counts: &mut Judged) {
+fn totals(judged: &mut Judged) {
     finds(
-        counts,
+        judged,
         &CORNER,
         b"(wires 1)\n(wire (pin 0 0) (out p 0))\n",
-        NOT_ENDED,
+        Err(Fault::NotEnded),
     );
     finds(
-        counts,
+        judged,
         &CORNER,
         b"(wires 1)\n(wire (pin 0 0) (out p 0))\n(length 0)\n",
-        WRONG_TOTAL,
+        Err(Fault::WrongTotal),
     );
     finds(
-        counts,
+        judged,
         &CORNER,
         b"(wires 1)\n(wire (pin 0 0) (out p 0))\n(length 10)\n(mean 10 0)\n",
-        WRONG_TOTAL,
+        Err(Fault::WrongTotal),
     );
     finds(
-        counts,
+        judged,
         &CORNER,
         b"(wires 1)\n(wire (pin 0 0) (out p 0))\n(length 0)\n(mean 0 1)\n",
-        WRONG_TOTAL,
+        Err(Fault::WrongTotal),
     );
     finds(
-        counts,
+        judged,
         &CORNER,
         b"(wires 1)\n(wire (pin 0 0) (out p 0))\n(length 0)\n(mean 0)\n",
-        WRONG_TOTAL,
+        Err(Fault::WrongTotal),
     );
     finds(
-        counts,
+        judged,
         &CORNER,
         b"(wires 1)\n(wire (pin 0 0) (out p 0))\n(length 0)\n(mean 0 0)\n\n",
-        WRONG_TOTAL,
+        Err(Fault::WrongTotal),
     );
 }
 
 // The least length, and a legal wire by a side where the pin could leave directly.
-fn least(counts: &mut Judged) {
+fn least(judged: &mut Judged) {
     finds(
-        counts,
+        judged,
         &NOTHING,
         b"(wires 0)\n(length 0)\n(mean 0 0)\n",
-        LEGAL,
+        Ok(0),
     );
     finds(
-        counts,
+        judged,
         &CORNER,
         b"(wires 1)\n(wire (pin 0 0) (out p 0))\n(length 0)\n(mean 0 0)\n",
-        LEGAL,
+        Ok(0),
     );
     finds(
-        counts,
+        judged,
         &CORNER,
         b"(wires 1)\n(wire (pin 0 0) (to 0 0 n 0) (out n 0))\n(length 10)\n(mean 10 0)\n",
-        NOT_LEAST,
+        Err(Fault::NotLeast),
     );
     finds(
-        counts,
+        judged,
         &PAIR,
         b"(wires 2)\n(wire (pin 0 0) (to 0 0 n 0) (out n 0))\n(wire (pin 0 1) (out p 0))\n(length 10)\n(mean 5 0)\n",
-        NOT_LEAST,
+        Err(Fault::NotLeast),
     );
 }
 
-pub fn examples(counts: &mut Judged) {
-    known(counts);
-    totals(counts);
-    least(counts);
+pub fn examples(judged: &mut Judged) {
+    known(judged);
+    totals(judged);
+    least(judged);
 }
 
-// What a random job came to: 0 its least length is settled, 1 it is not, or there is one where the job is short or none where it is not, 2 it cannot be wired.
-fn judge(job: &Job) -> usize {
-    let mut near = [0u8; 32768];
-    let missed = shortfall(job, &mut near);
-    if (least_length(job) == UNWIRED) != (missed > 0) {
-        return 1;
+// What random jobs came to: their least length is settled; it is not, or there is one where the job is short or none where it is not; they cannot be wired.
+#[derive(Drop)]
+pub struct Drawn {
+    pub settled: u64,
+    pub wrong: u64,
+    pub unwired: u64,
+}
+
+impl Drawn {
+    fn judge(&mut self, job: &Job) {
+        let mut near = [0u8; 32768];
+        let missed = shortfall(job, &mut near);
+        if least_length(job).is_none() != (missed > 0) {
+            self.wrong = self.wrong.wrapping_add(1);
+        } else if missed > 0 {
+            self.unwired = self.unwired.wrapping_add(1);
+        } else if is_settled(job) {
+            self.settled = self.settled.wrapping_add(1);
+        } else {
+            self.wrong = self.wrong.wrapping_add(1);
+        }
     }
-    if missed > 0 {
-        return 2;
-    }
-    if is_settled(job) { 0 } else { 1 }
 }
 
 // How many rows and columns the k-th job has at most.
@@ -171,22 +172,20 @@ fn size(k: usize) -> usize {
     if k % 64 == 63 { 40 } else { 12 }
 }
 
-// The k-th job, with wires already laid on some sides and with own Ds; gives the generator's number afterwards.
-fn draw(counts: &mut [u64; 3], seed: u32, k: usize) -> u32 {
-    let mut job = blank();
-    let x = random_job(seed, size(k), &mut job);
-    let y = random_laid(x, 100, &mut job);
-    let z = random_own(y, 100, &mut job);
-    let came = judge(&job);
-    if came < 3 {
-        counts[came] = std::num::wrapping_add_u64(counts[came], 1);
-    }
-    z
-}
-
-pub fn random(counts: &mut [u64; 3]) {
-    let mut seed = 362436069;
+// Jobs at random, with wires already laid on some sides and with own Ds.
+pub fn random() -> Drawn {
+    let mut drawn = Drawn {
+        settled: 0,
+        wrong: 0,
+        unwired: 0,
+    };
+    let mut generator = Generator::new(362436069);
     for k in 0..512 {
-        seed = draw(counts, seed, k);
+        let mut job = Job::BLANK;
+        random_job(&mut generator, size(k), &mut job);
+        random_laid(&mut generator, 100, &mut job);
+        random_own(&mut generator, 100, &mut job);
+        drawn.judge(&job);
     }
+    drawn
 }

@@ -2,105 +2,119 @@
 // A node whose label falls waits in a ring until its darts have been looked at. Labels that never stop falling show a loop that takes more off than it adds.
 ghost use Rattle.std.specs.Prelude.{◌<◌};
 
-use crate::costs::onward;
-use oracle::net::NODES;
-use oracle::sheet::{HEAD, LEVEL, NEXT, PASSED, QUEUE, REST, STATE, Sheet, TO, read, write};
-
-pub const LABEL: usize = LEVEL;
-
-const WAITS: usize = PASSED;
+use crate::costs::Costs;
+use oracle::net::{NODES, Network, narrow, wide};
 
 // More than any cost.
 pub const BASE: usize = 1000000000;
 
-// Indices of the area STATE.
-const FRONT: usize = 2;
+// More places than nodes.
+const RING: usize = 13000;
 
-const BACK: usize = 3;
+#[derive(Drop)]
+pub struct Labels {
+    labels: [u32; 12328],
+    waits: [bool; 12328],
+    ring: [u32; 13000],
+    front: usize,
+    back: usize,
+}
 
+// The place of the ring after this one.
 fn after(k: usize) -> usize {
-    if k < 12999 { k + 1 } else { 0 }
+    if k < RING - 1 { k + 1 } else { 0 }
 }
 
-// The node waits at the back of the ring, unless it waits already.
-fn wait(m: &mut Sheet, v: usize) {
-    if read(m, WAITS, v) == 0 {
-        let back = read(m, STATE, BACK);
-        write(m, WAITS, v, 1);
-        write(m, QUEUE, back, v);
-        write(m, STATE, BACK, after(back));
+impl Labels {
+    pub const EMPTY: Labels = Labels {
+        labels: [0; 12328],
+        waits: [false; 12328],
+        ring: [0; 13000],
+        front: 0,
+        back: 0,
+    };
+
+    pub fn label(&self, u: usize) -> usize
+        ensures { result < 4294967296 }
+    {
+        if u < NODES { wide(self.labels[u]) } else { 0 }
     }
-}
 
-// The node has a new label.
-pub fn label(m: &mut Sheet, v: usize, cost: usize) {
-    write(m, LABEL, v, cost);
-    wait(m, v);
-}
-
-// The dart `d` leads from a node of this cost.
-fn correct(m: &mut Sheet, cost: usize, d: usize) {
-    if read(m, REST, d) > 0 {
-        let v = read(m, TO, d);
-        let new = onward(m, cost, d);
-        let old = read(m, LABEL, v);
-        if old == 0 || new < old {
-            label(m, v, new);
+    // The node has a new label, and waits at the back of the ring, unless it waits already.
+    pub fn set(&mut self, v: usize, label: usize) {
+        if v >= NODES {
+            return;
+        }
+        self.labels[v] = narrow(label);
+        if !self.waits[v] && self.back < RING {
+            self.waits[v] = true;
+            self.ring[self.back] = narrow(v);
+            self.back = after(self.back);
         }
     }
-}
 
-// Looks at the darts of the node.
-fn correct_from(m: &mut Sheet, u: usize) {
-    let cost = read(m, LABEL, u);
-    let mut d = read(m, HEAD, u);
-    let mut turns: u64 = 4000;
-    while turns > 0 && d != 0 {
-        correct(m, cost, d);
-        d = read(m, NEXT, d);
-        turns -= 1;
+    // The dart `d` leads from a node of this cost.
+    fn correct(&mut self, network: &Network, costs: &Costs, cost: usize, d: usize) {
+        if network.rest(d) > 0 {
+            let v = network.to(d);
+            let new = costs.onward(network, cost, d);
+            let old = self.label(v);
+            if old == 0 || new < old {
+                self.set(v, new);
+            }
+        }
     }
-}
 
-// Looks at the darts of the node that waits first, and says whether one did.
-fn serve(m: &mut Sheet) -> bool {
-    let front = read(m, STATE, FRONT);
-    if front == read(m, STATE, BACK) {
-        return false;
+    // Looks at the darts of the node.
+    fn correct_from(&mut self, network: &Network, costs: &Costs, u: usize) {
+        let cost = self.label(u);
+        let mut d = network.first(u);
+        for _ in 0..4000 {
+            if d == 0 {
+                break;
+            }
+            self.correct(network, costs, cost, d);
+            d = network.next(d);
+        }
     }
-    let u = read(m, QUEUE, front);
-    write(m, STATE, FRONT, after(front));
-    write(m, WAITS, u, 0);
-    correct_from(m, u);
-    true
-}
 
-fn blot(m: &mut Sheet, u: usize, v: usize) {
-    write(m, LABEL, u, v);
-    write(m, WAITS, u, 0);
-}
-
-// No node has a label, and none waits.
-pub fn blank(m: &mut Sheet) {
-    for u in 0..NODES {
-        blot(m, u, 0);
+    // Takes the node that waits first, if one does.
+    fn serve(&mut self) -> Option<usize> {
+        if self.front == self.back || self.front >= RING {
+            return None;
+        }
+        let u = wide(self.ring[self.front]);
+        self.front = after(self.front);
+        if u < NODES {
+            self.waits[u] = false;
+        }
+        Some(u)
     }
-    write(m, STATE, FRONT, 0);
-    write(m, STATE, BACK, 0);
-}
 
-// Every node has the label BASE, and waits.
-pub fn level(m: &mut Sheet) {
-    for u in 0..NODES {
-        label(m, u, BASE);
+    // No node has a label, and none waits.
+    pub fn clear(&mut self) {
+        self.labels.fill(0);
+        self.waits.fill(false);
+        self.front = 0;
+        self.back = 0;
     }
-}
 
-// Corrects labels until no node waits, or for this many nodes; says whether none waits.
-pub fn settle(m: &mut Sheet, most: u64) -> bool {
-    let mut turns = most;
-    while turns > 0 && serve(m) {
-        turns -= 1;
+    // Every node has the label BASE, and waits.
+    pub fn level(&mut self) {
+        self.clear();
+        for u in 0..NODES {
+            self.set(u, BASE);
+        }
     }
-    turns > 0
+
+    // Corrects labels until no node waits, or for this many nodes; says whether none waits.
+    pub fn settle(&mut self, network: &Network, costs: &Costs, most: u64) -> bool {
+        for _ in 0..most {
+            match self.serve() {
+                None => return true,
+                Some(u) => self.correct_from(network, costs, u),
+            }
+        }
+        false
+    }
 }

@@ -1,43 +1,68 @@
-// Writing bytes one after another. Each function gives the place after what it wrote; past the page nothing is written.
+// Bytes written one after another. Past the end of the page nothing is written.
+ghost use Rattle.std.specs.Prelude.{◌≤◌};
 
-pub type Page = [u8; 262144];
-
-pub fn byte(out: &mut Page, at: usize, b: u8) -> usize {
-    if at < 262144 {
-        out[at] = b;
-        return at + 1;
-    }
-    at
+#[derive(Clone, Copy)]
+pub struct Page {
+    bytes: [u8; 262144],
+    length: usize,
+    ghost fits: { length ≤ 262144 },
 }
 
-pub fn word(out: &mut Page, at: usize, w: &[u8]) -> usize {
-    let mut n = at;
-    for k in 0..w.len() {
-        n = byte(out, n, w[k]);
-    }
-    n
-}
-
-// The last digit of `n`.
-fn digit(out: &mut Page, at: usize, n: usize) -> usize {
-    byte(out, at, (48 + n % 10) as u8)
-}
-
-// The number `n`, of which the four last digits count.
-pub fn decimal(out: &mut Page, at: usize, n: usize) -> usize {
-    let a = if n >= 1000 {
-        digit(out, at, n / 1000)
-    } else {
-        at
+impl Page {
+    pub const EMPTY: Page = Page {
+        bytes: [0; 262144],
+        length: 0,
     };
-    let b = if n >= 100 { digit(out, a, n / 100) } else { a };
-    let c = if n >= 10 { digit(out, b, n / 10) } else { b };
-    digit(out, c, n)
-}
 
-// Two numbers with a space between them.
-pub fn pair(out: &mut Page, at: usize, x: usize, y: usize) -> usize {
-    let a = decimal(out, at, x);
-    let b = byte(out, a, b' ');
-    decimal(out, b, y)
+    // What is written.
+    pub fn text(&self) -> &[u8] {
+        &self.bytes[..self.length]
+    }
+
+    // Keeps the first `length` bytes.
+    pub fn truncate(&mut self, length: usize) {
+        self.length = self.length.min(length);
+    }
+
+    // Puts the byte in place of that at `at`, where one stands there.
+    pub fn put(&mut self, at: usize, b: u8) {
+        if at < self.length {
+            self.bytes[at] = b;
+        }
+    }
+
+    pub fn push(&mut self, b: u8) {
+        if self.length < 262144 {
+            self.bytes[self.length] = b;
+            self.length += 1;
+        }
+    }
+
+    pub fn word(&mut self, word: &[u8]) {
+        for b in word {
+            self.push(*b);
+        }
+    }
+
+    // The last digit of `n`.
+    fn digit(&mut self, n: usize) {
+        self.push((48 + n % 10) as u8);
+    }
+
+    // The number `n`, of which the eight last digits count.
+    pub fn decimal(&mut self, n: usize) {
+        for power in [10000000, 1000000, 100000, 10000, 1000, 100, 10] {
+            if n >= power {
+                self.digit(n / power);
+            }
+        }
+        self.digit(n);
+    }
+
+    // Two numbers with a space between them.
+    pub fn pair(&mut self, x: usize, y: usize) {
+        self.decimal(x);
+        self.push(b' ');
+        self.decimal(y);
+    }
 }

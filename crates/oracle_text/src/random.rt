@@ -1,12 +1,9 @@
 // Jobs at random, from xorshift32 with the shifts 13, 17, 5.
 ghost use Rattle.std.specs.Prelude.{◌<◌, ◌+◌};
 
-use crate::job::{
-    CHOSEN, Job, MISSING, SIDE, fresh, is_pin, is_tile, may_own, number, set_laid, set_mark,
-    set_own, set_state,
-};
+use crate::job::{Array, Job, Mark, Side};
 
-// The next number of the generator; 0 stays 0.
+// The number after this one; 0 stays 0.
 pub fn xorshift(seed: u32) -> u32 {
     let a = seed ^ (seed << 13);
     let b = a ^ (a >> 17);
@@ -17,11 +14,37 @@ pub fn xorshift(seed: u32) -> u32 {
 pub fn below(x: u32, n: usize) -> usize
     ensures { result < n + 1 }
 {
-    if n == 0 {
-        return 0;
+    if n == 0 { 0 } else { x as usize % n }
+}
+
+// The last number drawn.
+#[derive(Clone, Copy)]
+pub struct Generator {
+    pub last: u32,
+}
+
+impl Generator {
+    pub fn new(seed: u32) -> Generator {
+        Generator { last: seed }
     }
-    let r = (x as usize) % n;
-    if r < n { r } else { 0 }
+
+    // The next number.
+    pub fn next(&mut self) -> u32 {
+        self.last = xorshift(self.last);
+        self.last
+    }
+
+    // A number below `n`, which is not 0.
+    pub fn below(&mut self, n: usize) -> usize
+        ensures { result < n + 1 }
+    {
+        below(self.next(), n)
+    }
+
+    // True as often of 1,000 as the rate says.
+    fn happens(&mut self, rate: usize) -> bool {
+        self.below(1000) < rate
+    }
 }
 
 // How often of 1,000 a pin is chosen, one that is not chosen is missing, and a tile is closed.
@@ -32,121 +55,83 @@ pub struct Rates {
     pub closed: usize,
 }
 
-fn happens(x: u32, rate: usize) -> bool {
-    below(x, 1000) < rate
-}
-
-// Draws the pin and the tile at `p`; gives the generator's number afterwards.
-fn draw_cell(job: &mut Job, seed: u32, p: usize, rates: Rates) -> u32 {
-    let a = xorshift(seed);
-    let b = xorshift(a);
-    let c = xorshift(b);
-    if is_pin(job, p / 40, p % 40) {
-        if happens(a, rates.chosen) {
-            set_mark(job, p, CHOSEN);
-        } else if happens(b, rates.missing) {
-            set_mark(job, p, MISSING);
+// Draws the pin and the tile at `p`.
+fn draw_cell(generator: &mut Generator, rates: Rates, job: &mut Job, p: usize) {
+    let chosen = generator.happens(rates.chosen);
+    let missing = generator.happens(rates.missing);
+    let closed = generator.happens(rates.closed);
+    if job.is_pin(p / 40, p % 40) {
+        if chosen {
+            job.set_mark(p, Mark::Chosen);
+        } else if missing {
+            job.set_mark(p, Mark::Missing);
         }
     }
-    if is_tile(job, p / 40, p % 40) && happens(c, rates.closed) {
-        set_state(job, p, 1);
+    if closed && job.is_tile(p / 40, p % 40) {
+        job.set_closed(p, true);
     }
-    c
 }
 
-fn draw_cells(job: &mut Job, seed: u32, rates: Rates) -> u32 {
-    let mut x = seed;
-    for p in 0..1600 {
-        x = draw_cell(job, x, p, rates);
-    }
-    x
-}
-
-// How many numbers there are from 2 to `most`, which is at most 40.
-fn span_of(most: usize) -> usize
-    ensures { result < 40 }
-{
-    if most >= 2 {
-        if most <= 40 {
-            return most - 1;
-        }
-    }
-    39
-}
-
-// The five numbers at random, the rows and columns at most `most`, every pin idle and every tile open.
-fn draw_array(a: u32, b: u32, c: u32, d: u32, e: u32, most: usize) -> Job {
-    let span = span_of(most);
-    let side = 1 + below(c, 8);
-    let diagonal = side + below(d, side + 1);
-    fresh(
-        2 + below(a, span),
-        2 + below(b, span),
+// The five numbers at random, the rows and columns from 2 to `most`, which is from 2 to 40.
+fn draw_array(generator: &mut Generator, most: usize) -> Array {
+    let span = most.clamp(2, 40) - 1;
+    let rows = 2 + generator.below(span);
+    let columns = 2 + generator.below(span);
+    let side = 1 + generator.below(8);
+    let diagonal = side + generator.below(side + 1);
+    let extra = generator.below(diagonal + 1);
+    Array {
+        rows,
+        columns,
         side,
         diagonal,
-        below(e, diagonal + 1),
-    )
+        extra,
+    }
 }
 
-// A job at random, of at most `most` rows and columns; gives the generator's number afterwards.
-pub fn random_job(seed: u32, most: usize, job: &mut Job) -> u32 {
-    let a = xorshift(seed);
-    let b = xorshift(a);
-    let c = xorshift(b);
-    let d = xorshift(c);
-    let e = xorshift(d);
-    *job = draw_array(a, b, c, d, e, most);
-    let f = xorshift(e);
-    let g = xorshift(f);
-    let h = xorshift(g);
+// A job at random, of at most `most` rows and columns.
+pub fn random_job(generator: &mut Generator, most: usize, job: &mut Job) {
+    *job = Job::new(draw_array(generator, most));
     let rates = Rates {
-        chosen: below(f, 1001),
-        missing: below(g, 400),
-        closed: below(h, 700),
+        chosen: generator.below(1001),
+        missing: generator.below(400),
+        closed: generator.below(700),
     };
-    draw_cells(job, h, rates)
-}
-
-// Lays wires on the side with this letter of the tile `p`, as often of 1,000 as the rate says; gives the generator's number afterwards.
-fn draw_side(job: &mut Job, seed: u32, p: usize, letter: u8, rate: usize) -> u32 {
-    let a = xorshift(seed);
-    let b = xorshift(a);
-    if is_tile(job, p / 40, p % 40) && happens(a, rate) {
-        let n = below(b, number(job, SIDE) + 1);
-        set_laid(job, p / 40, p % 40, letter, n);
-    }
-    b
-}
-
-// Lays wires at random on the sides of a job; gives the generator's number afterwards.
-pub fn random_laid(seed: u32, rate: usize, job: &mut Job) -> u32 {
-    let mut x = seed;
     for p in 0..1600 {
-        let a = draw_side(job, x, p, b'n', rate);
-        let b = draw_side(job, a, p, b'e', rate);
-        let c = draw_side(job, b, p, b's', rate);
-        x = draw_side(job, c, p, b'w', rate);
+        draw_cell(generator, rates, job, p);
     }
-    x
 }
 
-// Gives the tile `p` a D of its own, as often of 1,000 as the rate says and not where the number drawn is the job's; gives the generator's number afterwards.
-fn draw_own(job: &mut Job, seed: u32, p: usize, rate: usize) -> u32 {
-    let a = xorshift(seed);
-    let b = xorshift(a);
-    let o = number(job, SIDE);
-    let v = o + below(b, o + 1);
-    if is_tile(job, p / 40, p % 40) && happens(a, rate) && may_own(job, v) {
-        set_own(job, p, v);
+// Lays wires on the side of the tile `p`, as often of 1,000 as the rate says.
+fn draw_side(generator: &mut Generator, rate: usize, job: &mut Job, p: usize, side: Side) {
+    let laid = generator.happens(rate);
+    let n = generator.below(job.side() + 1);
+    if laid && job.is_tile(p / 40, p % 40) {
+        job.set_laid(p / 40, p % 40, side, n);
     }
-    b
 }
 
-// Gives tiles of a job at random a D of their own; gives the generator's number afterwards.
-pub fn random_own(seed: u32, rate: usize, job: &mut Job) -> u32 {
-    let mut x = seed;
+// Lays wires at random on the sides of a job.
+pub fn random_laid(generator: &mut Generator, rate: usize, job: &mut Job) {
     for p in 0..1600 {
-        x = draw_own(job, x, p, rate);
+        for side in Side::ALL {
+            draw_side(generator, rate, job, p, side);
+        }
     }
-    x
+}
+
+// Gives the tile `p` a D of its own, as often of 1,000 as the rate says and not where the number drawn is the job's.
+fn draw_own(generator: &mut Generator, rate: usize, job: &mut Job, p: usize) {
+    let given = generator.happens(rate);
+    let own = job.side() + generator.below(job.side() + 1);
+    if given && job.is_tile(p / 40, p % 40) && job.may_own(own) {
+        job.set_own(p, Some(own));
+    }
+}
+
+// Gives tiles of a job at random a D of their own.
+pub fn random_own(generator: &mut Generator, rate: usize, job: &mut Job) {
+    for p in 0..1600 {
+        draw_own(generator, rate, job, p);
+    }
 }

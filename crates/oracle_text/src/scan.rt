@@ -2,27 +2,35 @@
 // one letter, any other byte for itself.
 ghost use Rattle.std.specs.Prelude.{◌<◌};
 
-// What a template found: whether it fits, where it ends, and the values of its numbers and letters in order.
+// What a template found: where it ends, and the values of its numbers and letters in order.
 #[derive(Clone, Copy)]
 pub struct Found {
-    pub fits: bool,
     pub at: usize,
-    pub count: usize,
-    pub values: [u16; 5],
+    count: usize,
+    values: [u16; 5],
 }
 
-#[derive(Clone, Copy)]
-struct Digits {
-    at: usize,
-    some: bool,
-    value: u16,
+impl Found {
+    // The value `k`, 0 where there is none.
+    pub fn value(&self, k: usize) -> usize
+        ensures { result < 65536 }
+    {
+        if k < 5 { wide(self.values[k]) } else { 0 }
+    }
+
+    // The same with one value more, which ends at `at`; the template has no more than five.
+    fn with(mut self, value: u16, at: usize) -> Option<Found> {
+        if self.count >= 5 {
+            return None;
+        }
+        self.values[self.count] = value;
+        self.count += 1;
+        self.at = at;
+        Some(self)
+    }
 }
 
-fn wide(x: u8) -> u16 {
-    x as u16
-}
-
-fn wider(x: u16) -> usize
+fn wide(x: u16) -> usize
     ensures { result < 65536 }
 {
     x as usize
@@ -33,117 +41,52 @@ pub fn byte_at(text: &[u8], at: usize) -> u8 {
     if at < text.len() { text[at] } else { 0 }
 }
 
-// One digit more, where there is one and no zero leads.
-fn digit(text: &[u8], d: Digits) -> Digits {
-    let at = d.at;
-    let b = byte_at(text, at);
-    let leads = d.some && d.value == 0;
-    if leads || b < 48 || b > 57 {
-        return d;
-    }
-    if at < text.len() {
-        if d.value < 1000 {
-            if b >= 48 {
-                return Digits {
-                    at: at + 1,
-                    some: true,
-                    value: 10 * d.value + (b - 48) as u16,
-                };
-            }
+// The number at `at` and the place after it, where there is one.
+fn number(text: &[u8], at: usize) -> Option<(u16, usize)> {
+    let mut value: u16 = 0;
+    let mut end = at;
+    for _ in 0..4 {
+        let leads = end > at && value == 0;
+        if leads || end >= text.len() || !text[end].is_ascii_digit() || value > 999 {
+            break;
         }
+        value = 10 * value + u16::from(text[end] - b'0');
+        end += 1;
     }
-    d
+    if end > at { Some((value, end)) } else { None }
 }
 
-// The number at `at`, of at most four digits.
-fn number(text: &[u8], at: usize) -> Digits {
-    let none = Digits {
-        at: at,
-        some: false,
-        value: 0,
-    };
-    let one = digit(text, none);
-    let two = digit(text, one);
-    let three = digit(text, two);
-    digit(text, three)
-}
-
-// `f` with one value more, and the place where it ends.
-fn with_value(f: Found, at: usize, value: u16) -> Found {
-    let n = f.count;
-    let mut values = f.values;
-    if n < 5 {
-        values[n] = value;
-        return Found {
-            fits: f.fits,
-            at: at,
-            count: n + 1,
-            values: values,
-        };
-    }
-    f
-}
-
-fn without(f: Found) -> Found {
-    let values = f.values;
-    Found {
-        fits: false,
-        at: f.at,
-        count: f.count,
-        values: values,
-    }
-}
-
-// Goes on by one byte `t` of the template.
-fn token(text: &[u8], f: Found, t: u8) -> Found {
-    let at = f.at;
+// Goes on by one byte `t` of the template, where the text goes on with it.
+fn token(text: &[u8], found: Found, t: u8) -> Option<Found> {
+    let at = found.at;
     if at >= text.len() {
-        return without(f);
+        return None;
     }
-    let b = text[at];
     if t == b'#' {
-        let d = number(text, at);
-        return if d.some {
-            with_value(f, d.at, d.value)
-        } else {
-            without(f)
-        };
+        let (value, end) = number(text, at)?;
+        return found.with(value, end);
     }
     if t == b'@' {
-        return with_value(f, at + 1, wide(b));
+        return found.with(u16::from(text[at]), at + 1);
     }
-    if t == b {
-        let values = f.values;
-        return Found {
-            fits: f.fits,
+    if t == text[at] {
+        return Some(Found {
             at: at + 1,
-            count: f.count,
-            values: values,
-        };
+            ..found
+        });
     }
-    without(f)
+    None
 }
 
 // Matches the text from `at` on against the whole template.
-pub fn scan(text: &[u8], at: usize, template: &[u8]) -> Found {
-    let mut f = Found {
-        fits: true,
-        at: at,
+pub fn scan(text: &[u8], at: usize, template: &[u8]) -> Option<Found> {
+    let mut found = Found {
+        at,
         count: 0,
-        values: [0u16; 5],
+        values: [0; 5],
     };
-    for k in 0..template.len() {
-        if f.fits {
-            f = token(text, f, template[k]);
-        }
+    for t in template {
+        found = token(text, found, *t)?;
     }
-    f
-}
-
-// The value `k` of what was found, 0 where there is none.
-pub fn value(f: Found, k: usize) -> usize
-    ensures { result < 65536 }
-{
-    let values = f.values;
-    if k < 5 { wider(values[k]) } else { 0 }
+    Some(found)
 }

@@ -8,152 +8,150 @@ mod vectors; // the vectors' lines
 
 use draws::draw;
 use files::load;
-use plain::{Came, equal, plain, refused};
-use rules::argument::{Argument, read_number};
-use rules::{Answer, refusal_of};
-use std::io;
+use oracle_text::random::Generator;
+use plain::{Figures, Measures, Refusal, plain};
+use rules::argument::read_number;
 use std::rt::Files;
-use vectors::{Line, blank, expected, fed};
+use std::{io, str};
+use vectors::Line;
 
-// What is counted.
-const VECTORS: usize = 0;
-
-const ARGUMENTS: usize = 1;
-
-const ACCEPTED: usize = 2;
-
-const REFUSED_9: usize = 3;
-
-const REFUSED_10: usize = 4;
-
-const WRONG: usize = 5;
-
-// Counts one more of what `k` says.
-fn tally(counts: &mut [u64; 6], k: usize) {
-    if k < 6 {
-        counts[k] = std::num::wrapping_add_u64(counts[k], 1);
-    }
+// What is counted: vectors and arguments that come out right, and random measures by what they come to.
+#[derive(Clone, Copy)]
+enum Kind {
+    Vector,
+    Argument,
+    Accepted,
+    OutOfRange,
+    NoCapacity,
 }
 
-// Counts `k` where it is right, and else that something is wrong.
-fn tally_right(counts: &mut [u64; 6], right: bool, k: usize) {
-    tally(counts, if right { k } else { WRONG });
+// How many of each kind came out right, and how many of all are wrong.
+#[derive(Drop)]
+struct Counts {
+    vectors: u64,
+    arguments: u64,
+    accepted: u64,
+    out_of_range: u64,
+    no_capacity: u64,
+    wrong: u64,
 }
 
 // What `rules` answers.
-fn answered(p: u64, d: u64, w: u64, s: u64) -> Came {
-    let answer = rules::rules(p, d, w, s);
-    let Answer::Gives(f) = answer else {
-        return refused(refusal_of(answer));
-    };
-    Came {
-        code: 0,
-        o: f.orthogonal,
-        o_rest: f.remainder,
-        k: f.count,
-        k_rest: f.left,
-        diagonal: f.diagonal,
+fn answered(m: Measures) -> Result<Figures, u64> {
+    let answer = rules::rules(m.p, m.d, m.w, m.s);
+    match answer {
+        Ok(f) => Ok(Figures {
+            o: f.orthogonal,
+            o_rest: f.remainder,
+            k: f.count,
+            k_rest: f.left,
+            diagonal: f.diagonal,
+        }),
+        Err(_) => Err(rules::refusal_of(answer)),
+    }
+}
+
+// The same with the document's number of a refusal.
+fn numbered(second: Result<Figures, Refusal>) -> Result<Figures, u64> {
+    match second {
+        Ok(figures) => Ok(figures),
+        Err(refusal) => Err(refusal.number()),
     }
 }
 
 // `rules` and the second computation say what the line says.
-fn vector(counts: &mut [u64; 6], line: Line) {
-    let n = line.numbers;
-    let want = expected(line);
-    let first = answered(n[0], n[1], n[2], n[3]);
-    let second = plain(n[0], n[1], n[2], n[3]);
-    tally_right(counts, equal(first, want) & equal(second, want), VECTORS);
+fn agrees(text: &str) -> bool {
+    let Some(line) = Line::read(text) else {
+        return false;
+    };
+    let measures = line.measures();
+    line.expected().is_some_and(|expected| answered(measures) == expected
+        && numbered(plain(measures)) == expected)
 }
 
-// Each line of the text.
-fn lines(counts: &mut [u64; 6], text: &[u8]) {
-    let mut line = blank();
-    for i in 0..text.len() {
-        line = fed(line, text[i]);
-        if text[i] == b'\n' {
-            vector(counts, line);
-            line = blank();
+impl Counts {
+    // Counts the kind where it is right, and else that something is wrong.
+    fn count(&mut self, right: bool, kind: Kind) {
+        let n = match kind {
+            _ if !right => &mut self.wrong,
+            Kind::Vector => &mut self.vectors,
+            Kind::Argument => &mut self.arguments,
+            Kind::Accepted => &mut self.accepted,
+            Kind::OutOfRange => &mut self.out_of_range,
+            Kind::NoCapacity => &mut self.no_capacity,
+        };
+        *n = n.wrapping_add(1);
+    }
+
+    // The vectors of the file.
+    fn vectors(&mut self, rt: &(impl Files + Eprint)) {
+        let mut buffer = [0u8; 4096];
+        let text = str::from_utf8(load(rt, b"rules.txt", &mut buffer)).unwrap_or("");
+        for line in text.lines() {
+            self.count(agrees(line), Kind::Vector);
+        }
+    }
+
+    // The argument is this number, or none.
+    fn argument(&mut self, text: &[u8], expected: Option<u64>) {
+        self.count(read_number(text) == expected, Kind::Argument);
+    }
+
+    fn arguments(&mut self) {
+        self.argument(b"800", Some(800));
+        self.argument(b"0", Some(0));
+        self.argument(b"000075", Some(75));
+        self.argument(b"100000", Some(100000));
+        self.argument(b"100001", Some(100001));
+        self.argument(b"100002", Some(100002));
+        self.argument(b"18446744073709551617", Some(10000000000));
+        self.argument(b"", None);
+        self.argument(b"-5", None);
+        self.argument(b"7.5", None);
+        self.argument(b"12a", None);
+        self.argument(b" 12", None);
+        self.argument(b"/", None);
+        self.argument(b":", None);
+    }
+
+    // Measures on which the two computations have to agree.
+    fn random(&mut self, measures: Measures) {
+        let second = plain(measures);
+        let kind = match second {
+            Ok(_) => Kind::Accepted,
+            Err(Refusal::OutOfRange) => Kind::OutOfRange,
+            Err(Refusal::NoCapacity) => Kind::NoCapacity,
+        };
+        self.count(answered(measures) == numbered(second), kind);
+    }
+
+    fn randoms(&mut self) {
+        let mut generator = Generator::new(2463534242);
+        for _ in 0..5000 {
+            self.random(draw(&mut generator));
         }
     }
 }
 
-// The vectors of the file.
-fn file(rt: &(impl Files + Eprint), counts: &mut [u64; 6]) {
-    let mut text = [0u8; 4096];
-    let n = load(rt, b"rules.txt", &mut text);
-    lines(counts, &text[..n]);
-}
-
-// The number of a text, 200,000 for none.
-fn read(text: &[u8]) -> u64 {
-    let Argument::Number(n) = read_number(text) else {
-        return 200000;
-    };
-    n
-}
-
-fn argument(counts: &mut [u64; 6], text: &[u8], n: u64) {
-    tally_right(counts, read(text) == n, ARGUMENTS);
-}
-
-fn arguments(counts: &mut [u64; 6]) {
-    argument(counts, b"800", 800);
-    argument(counts, b"0", 0);
-    argument(counts, b"000075", 75);
-    argument(counts, b"100000", 100000);
-    argument(counts, b"100001", 100001);
-    argument(counts, b"100002", 100002);
-    argument(counts, b"18446744073709551617", 10000000000);
-    argument(counts, b"", 200000);
-    argument(counts, b"-5", 200000);
-    argument(counts, b"7.5", 200000);
-    argument(counts, b"12a", 200000);
-    argument(counts, b" 12", 200000);
-    argument(counts, b"/", 200000);
-    argument(counts, b":", 200000);
-}
-
-// What is counted of an answer.
-fn kind_of(came: Came) -> usize {
-    if came.code == 0 {
-        return ACCEPTED;
-    }
-    if came.code == 9 {
-        REFUSED_9
-    } else {
-        REFUSED_10
-    }
-}
-
-// Random measures; gives the generator's number afterwards.
-fn random(counts: &mut [u64; 6], seed: u32) -> u32 {
-    let m = draw(seed);
-    let first = answered(m.p, m.d, m.w, m.s);
-    let second = plain(m.p, m.d, m.w, m.s);
-    tally_right(counts, equal(first, second), kind_of(first));
-    m.seed
-}
-
-fn randoms(counts: &mut [u64; 6]) {
-    let mut seed = 2463534242;
-    for i in 0..5000usize {
-        seed = random(counts, seed);
-    }
-}
-
 fn main(rt: HostRuntime) -> io::Result<()> {
-    let mut counts = [0u64; 6];
-    file(&rt, &mut counts);
-    arguments(&mut counts);
-    randoms(&mut counts);
-    print!(rt; "vectors {}", counts[VECTORS])?;
-    print!(rt; " arguments {}", counts[ARGUMENTS])?;
-    print!(rt; " accepted {}", counts[ACCEPTED])?;
-    print!(rt; " refused 9 {}", counts[REFUSED_9])?;
-    print!(rt; " refused 10 {}", counts[REFUSED_10])?;
-    if counts[WRONG] == 0 {
+    let mut counts = Counts {
+        vectors: 0,
+        arguments: 0,
+        accepted: 0,
+        out_of_range: 0,
+        no_capacity: 0,
+        wrong: 0,
+    };
+    counts.vectors(&rt);
+    counts.arguments();
+    counts.randoms();
+    print!(rt; "vectors {} arguments {}", counts.vectors, counts.arguments)?;
+    print!(rt; " accepted {}", counts.accepted)?;
+    print!(rt; " refused 9 {}", counts.out_of_range)?;
+    print!(rt; " refused 10 {}", counts.no_capacity)?;
+    if counts.wrong == 0 {
         println!(rt; " ok")
     } else {
-        println!(rt; " wrong {}", counts[WRONG])
+        println!(rt; " wrong {}", counts.wrong)
     }
 }

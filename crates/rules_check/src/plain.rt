@@ -1,10 +1,18 @@
 // The second computation: quotients by taking away, the diagonal count by trying 1, 2, 3 and so on. It shares nothing with the crate `rules`.
 ghost use Rattle.std.specs.Prelude.{◌<◌, ◌≤◌};
 
-// What a call came to: the refusal's number, or 0 and the five numbers.
+// The pitch, a pad, a wire and the spacing.
 #[derive(Clone, Copy)]
-pub struct Came {
-    pub code: u64,
+pub struct Measures {
+    pub p: u64,
+    pub d: u64,
+    pub w: u64,
+    pub s: u64,
+}
+
+// The five numbers.
+#[derive(Clone, Copy, PartialEq, Eq)]
+pub struct Figures {
     pub o: u64,
     pub o_rest: u64,
     pub k: u64,
@@ -12,24 +20,20 @@ pub struct Came {
     pub diagonal: u64,
 }
 
-pub fn refused(code: u64) -> Came {
-    Came {
-        code,
-        o: 0,
-        o_rest: 0,
-        k: 0,
-        k_rest: 0,
-        diagonal: 0,
-    }
+#[derive(Clone, Copy, PartialEq, Eq)]
+pub enum Refusal {
+    OutOfRange,
+    NoCapacity,
 }
 
-pub fn equal(a: Came, b: Came) -> bool {
-    (a.code == b.code)
-        & (a.o == b.o)
-        & (a.o_rest == b.o_rest)
-        & (a.k == b.k)
-        & (a.k_rest == b.k_rest)
-        & (a.diagonal == b.diagonal)
+impl Refusal {
+    // The document's number.
+    pub fn number(self) -> u64 {
+        match self {
+            Refusal::OutOfRange => 9,
+            Refusal::NoCapacity => 10,
+        }
+    }
 }
 
 // How often something was taken, and what is left.
@@ -39,20 +43,15 @@ struct Counted {
     left: u64,
 }
 
-// a less b, 0 where b is larger.
-fn minus(a: u64, b: u64) -> u64 {
-    if a < b { 0 } else { a - b }
-}
-
 // How often `each` can be taken from `room`.
 fn taken(room: u64, each: u64) -> Counted
     requires { 0 < each }
 {
-    let mut n = 0;
+    let mut n: u64 = 0;
     let mut left = room;
     while each <= left {
         left -= each;
-        n = std::num::wrapping_add_u64(n, 1);
+        n = n.wrapping_add(1);
     }
     Counted { n, left }
 }
@@ -61,59 +60,48 @@ fn taken(room: u64, each: u64) -> Counted
 fn tried(ends: u64, each: u64, whole: u64) -> Counted
     requires { (ends ≤ 200000) × (0 < each) × (each ≤ 200000) }
 {
-    let mut n = 0;
+    let mut n: u64 = 0;
     let mut space = ends + each;
-    let mut left = minus(whole, ends * ends);
+    let mut left = whole.saturating_sub(ends * ends);
     while space < 200000 {
         if whole < space * space {
-            return Counted { n, left };
+            break;
         }
         left = whole - space * space;
         space += each;
-        n = std::num::wrapping_add_u64(n, 1);
+        n = n.wrapping_add(1);
     }
     Counted { n, left }
 }
 
-// 2×p×p.
-fn whole(p: u64) -> u64
-    requires { p ≤ 100000 }
+// The five numbers for measures in range.
+fn inside(m: Measures) -> Result<Figures, Refusal>
+    requires { (m.p ≤ 100000) × (m.d ≤ 100000) × (0 < m.w) × (m.w ≤ 100000) × (m.s ≤ 100000) }
 {
-    2 * p * p
-}
-
-// The five numbers for measures in range, or 10.
-fn inside(p: u64, d: u64, w: u64, s: u64) -> Came
-    requires { (p ≤ 100000) × (d ≤ 100000) × (0 < w) × (w ≤ 100000) × (s ≤ 100000) }
-{
-    if p < d + s {
-        return refused(10);
+    if m.p < m.d + m.s {
+        return Err(Refusal::NoCapacity);
     }
-    let o = taken(p - d - s, w + s);
-    if o.n < 1 {
-        return refused(10);
+    let o = taken(m.p - m.d - m.s, m.w + m.s);
+    if o.n < 1 || o.n > 8 {
+        return Err(Refusal::NoCapacity);
     }
-    if o.n > 8 {
-        return refused(10);
-    }
-    let k = tried(s + d, w + s, whole(p));
-    Came {
-        code: 0,
+    let k = tried(m.s + m.d, m.w + m.s, 2 * m.p * m.p);
+    Ok(Figures {
         o: o.n,
         o_rest: o.left,
         k: k.n,
         k_rest: k.left,
-        diagonal: if k.n < 2 * o.n { k.n } else { 2 * o.n },
-    }
+        diagonal: k.n.min(2 * o.n),
+    })
 }
 
 // What the four numbers come to.
-pub fn plain(p: u64, d: u64, w: u64, s: u64) -> Came {
-    if p < 1 || d < 1 || w < 1 || s < 1 {
-        return refused(9);
+pub fn plain(m: Measures) -> Result<Figures, Refusal> {
+    if m.p < 1 || m.d < 1 || m.w < 1 || m.s < 1 {
+        return Err(Refusal::OutOfRange);
     }
-    if p > 100000 || d > 100000 || w > 100000 || s > 100000 {
-        return refused(9);
+    if m.p > 100000 || m.d > 100000 || m.w > 100000 || m.s > 100000 {
+        return Err(Refusal::OutOfRange);
     }
-    inside(p, d, w, s)
+    inside(m)
 }

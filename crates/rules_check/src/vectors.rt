@@ -1,86 +1,60 @@
-// The vectors of data/rules.txt, a line each: the measures, then the five numbers, or the word `refused` and a number.
-use crate::plain::{Came, refused};
+// The vectors of data/rules.txt, a line each: the measures, an arrow, then the five numbers, or the word `refused` and a number.
+use crate::plain::{Figures, Measures};
 
-// A line so far: its numbers, the number that is being read, whether there is one, and whether a letter stood there.
+// The numbers of a line, and whether the word `refused` stands in it.
 #[derive(Clone, Copy)]
 pub struct Line {
-    pub numbers: [u64; 9],
-    pub count: usize,
-    pub current: u64,
-    pub open: bool,
-    pub letters: bool,
+    numbers: [u64; 9],
+    count: usize,
+    refused: bool,
 }
 
-pub fn blank() -> Line {
-    Line {
-        numbers: [0; 9],
-        count: 0,
-        current: 0,
-        open: false,
-        letters: false,
-    }
-}
-
-// The line with one digit more.
-fn digit(line: Line, b: u8) -> Line {
-    let mut l = line;
-    if l.current < 1000000000000 {
-        l.current = 10 * l.current + (b % 16) as u64;
-    }
-    l.open = true;
-    l
-}
-
-// The line with its open number closed.
-fn closed(line: Line) -> Line {
-    let mut l = line;
-    let i = l.count;
-    let n = l.current;
-    if !l.open {
-        return l;
-    }
-    if i < 9 {
-        l.numbers[i] = n;
-        l.count = i + 1;
-    }
-    l.current = 0;
-    l.open = false;
-    l
-}
-
-// The line with one byte more.
-pub fn fed(line: Line, b: u8) -> Line {
-    if b >= b'0' {
-        if b <= b'9' {
-            return digit(line, b);
-        }
-    }
-    let mut l = closed(line);
-    if b >= b'a' {
-        l.letters = true;
-    }
-    l
-}
-
-// What a whole line says that its measures come to; refusal 0 where it is no line of a vector.
-pub fn expected(line: Line) -> Came {
-    let n = line.numbers;
-    if line.letters {
-        return if line.count == 5 {
-            refused(n[4])
-        } else {
-            refused(0)
+impl Line {
+    // The line of this text, if each of its words is an arrow, `refused` or a number.
+    pub fn read(text: &str) -> Option<Line> {
+        let mut line = Line {
+            numbers: [0; 9],
+            count: 0,
+            refused: false,
         };
+        for word in text.split_ascii_whitespace() {
+            match word {
+                "->" => {}
+                "refused" => line.refused = true,
+                _ => line.push(word.parse().ok()?)?,
+            }
+        }
+        Some(line)
     }
-    if line.count != 9 {
-        return refused(0);
+
+    // One number more, of nine at most.
+    fn push(&mut self, n: u64) -> Option<()> {
+        if self.count >= 9 {
+            return None;
+        }
+        self.numbers[self.count] = n;
+        self.count += 1;
+        Some(())
     }
-    Came {
-        code: 0,
-        o: n[4],
-        o_rest: n[5],
-        k: n[6],
-        k_rest: n[7],
-        diagonal: n[8],
+
+    pub fn measures(&self) -> Measures {
+        let [p, d, w, s, ..] = self.numbers;
+        Measures { p, d, w, s }
+    }
+
+    // What the line says that its measures come to, if it is that of a vector.
+    pub fn expected(&self) -> Option<Result<Figures, u64>> {
+        let [_, _, _, _, o, o_rest, k, k_rest, diagonal] = self.numbers;
+        match (self.refused, self.count, o) {
+            (true, 5, number) => Some(Err(number)),
+            (false, 9, _) => Some(Ok(Figures {
+                o,
+                o_rest,
+                k,
+                k_rest,
+                diagonal,
+            })),
+            _ => None,
+        }
     }
 }

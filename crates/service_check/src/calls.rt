@@ -9,25 +9,24 @@ use crate::expect::{cell, expect_part, expect_shortfall, expect_step, expect_wri
 use crate::kept::Kept;
 use crate::lookup::put_expected;
 use check::same;
-use compare::lent::{list_on, shortfall_on, step_on, write_on};
-use compare::listed::{Page, held, listed, only_wired, shown};
-use compare::said::{ADDED, ALL_WIRED, DONE, LACKS, LISTS, REFUSED, Said, put_listed};
+use compare::lent::{list_on, new_on, shortfall_on, step_on, write_on};
+use compare::listed::{Page, listed, only_wired, shown};
+use compare::said::{ADDED, ALL_WIRED, Answer, DONE, LACKS, LISTS, REFUSED, Said, put_listed};
 use compare::shortened::{Found, hold_shortened};
 use judge::listing::check_listing;
-use judge::walk::LEGAL;
 use oracle::near::shortfall;
 use oracle_length::least::least_length;
-use oracle_text::job::{Job, fresh};
+use oracle_text::job::{Array, Job};
+use oracle_text::page::Page as Sheet;
 use oracle_text::random::{below, xorshift};
 use oracle_text::text::write_text;
-use service::Answer;
-use verdict::bytes::{Tally, all, begins, first, hold, line, split_at};
+use verdict::bytes::{Tally, all, begins, first, line, split_at};
 use verdict::record::{BEYOND, Record, count_direct, count_wires, hold_added};
 
 // The scratch is cleared by a call that is accepted, and else as it was.
 fn hold_scratch(rt: &impl Print, tally: &mut Tally, scratch: &[u8; 65600], kind: usize) {
     let zeros = if kind == REFUSED { 0 } else { 65536 };
-    hold(rt, tally, split_at(scratch, zeros, 0, 201), b"the scratch");
+    tally.hold(rt, split_at(scratch, zeros, 0, 201), b"the scratch");
 }
 
 // The record after a step that answers so.
@@ -84,9 +83,9 @@ fn hold_near(
     said: Said,
 ) {
     if said.kind == LACKS && said.number != 0 {
-        hold(rt, tally, begins(output, near, 90), b"the near side");
+        tally.hold(rt, begins(output, near, 90), b"the near side");
     } else {
-        hold(rt, tally, all(output, 90), b"the output is untouched");
+        tally.hold(rt, all(output, 90), b"the output is untouched");
     }
 }
 
@@ -119,17 +118,12 @@ fn hold_part(
     p: usize,
     index: usize,
 ) {
-    let mut mine = [0u8; 262144];
-    let mut wanted = [0u8; 262144];
+    let mut mine = Sheet::EMPTY;
+    let mut wanted = Sheet::EMPTY;
     let n = listed(rec, page);
-    let a = put_listed(&mut mine, 0, answer);
-    let b = put_expected(&mut wanted, rec, shown(page, n), p, index);
-    hold(
-        rt,
-        tally,
-        same(held(&mine, a), held(&wanted, b)),
-        b"the part",
-    );
+    put_listed(&mut mine, answer);
+    put_expected(&mut wanted, rec, shown(page, n), p, index);
+    tally.hold(rt, same(mine.text(), wanted.text()), b"the part");
 }
 
 fn call_part(
@@ -142,7 +136,7 @@ fn call_part(
 ) -> u32 {
     let at = pick_spot(seed, job);
     let index = pick(at.next, 0, 9);
-    let answer = service::part(first(rec, at.n), at.row, at.column, index);
+    let answer = Answer::from(service::part(first(rec, at.n), at.row, at.column, index));
     let expected = expect_part(job, at.n, at.row, at.column);
     hold_answer(rt, tally, answer, expected, b"part answers");
     if expected.kind == LISTS {
@@ -154,30 +148,25 @@ fn call_part(
 // The output has the text, and is untouched where the call is refused.
 fn hold_text(rt: &impl Print, tally: &mut Tally, output: &[u8; 66000], text: &[u8], refused: bool) {
     if refused {
-        hold(rt, tally, all(output, 90), b"the output is untouched");
+        tally.hold(rt, all(output, 90), b"the output is untouched");
     } else {
-        hold(rt, tally, begins(output, text, 90), b"the text");
+        tally.hold(rt, begins(output, text, 90), b"the text");
     }
 }
 
 fn call_write(rt: &impl Print, tally: &mut Tally, rec: &Record, job: &Job, seed: u32) -> u32 {
     let a = xorshift(seed);
     let b = xorshift(a);
-    let mut sheet = [0u8; 262144];
+    let mut sheet = Sheet::EMPTY;
     let mut output = [90u8; 66000];
-    let length = write_text(job, &mut sheet);
+    write_text(job, &mut sheet);
+    let length = sheet.text().len();
     let n = pick_length(a, 32768, 32800);
     let m = pick_length(b, length, 66000);
     let answer = write_on(first(rec, n), &mut output, m);
     let expected = expect_write(n, m, length);
     hold_answer(rt, tally, answer, expected, b"write text answers");
-    hold_text(
-        rt,
-        tally,
-        &output,
-        held(&sheet, length),
-        expected.kind == REFUSED,
-    );
+    hold_text(rt, tally, &output, sheet.text(), expected.kind == REFUSED);
     b
 }
 
@@ -194,8 +183,8 @@ fn call_listing(
     let b = xorshift(a);
     let mut output = [90u8; 66000];
     let length = listed(rec, page);
-    let w = check_listing(&only_wired(rec, job), shown(page, length));
-    hold(rt, tally, w.fault == LEGAL, b"the listing is legal");
+    let checked = check_listing(&only_wired(rec, job), shown(page, length));
+    tally.hold(rt, checked.is_ok(), b"the listing is legal");
     let n = pick_length(a, 32768, 32800);
     let m = pick_length(b, length, 66000);
     let answer = list_on(first(rec, n), &mut output, m);
@@ -302,7 +291,7 @@ fn kind_of(x: u32, k: usize) -> usize {
 }
 
 // Counts the call: whether some wire of the record leaves its pin directly afterwards, or none.
-fn note(direct: &mut Tally, rec: &Record) {
+fn note(direct: &mut [u64; 2], rec: &Record) {
     if count_direct(rec) > 0 {
         direct[0] = std::num::wrapping_add_u64(direct[0], 1);
     } else {
@@ -315,7 +304,7 @@ fn draw(
     rt: &impl Print,
     tally: &mut Tally,
     found: &mut Found,
-    direct: &mut Tally,
+    direct: &mut [u64; 2],
     kept: &mut Kept,
     rec: &mut Record,
     job: &mut Job,
@@ -324,9 +313,9 @@ fn draw(
     k: usize,
 ) -> u32 {
     let x = xorshift(seed);
-    let wrong = tally[1];
+    let wrong = tally.wrong();
     let next = call(rt, tally, found, kept, rec, job, page, x, kind_of(x, k));
-    if tally[1] != wrong {
+    if tally.wrong() != wrong {
         line(rt, b"in the random call", k as u64);
     }
     note(direct, rec);
@@ -337,7 +326,7 @@ fn draw_all(
     rt: &impl Print,
     tally: &mut Tally,
     found: &mut Found,
-    direct: &mut Tally,
+    direct: &mut [u64; 2],
     kept: &mut Kept,
     rec: &mut Record,
     job: &mut Job,
@@ -355,19 +344,20 @@ pub fn calls(
     rt: &impl Print,
     tally: &mut Tally,
     found: &mut Found,
-    direct: &mut Tally,
+    direct: &mut [u64; 2],
     kept: &mut Kept,
 ) {
     let mut page = [0u8; 1048576];
     let mut rec = [BEYOND; 32800];
-    let mut job = fresh(4, 5, 2, 3, 1);
-    let answer = service::new(&mut rec, 4, 5, 2, 3, 1);
-    hold(
-        rt,
-        tally,
-        compare::said::is(answer, DONE, 0),
-        b"the first new",
-    );
+    let mut job = Job::new(Array {
+        rows: 4,
+        columns: 5,
+        side: 2,
+        diagonal: 3,
+        extra: 1,
+    });
+    let answer = new_on(&mut rec, 32800, 4, 5, 2, 3, 1);
+    tally.hold(rt, compare::said::is(answer, DONE, 0), b"the first new");
     draw_all(
         rt, tally, found, direct, kept, &mut rec, &mut job, &mut page,
     );

@@ -1,6 +1,6 @@
 // Arguments at random: mostly such as fit, and some far out.
-use oracle_text::job::{COLUMNS, Job, ROWS, number};
-use oracle_text::page::{Page as Sheet, byte};
+use oracle_text::job::Job;
+use oracle_text::page::Page as Sheet;
 use oracle_text::random::{below, xorshift};
 
 // Numbers that fit nothing, and some that only just do.
@@ -70,8 +70,8 @@ pub fn pick_spot(seed: u32, job: &Job) -> Spot {
     let b = xorshift(a);
     let c = xorshift(b);
     let n = pick_length(a, 32768, 32800);
-    let row = pick(b, 0, number(job, ROWS) + 1);
-    let column = pick(c, 0, number(job, COLUMNS) + 1);
+    let row = pick(b, 0, job.rows() + 1);
+    let column = pick(c, 0, job.columns() + 1);
     let next = xorshift(c);
     Spot {
         n,
@@ -89,15 +89,13 @@ fn letter(x: u32) -> u8 {
     if k < 16 { LETTERS[k] } else { 0 }
 }
 
-// The text of `n` bytes, cut, lengthened or changed in a byte, or left alone; gives its length.
-pub fn alter(sheet: &mut Sheet, n: usize, x: u32) -> usize {
+// The text, cut, lengthened or changed in a byte, or left alone.
+pub fn alter(sheet: &mut Sheet, x: u32) {
+    let n = sheet.text().len();
     match below(x, 8) {
-        0 => below(x / 8, n),
-        1 => byte(sheet, n, letter(x / 8)),
-        2 | 3 => {
-            byte(sheet, below(x / 8, n), letter(x / 65536));
-            n
-        }
-        _ => n,
+        0 => sheet.truncate(below(x / 8, n)),
+        1 => sheet.push(letter(x / 8)),
+        2 | 3 => sheet.put(below(x / 8, n), letter(x / 65536)),
+        _ => {}
     }
 }

@@ -2,8 +2,8 @@
 use crate::examples::{read_into, steps};
 use check::same;
 use compare::listed::{Page, listed, shown};
-use compare::said::{ADDED, ALL_WIRED, DONE, is};
-use verdict::bytes::{Tally, hold, rest};
+use compare::said::{ADDED, ALL_WIRED, Answer, DONE, is};
+use verdict::bytes::{Tally, rest};
 
 type Bytes = [u8; 32768];
 
@@ -45,7 +45,7 @@ const NONE: [u8; 32] = *b"(wires 0)\n(length 0)\n(mean 0 0)\n";
 fn leaves(rt: &impl Print, tally: &mut Tally, rec: &Bytes, wires: &[u8]) {
     let mut page: Page = [0u8; 1048576];
     let n = listed(rec, &mut page);
-    hold(rt, tally, same(shown(&page, n), wires), wires);
+    tally.hold(rt, same(shown(&page, n), wires), wires);
 }
 
 // An edit of a pin leaves these wires.
@@ -58,8 +58,8 @@ fn mark(
     value: usize,
     wires: &[u8],
 ) {
-    let answer = service::mark(rec, row, column, value);
-    hold(rt, tally, is(answer, DONE, 0), b"an example of mark");
+    let answer = Answer::from(service::mark(rec, row, column, value));
+    tally.hold(rt, is(answer, DONE, 0), b"an example of mark");
     leaves(rt, tally, rec, wires);
 }
 
@@ -72,8 +72,8 @@ fn close(
     value: usize,
     wires: &[u8],
 ) {
-    let answer = service::close(rec, row, column, value);
-    hold(rt, tally, is(answer, DONE, 0), b"an example of close");
+    let answer = Answer::from(service::close(rec, row, column, value));
+    tally.hold(rt, is(answer, DONE, 0), b"an example of close");
     leaves(rt, tally, rec, wires);
 }
 
@@ -86,15 +86,15 @@ fn lay(
     count: usize,
     wires: &[u8],
 ) {
-    let answer = service::lay(rec, 1, 1, side, count);
-    hold(rt, tally, is(answer, DONE, 0), b"an example of lay");
+    let answer = Answer::from(service::lay(rec, 1, 1, side, count));
+    tally.hold(rt, is(answer, DONE, 0), b"an example of lay");
     leaves(rt, tally, rec, wires);
 }
 
 // The D of tile 1 1.
 fn give(rt: &impl Print, tally: &mut Tally, rec: &mut Bytes, d: usize, wires: &[u8]) {
-    let answer = service::diagonal(rec, 1, 1, d);
-    hold(rt, tally, is(answer, DONE, 0), b"an example of diagonal");
+    let answer = Answer::from(service::diagonal(rec, 1, 1, d));
+    tally.hold(rt, is(answer, DONE, 0), b"an example of diagonal");
     leaves(rt, tally, rec, wires);
 }
 
@@ -173,7 +173,7 @@ fn ends(rt: &impl Print, tally: &mut Tally, rec: &Bytes, total: &[u8]) {
     let mut page: Page = [0u8; 1048576];
     let n = listed(rec, &mut page);
     let from = std::num::wrapping_sub_usize(n, total.len());
-    hold(rt, tally, same(rest(shown(&page, n), from), total), total);
+    tally.hold(rt, same(rest(shown(&page, n), from), total), total);
 }
 
 // A tile is opened to the east of the three wires: they stay as they are until a step says "all wired", which leaves 10 for the pins 2 2 and 3 2 and 20 for the pin
@@ -186,12 +186,7 @@ fn shortens(rt: &impl Print, tally: &mut Tally) {
     ends(rt, tally, &rec, b"(length 40)\n(mean 13 1)\n");
     let before = rec;
     steps(rt, tally, &mut rec, ALL_WIRED);
-    hold(
-        rt,
-        tally,
-        is_same(&rec, &before),
-        b"an example's next all wired",
-    );
+    tally.hold(rt, is_same(&rec, &before), b"an example's next all wired");
 }
 
 pub fn edited(rt: &impl Print, tally: &mut Tally) {

@@ -2,22 +2,20 @@
 use crate::draws::{alter, pick, pick_length, pick_mark, pick_spot, pick_state};
 use crate::expect::{
     cell, cut, expect_close, expect_diagonal, expect_extra, expect_lay, expect_mark, expect_new,
-    expect_read, expect_trial, letter_of, mark_at, state_at,
+    expect_read, expect_trial, is_closed_at, mark_at,
 };
 use crate::kept::{Kept, closing, giving, hold_kept, laying, lowering, marking};
 use check::same;
 use compare::lent::{close_on, diagonal_on, extra_on, lay_on, mark_on, new_on, read_on};
-use compare::listed::held;
-use compare::said::{DONE, Said, agree, coded};
-use oracle_text::job::{
-    DIAGONAL, EXTRA, Job, SIDE, blank, figure, fresh, laid, number, set_laid, set_mark, set_number,
-    set_own, set_state,
-};
-use oracle_text::random::{random_job, xorshift};
+use compare::said::{Answer, DONE, Said, agree, coded};
+use model::Capacities;
+use oracle_text::job::{Array, Job, Mark, Side};
+use oracle_text::page::Page as Sheet;
+use oracle_text::random::{Generator, random_job, xorshift};
 use oracle_text::text::{read_text, write_text};
 use oracle_text::trial::{Percents, fill};
-use service::Answer;
-use verdict::bytes::{Tally, hold};
+use service::Draws;
+use verdict::bytes::Tally;
 use verdict::record::{Record, holds_unwired, put_unwired};
 
 pub fn hold_answer(
@@ -27,12 +25,12 @@ pub fn hold_answer(
     expected: Said,
     what: &[u8],
 ) {
-    hold(rt, tally, agree(coded(answer), expected), what);
+    tally.hold(rt, agree(coded(answer), expected), what);
 }
 
 // The bytes of the record are as they were.
 pub fn hold_same(rt: &impl Print, tally: &mut Tally, before: &Record, rec: &Record) {
-    hold(rt, tally, same(before, rec), b"a call that changes nothing");
+    tally.hold(rt, same(before, rec), b"a call that changes nothing");
 }
 
 // The job is a new one, with no wire, where the call is accepted.
@@ -47,7 +45,7 @@ fn hold_anew(
 ) {
     if accepted {
         *job = *other;
-        hold(rt, tally, holds_unwired(rec, job), b"a new job");
+        tally.hold(rt, holds_unwired(rec, job), b"a new job");
     } else {
         hold_same(rt, tally, before, rec);
     }
@@ -74,8 +72,15 @@ pub fn call_new(
     let extra = pick(f, 0, 8);
     let before = *rec;
     let answer = new_on(rec, n, rows, columns, side, diagonal, extra);
-    let expected = expect_new(n, rows, columns, side, diagonal, extra);
-    let other = fresh(rows, columns, side, diagonal, extra);
+    let array = Array {
+        rows,
+        columns,
+        side,
+        diagonal,
+        extra,
+    };
+    let expected = expect_new(n, array);
+    let other = Job::new(array);
     hold_answer(rt, tally, answer, expected, b"new answers");
     hold_anew(rt, tally, &before, rec, job, &other, expected.kind == DONE);
     f
@@ -88,17 +93,19 @@ pub fn call_read(
     job: &mut Job,
     seed: u32,
 ) -> u32 {
-    let mut sheet = [0u8; 262144];
-    let mut other = blank();
-    let x = random_job(seed, 10, &mut other);
+    let mut sheet = Sheet::EMPTY;
+    let mut other = Job::BLANK;
+    let mut generator = Generator::new(seed);
+    random_job(&mut generator, 10, &mut other);
+    let x = generator.last;
     let y = xorshift(x);
-    let length = write_text(&other, &mut sheet);
-    let m = alter(&mut sheet, length, x);
-    let reading = read_text(held(&sheet, m), &mut other);
+    write_text(&other, &mut sheet);
+    alter(&mut sheet, x);
+    let read = read_text(sheet.text(), &mut other);
     let n = pick_length(y, 32768, 32800);
     let before = *rec;
-    let answer = read_on(rec, n, held(&sheet, m));
-    let expected = expect_read(n, reading);
+    let answer = read_on(rec, n, sheet.text());
+    let expected = expect_read(n, read);
     hold_answer(rt, tally, answer, expected, b"read text answers");
     hold_anew(rt, tally, &before, rec, job, &other, expected.kind == DONE);
     y
@@ -119,19 +126,20 @@ pub fn call_mark(
     let expected = expect_mark(job, at.n, at.row, at.column, value);
     hold_answer(rt, tally, answer, expected, b"mark answers");
     let old = mark_at(job, at.row, at.column);
-    if expected.kind == DONE && old != value {
-        set_mark(job, cell(at.row, at.column), value);
-        hold_kept(
-            rt,
-            tally,
-            kept,
-            &before,
-            rec,
-            job,
-            marking(at.row, at.column, old, value),
-        );
-    } else {
-        hold_same(rt, tally, &before, rec);
+    match Mark::from_code(value) {
+        Some(new) if expected.kind == DONE && old != new => {
+            job.set_mark(cell(at.row, at.column), new);
+            hold_kept(
+                rt,
+                tally,
+                kept,
+                &before,
+                rec,
+                job,
+                marking(at.row, at.column, old, new),
+            );
+        }
+        _ => hold_same(rt, tally, &before, rec),
     }
     at.next
 }
@@ -150,8 +158,9 @@ pub fn call_close(
     let answer = close_on(rec, at.n, at.row, at.column, value);
     let expected = expect_close(job, at.n, at.row, at.column, value);
     hold_answer(rt, tally, answer, expected, b"close answers");
-    if expected.kind == DONE && state_at(job, at.row, at.column) != value {
-        set_state(job, cell(at.row, at.column), value);
+    let closed = value == 1;
+    if expected.kind == DONE && is_closed_at(job, at.row, at.column) != closed {
+        job.set_closed(cell(at.row, at.column), closed);
         hold_kept(
             rt,
             tally,
@@ -179,26 +188,26 @@ pub fn call_lay(
     let at = pick_spot(seed, job);
     let x = xorshift(at.next);
     let side = pick(x, 0, 4);
-    let count = pick(xorshift(x), 0, number(job, SIDE) + 2);
-    let letter = letter_of(side);
+    let count = pick(xorshift(x), 0, job.side() + 2);
     let before = *rec;
     let answer = lay_on(rec, at.n, at.row, at.column, side, count);
     let expected = expect_lay(job, at.n, at.row, at.column, side, count);
     hold_answer(rt, tally, answer, expected, b"lay answers");
-    let old = laid(job, at.row, at.column, letter);
-    if expected.kind == DONE && old != count {
-        set_laid(job, at.row, at.column, letter, count);
-        hold_kept(
-            rt,
-            tally,
-            kept,
-            &before,
-            rec,
-            job,
-            laying(job, at.row, at.column, letter, old, count),
-        );
-    } else {
-        hold_same(rt, tally, &before, rec);
+    let laid = Side::from_code(side).map(|side| (side, job.laid(at.row, at.column, side)));
+    match laid {
+        Some((side, old)) if expected.kind == DONE && old != count => {
+            job.set_laid(at.row, at.column, side, count);
+            hold_kept(
+                rt,
+                tally,
+                kept,
+                &before,
+                rec,
+                job,
+                laying(job, at.row, at.column, side, old, count),
+            );
+        }
+        _ => hold_same(rt, tally, &before, rec),
     }
     x
 }
@@ -214,16 +223,16 @@ pub fn call_diagonal(
 ) -> u32 {
     let at = pick_spot(seed, job);
     let x = xorshift(at.next);
-    let o = number(job, SIDE);
+    let o = job.side();
     let d = pick(x, o, o + 2);
     let before = *rec;
     let answer = diagonal_on(rec, at.n, at.row, at.column, d);
     let expected = expect_diagonal(job, at.n, at.row, at.column, d);
     hold_answer(rt, tally, answer, expected, b"diagonal answers");
     let p = cell(at.row, at.column);
-    if expected.kind == DONE && figure(job, p) != d {
-        let own = if d == number(job, DIAGONAL) { 0 } else { d };
-        set_own(job, p, own);
+    if expected.kind == DONE && job.figure(p) != d {
+        let own = if d == job.diagonal() { None } else { Some(d) };
+        job.set_own(p, own);
         hold_kept(
             rt,
             tally,
@@ -231,7 +240,7 @@ pub fn call_diagonal(
             &before,
             rec,
             job,
-            giving(at.row, at.column, own),
+            giving(at.row, at.column, own.unwrap_or(0)),
         );
     } else {
         hold_same(rt, tally, &before, rec);
@@ -250,7 +259,7 @@ pub fn call_extra(
 ) -> u32 {
     let a = xorshift(seed);
     let b = xorshift(a);
-    let old = number(job, EXTRA);
+    let old = job.extra();
     let n = pick_length(a, 32768, 32800);
     let e = pick(b, 0, old + 2);
     let before = *rec;
@@ -258,7 +267,7 @@ pub fn call_extra(
     let expected = expect_extra(job, n, e);
     hold_answer(rt, tally, answer, expected, b"extra answers");
     if expected.kind == DONE && e != old {
-        set_number(job, EXTRA, e);
+        job.set_extra(e);
         hold_kept(rt, tally, kept, &before, rec, job, lowering(e));
     } else {
         hold_same(rt, tally, &before, rec);
@@ -268,11 +277,12 @@ pub fn call_extra(
 
 // A record as it was given while an E above D was accepted: its job without wires. No call makes one any more.
 pub fn make_old(rec: &mut Record, job: &mut Job, seed: u32) -> u32 {
-    let x = random_job(seed, 8, job);
-    set_number(job, EXTRA, 16);
-    set_number(job, DIAGONAL, number(job, SIDE));
+    let mut generator = Generator::new(seed);
+    random_job(&mut generator, 8, job);
+    job.set_extra(16);
+    job.set_diagonal(job.side());
     put_unwired(rec, job);
-    x
+    generator.last
 }
 
 // The percentages that are lent: such as fit, and now and then others.
@@ -302,11 +312,32 @@ pub fn call_trial(
     let number = pick(c, 1, 4294967295);
     let p = pick_percents(xorshift(c));
     let before = *rec;
-    let answer = service::trial(
-        rec, rows, columns, side, side, 1, number, p.chosen, p.missing, p.closed,
-    );
-    let expected = expect_trial(rows, columns, side, number, p);
-    let mut other = fresh(rows, columns, side, side, 1);
+    let capacities = Capacities {
+        orthogonal: side,
+        diagonal: side,
+        extra: 1,
+    };
+    let draws = Draws {
+        seed: number,
+        chosen: p.chosen,
+        missing: p.missing,
+        closed: p.closed,
+    };
+    let answer = Answer::from(service::trial(
+        rec,
+        model::Array { rows, columns },
+        capacities,
+        draws,
+    ));
+    let array = Array {
+        rows,
+        columns,
+        side,
+        diagonal: side,
+        extra: 1,
+    };
+    let expected = expect_trial(array, number, p);
+    let mut other = Job::new(array);
     fill(&mut other, cut(number), p);
     hold_answer(rt, tally, answer, expected, b"trial answers");
     hold_anew(rt, tally, &before, rec, job, &other, expected.kind == DONE);

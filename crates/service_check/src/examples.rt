@@ -1,15 +1,16 @@
 // The examples of document 01: those of its text, and those settled by hand, with direct exits; short jobs with inner pins; and jobs with a known least length.
 use check::same;
-use compare::listed::{Page, held, list_text, shown};
+use compare::lent::new_on;
+use compare::listed::{Page, list_text, shown};
 use compare::said::{
-    ADDED, ALL_WIRED, DONE, LACKS, REFUSED, SHORT, Said, WRONG_TEXT, agree, coded, is, put_listed,
-    say,
+    ADDED, ALL_WIRED, Answer, DONE, LACKS, REFUSED, SHORT, Said, WRONG_TEXT, agree, coded, is,
+    put_listed, say,
 };
 use judge::listing::check_least;
-use judge::walk::LEGAL;
-use oracle_text::job::blank;
+use oracle_text::job::Job;
+use oracle_text::page::Page as Sheet;
 use oracle_text::text::read_text;
-use verdict::bytes::{Tally, first, hold, rest};
+use verdict::bytes::{Tally, first, rest};
 
 // The 64 bytes.
 const SIXTY_FOUR: [u8; 64] =
@@ -71,8 +72,8 @@ const ROUND: [u8; 135] =
 // Read text answers so, on a record of its own; the text stands for what came out wrong.
 fn reads(rt: &impl Print, tally: &mut Tally, text: &[u8], kind: usize, number: usize) {
     let mut rec = [7u8; 32768];
-    let answer = service::read_text(&mut rec, text);
-    hold(rt, tally, is(answer, kind, number), text);
+    let answer = Answer::from(service::read_text(&mut rec, text));
+    tally.hold(rt, is(answer, kind, number), text);
 }
 
 // The offset at which the first n of the 64 bytes are refused: that of the last line that begins in them.
@@ -113,7 +114,7 @@ fn texts(rt: &impl Print, tally: &mut Tally) {
 // The router lists the text so.
 fn lists(rt: &impl Print, tally: &mut Tally, text: &[u8], expected: &[u8], page: &mut Page) {
     let n = list_text(text, page);
-    hold(rt, tally, same(shown(page, n), expected), expected);
+    tally.hold(rt, same(shown(page, n), expected), expected);
 }
 
 // The list begins and ends so.
@@ -131,14 +132,13 @@ fn lists_least(
     total: &[u8],
     page: &mut Page,
 ) {
-    let mut job = blank();
-    read_text(text, &mut job);
+    let mut job = Job::BLANK;
+    let read = read_text(text, &mut job);
     let n = list_text(text, page);
-    let w = check_least(&job, shown(page, n));
-    hold(
+    let checked = check_least(&job, shown(page, n));
+    tally.hold(
         rt,
-        tally,
-        frames(shown(page, n), count, total) && w.fault == LEGAL,
+        read.is_ok() && frames(shown(page, n), count, total) && checked.is_ok(),
         text,
     );
 }
@@ -214,13 +214,8 @@ fn news(
     expected: Said,
 ) {
     let mut rec = [7u8; 32768];
-    let answer = service::new(&mut rec, rows, columns, o, d, e);
-    hold(
-        rt,
-        tally,
-        agree(coded(answer), expected),
-        b"an example of new",
-    );
+    let answer = new_on(&mut rec, 32768, rows, columns, o, d, e);
+    tally.hold(rt, agree(coded(answer), expected), b"an example of new");
 }
 
 // The least and the greatest, and what is past them.
@@ -238,41 +233,37 @@ fn ranges(rt: &impl Print, tally: &mut Tally) {
 
 // The text is read into the record.
 pub fn read_into(rt: &impl Print, tally: &mut Tally, rec: &mut [u8; 32768], text: &[u8]) {
-    let answer = service::read_text(rec, text);
-    hold(rt, tally, is(answer, DONE, 0), text);
+    let answer = Answer::from(service::read_text(rec, text));
+    tally.hold(rt, is(answer, DONE, 0), text);
 }
 
 // The next step answers so.
 pub fn steps(rt: &impl Print, tally: &mut Tally, rec: &mut [u8; 32768], kind: usize) {
     let mut scratch = [0u8; 65536];
-    let answer = service::step(rec, &mut scratch);
-    hold(rt, tally, is(answer, kind, 0), b"an example's step");
+    let answer = Answer::from(service::step(rec, &mut scratch));
+    tally.hold(rt, is(answer, kind, 0), b"an example's step");
 }
 
 // Shortfall says what the job lacks, and the output, of bytes 2 before, is then this.
-fn lacks(rt: &impl Print, tally: &mut Tally, rec: &[u8; 32768], number: usize, near: &[u8; 32768]) {
+fn shortfall_is(
+    rt: &impl Print,
+    tally: &mut Tally,
+    rec: &[u8; 32768],
+    number: usize,
+    near: &[u8; 32768],
+) {
     let mut scratch = [0u8; 65536];
     let mut mine = [2u8; 32768];
-    let answer = service::shortfall(rec, &mut scratch, &mut mine);
-    hold(
-        rt,
-        tally,
-        is(answer, LACKS, number),
-        b"an example's shortfall",
-    );
-    hold(rt, tally, same(&mine, near), b"an example's near side");
+    let answer = compare::said::lacks(service::shortfall(rec, &mut scratch, &mut mine));
+    tally.hold(rt, is(answer, LACKS, number), b"an example's shortfall");
+    tally.hold(rt, same(&mine, near), b"an example's near side");
 }
 
 // Part answers so of the pin 0 0 at the index.
 fn part_is(rt: &impl Print, tally: &mut Tally, rec: &[u8; 32768], index: usize, expected: &[u8]) {
-    let mut sheet = [0u8; 262144];
-    let n = put_listed(&mut sheet, 0, service::part(rec, 0, 0, index));
-    hold(
-        rt,
-        tally,
-        same(held(&sheet, n), expected),
-        b"an example's part",
-    );
+    let mut sheet = Sheet::EMPTY;
+    put_listed(&mut sheet, Answer::from(service::part(rec, 0, 0, index)));
+    tally.hold(rt, same(sheet.text(), expected), b"an example's part");
 }
 
 // The 64 bytes: one "added", and the pin leaves directly.
@@ -282,7 +273,7 @@ fn sixty_four(rt: &impl Print, tally: &mut Tally) {
     part_is(rt, tally, &rec, 0, b"unwired");
     steps(rt, tally, &mut rec, ADDED);
     steps(rt, tally, &mut rec, ALL_WIRED);
-    lacks(rt, tally, &rec, 0, &[2u8; 32768]);
+    shortfall_is(rt, tally, &rec, 0, &[2u8; 32768]);
     part_is(rt, tally, &rec, 0, b" (out p 0)");
     part_is(rt, tally, &rec, 1, b"past");
     part_is(rt, tally, &rec, 18446744073709551615, b"past");
@@ -293,7 +284,7 @@ fn nothing(rt: &impl Print, tally: &mut Tally) {
     let mut rec = [7u8; 32768];
     read_into(rt, tally, &mut rec, &MISSING);
     steps(rt, tally, &mut rec, ALL_WIRED);
-    lacks(rt, tally, &rec, 0, &[2u8; 32768]);
+    shortfall_is(rt, tally, &rec, 0, &[2u8; 32768]);
 }
 
 // Three pins and one tile, two of the pins on the rim: three "added".
@@ -304,7 +295,7 @@ fn three(rt: &impl Print, tally: &mut Tally) {
     steps(rt, tally, &mut rec, ADDED);
     steps(rt, tally, &mut rec, ADDED);
     steps(rt, tally, &mut rec, ALL_WIRED);
-    lacks(rt, tally, &rec, 0, &[2u8; 32768]);
+    shortfall_is(rt, tally, &rec, 0, &[2u8; 32768]);
 }
 
 // Every tile closed: short 1, only the inner pin near.
@@ -314,7 +305,7 @@ fn shut(rt: &impl Print, tally: &mut Tally) {
     near[657] = 1;
     read_into(rt, tally, &mut rec, &SHUT);
     steps(rt, tally, &mut rec, SHORT);
-    lacks(rt, tally, &rec, 1, &near);
+    shortfall_is(rt, tally, &rec, 1, &near);
 }
 
 // One wire through the centre: one "added", short 1; near are both pins and s, w, ci of tile 0 1.
@@ -329,7 +320,7 @@ fn narrow(rt: &impl Print, tally: &mut Tally) {
     read_into(rt, tally, &mut rec, &NARROW);
     steps(rt, tally, &mut rec, ADDED);
     steps(rt, tally, &mut rec, SHORT);
-    lacks(rt, tally, &rec, 1, &near);
+    shortfall_is(rt, tally, &rec, 1, &near);
 }
 
 pub fn examples(rt: &impl Print, tally: &mut Tally) {

@@ -4,10 +4,8 @@ ghost use Rattle.std.specs.Prelude.{◌<◌};
 use compare::said::{
     ADDED, ALL_WIRED, DONE, LACKS, LISTS, REFUSED, SHORT, Said, WRONG_TEXT, WROTE, say,
 };
-use oracle_text::job::{
-    CHOSEN, DIAGONAL, EXTRA, Job, SIDE, count_marked, is_pin, is_tile, mark, may_own, number, state,
-};
-use oracle_text::text::{ACCEPTED, Reading};
+use oracle_text::job::{Array, Job, Mark};
+use oracle_text::text::Refused;
 use oracle_text::trial::Percents;
 
 fn in_range(x: usize, least: usize, most: usize) -> bool {
@@ -23,35 +21,35 @@ fn caps_fit(o: usize, d: usize, e: usize) -> bool {
     false
 }
 
-pub fn expect_new(n: usize, rows: usize, columns: usize, o: usize, d: usize, e: usize) -> Said {
+pub fn expect_new(n: usize, array: Array) -> Said {
     if n < 32768 {
         return say(REFUSED, 1);
     }
-    if !in_range(rows, 2, 40) || !in_range(columns, 2, 40) {
+    if !in_range(array.rows, 2, 40) || !in_range(array.columns, 2, 40) {
         return say(REFUSED, 2);
     }
-    if !caps_fit(o, d, e) {
+    if !caps_fit(array.side, array.diagonal, array.extra) {
         return say(REFUSED, 3);
     }
     say(DONE, 0)
 }
 
 // Of a text on which the oracle's reading ends so.
-pub fn expect_read(n: usize, reading: Reading) -> Said {
+pub fn expect_read(n: usize, read: Result<(), Refused>) -> Said {
     if n < 32768 {
         return say(REFUSED, 1);
     }
-    if reading.stage == ACCEPTED {
-        return say(DONE, 0);
+    match read {
+        Ok(()) => say(DONE, 0),
+        Err(refused) => say(WRONG_TEXT, refused.at),
     }
-    say(WRONG_TEXT, reading.at)
 }
 
 pub fn expect_mark(job: &Job, n: usize, row: usize, column: usize, value: usize) -> Said {
     if n < 32768 {
         return say(REFUSED, 1);
     }
-    if !is_pin(job, row, column) {
+    if !job.is_pin(row, column) {
         return say(REFUSED, 4);
     }
     if value > 2 {
@@ -64,7 +62,7 @@ pub fn expect_close(job: &Job, n: usize, row: usize, column: usize, value: usize
     if n < 32768 {
         return say(REFUSED, 1);
     }
-    if !is_tile(job, row, column) {
+    if !job.is_tile(row, column) {
         return say(REFUSED, 4);
     }
     if value > 1 {
@@ -77,10 +75,10 @@ pub fn expect_diagonal(job: &Job, n: usize, row: usize, column: usize, d: usize)
     if n < 32768 {
         return say(REFUSED, 1);
     }
-    if !is_tile(job, row, column) {
+    if !job.is_tile(row, column) {
         return say(REFUSED, 4);
     }
-    if d != number(job, DIAGONAL) && !may_own(job, d) {
+    if d != job.diagonal() && !job.may_own(d) {
         return say(REFUSED, 3);
     }
     say(DONE, 0)
@@ -90,7 +88,7 @@ pub fn expect_extra(job: &Job, n: usize, e: usize) -> Said {
     if n < 32768 {
         return say(REFUSED, 1);
     }
-    if e > number(job, EXTRA) {
+    if e > job.extra() {
         return say(REFUSED, 3);
     }
     say(DONE, 0)
@@ -107,27 +105,16 @@ pub fn expect_lay(
     if n < 32768 {
         return say(REFUSED, 1);
     }
-    if !is_tile(job, row, column) {
+    if !job.is_tile(row, column) {
         return say(REFUSED, 4);
     }
     if side > 3 {
         return say(REFUSED, 5);
     }
-    if count > number(job, SIDE) {
+    if count > job.side() {
         return say(REFUSED, 11);
     }
     say(DONE, 0)
-}
-
-// The letter of a side code; 0 for none.
-pub fn letter_of(side: usize) -> u8 {
-    match side {
-        0 => b'n',
-        1 => b'e',
-        2 => b's',
-        3 => b'w',
-        _ => 0,
-    }
 }
 
 // The cell 40 r + c; 1,600, which is none, where one of the two is too large.
@@ -142,12 +129,12 @@ pub fn cell(row: usize, column: usize) -> usize
     1600
 }
 
-pub fn mark_at(job: &Job, row: usize, column: usize) -> usize {
-    mark(job, cell(row, column))
+pub fn mark_at(job: &Job, row: usize, column: usize) -> Mark {
+    job.mark(cell(row, column))
 }
 
-pub fn state_at(job: &Job, row: usize, column: usize) -> usize {
-    state(job, cell(row, column))
+pub fn is_closed_at(job: &Job, row: usize, column: usize) -> bool {
+    job.is_closed(cell(row, column))
 }
 
 // Of a record with this many wires, of a job that lacks this many.
@@ -158,7 +145,7 @@ pub fn expect_step(job: &Job, n: usize, m: usize, wires: usize, missed: usize) -
     if m < 65536 {
         return say(REFUSED, 8);
     }
-    if std::num::wrapping_add_usize(wires, missed) < count_marked(job, CHOSEN) {
+    if std::num::wrapping_add_usize(wires, missed) < job.count_marked(Mark::Chosen) {
         return say(ADDED, 0);
     }
     if missed == 0 {
@@ -184,7 +171,7 @@ pub fn expect_part(job: &Job, n: usize, row: usize, column: usize) -> Said {
     if n < 32768 {
         return say(REFUSED, 1);
     }
-    if !is_pin(job, row, column) || mark_at(job, row, column) != CHOSEN {
+    if !job.is_pin(row, column) || mark_at(job, row, column) != Mark::Chosen {
         return say(REFUSED, 4);
     }
     say(LISTS, 0)
@@ -211,8 +198,8 @@ pub fn cut(number: usize) -> u32 {
 }
 
 // Of a trial with D the same as O and an E that fits, on a record that is long enough.
-pub fn expect_trial(rows: usize, columns: usize, side: usize, number: usize, p: Percents) -> Said {
-    let anew = expect_new(32768, rows, columns, side, side, 1);
+pub fn expect_trial(array: Array, number: usize, p: Percents) -> Said {
+    let anew = expect_new(32768, array);
     if anew.kind == REFUSED {
         return anew;
     }

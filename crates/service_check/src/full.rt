@@ -5,16 +5,17 @@ use crate::calls::hold_step;
 use crate::edits::{call_close, call_diagonal, call_extra, call_lay, call_mark, hold_answer};
 use crate::expect::expect_step;
 use crate::kept::Kept;
-use compare::listed::{Page, held, routed};
-use compare::said::{ADDED, DONE, is};
-use compare::shortened::{Found, length_of};
+use compare::listed::{Page, routed};
+use compare::said::{ADDED, Answer, DONE, is};
+use compare::shortened::{Found, is_least};
 use oracle::near::shortfall;
 use oracle_length::least::least_length;
-use oracle_text::job::{CHOSEN, Job, blank, count_marked};
-use oracle_text::random::{below, random_job, random_laid, xorshift};
+use oracle_text::job::{Array, Job, Mark};
+use oracle_text::page::Page as Sheet;
+use oracle_text::random::{Generator, below, random_job, random_laid, xorshift};
 use oracle_text::text::write_text;
 use oracle_text::trial::{Percents, trial_job};
-use verdict::bytes::{Tally, hold, line};
+use verdict::bytes::{Tally, line};
 use verdict::record::{BEYOND, Record, count_wires, legal};
 
 // Where no wire lacks, those of the record have the least length.
@@ -27,10 +28,9 @@ fn hold_least(
     page: &mut Page,
 ) {
     if missed == 0 {
-        hold(
+        tally.hold(
             rt,
-            tally,
-            length_of(rec, job, page) == least_length(job),
+            is_least(rec, job, least_length(job), page),
             b"the route after edits has the least length",
         );
     }
@@ -41,18 +41,16 @@ fn refill(rt: &impl Print, tally: &mut Tally, rec: &mut Record, job: &Job, page:
     let mut near = [0u8; 32768];
     let mut mine = [0u8; 32768];
     let missed = shortfall(job, &mut near);
-    hold(rt, tally, legal(rec), b"the record after edits is legal");
-    hold(
+    tally.hold(rt, legal(rec), b"the record after edits is legal");
+    tally.hold(
         rt,
-        tally,
         routed(rec, &mut mine) == missed,
         b"the route after edits lacks",
     );
     let n = std::num::wrapping_add_usize(count_wires(rec), missed);
-    hold(
+    tally.hold(
         rt,
-        tally,
-        n == count_marked(job, CHOSEN),
+        n == job.count_marked(Mark::Chosen),
         b"the route after edits has its wires",
     );
     hold_least(rt, tally, rec, job, missed, page);
@@ -70,7 +68,7 @@ fn step(
 ) -> bool {
     let mut scratch = [0u8; 65536];
     let before = *rec;
-    let answer = service::step(rec, &mut scratch);
+    let answer = Answer::from(service::step(rec, &mut scratch));
     let expected = expect_step(job, 32800, 65536, count_wires(&before), missed);
     hold_answer(rt, tally, answer, expected, b"step answers after edits");
     hold_step(rt, tally, found, &before, rec, job, expected.kind, page);
@@ -134,7 +132,7 @@ fn draw(
     seed: u32,
     k: usize,
 ) -> u32 {
-    let wrong = tally[1];
+    let wrong = tally.wrong();
     let next = edit(rt, tally, kept, rec, job, seed);
     if is_turn(k, often) {
         step_out(rt, tally, found, rec, job, page);
@@ -142,7 +140,7 @@ fn draw(
     if is_turn(k / 4, often) && k % 4 == 3 {
         refill(rt, tally, rec, job, page);
     }
-    if tally[1] != wrong {
+    if tally.wrong() != wrong {
         line(rt, b"in the edit of a full record", k as u64);
     }
     next
@@ -179,19 +177,32 @@ fn edit_full(
     n: usize,
 ) -> u32 {
     let mut page = [0u8; 1048576];
-    let mut sheet = [0u8; 262144];
+    let mut sheet = Sheet::EMPTY;
     let mut rec = [BEYOND; 32800];
-    let length = write_text(job, &mut sheet);
-    hold(
+    write_text(job, &mut sheet);
+    tally.hold(
         rt,
-        tally,
-        is(service::read_text(&mut rec, held(&sheet, length)), DONE, 0),
+        is(
+            Answer::from(service::read_text(&mut rec, sheet.text())),
+            DONE,
+            0,
+        ),
         b"the full job is read",
     );
     refill(rt, tally, &mut rec, job, &mut page);
     draw_all(
         rt, tally, found, kept, &mut rec, job, &mut page, often, seed, n,
     )
+}
+
+fn array(rows: usize, columns: usize, side: usize, diagonal: usize, extra: usize) -> Array {
+    Array {
+        rows,
+        columns,
+        side,
+        diagonal,
+        extra,
+    }
 }
 
 fn percents(chosen: usize, missing: usize, closed: usize) -> Percents {
@@ -210,7 +221,7 @@ fn edit_narrow(
     kept: &mut Kept,
     seed: u32,
 ) -> u32 {
-    let mut job = trial_job(14, 14, 1, 2, 2, seed, percents(30, 60, 0));
+    let mut job = trial_job(array(14, 14, 1, 2, 2), seed, percents(30, 60, 0));
     edit_full(rt, tally, found, kept, &mut job, 4, seed, 8)
 }
 
@@ -222,10 +233,11 @@ fn edit_random(
     kept: &mut Kept,
     seed: u32,
 ) -> u32 {
-    let mut job = blank();
-    let x = random_job(seed, 14, &mut job);
-    let y = random_laid(x, 100, &mut job);
-    let z = edit_full(rt, tally, found, kept, &mut job, 4, y, 48);
+    let mut job = Job::BLANK;
+    let mut generator = Generator::new(seed);
+    random_job(&mut generator, 14, &mut job);
+    random_laid(&mut generator, 100, &mut job);
+    let z = edit_full(rt, tally, found, kept, &mut job, 4, generator.last, 48);
     edit_narrow(rt, tally, found, kept, z)
 }
 
@@ -244,7 +256,7 @@ fn edit_crowded(
     kept: &mut Kept,
     seed: u32,
 ) -> u32 {
-    let mut job = trial_job(12, 12, 2, 3, 1, seed, percents(25, 10, 10));
+    let mut job = trial_job(array(12, 12, 2, 3, 1), seed, percents(25, 10, 10));
     edit_full(rt, tally, found, kept, &mut job, 2, seed, 48)
 }
 
@@ -259,10 +271,10 @@ fn crowded_jobs(rt: &impl Print, tally: &mut Tally, found: &mut Found, kept: &mu
 pub fn full(rt: &impl Print, tally: &mut Tally, found: &mut Found, kept: &mut Kept) {
     random_jobs(rt, tally, found, kept);
     crowded_jobs(rt, tally, found, kept);
-    let mut wide = trial_job(40, 40, 8, 12, 4, 1, percents(60, 10, 0));
+    let mut wide = trial_job(array(40, 40, 8, 12, 4), 1, percents(60, 10, 0));
     let a = edit_full(rt, tally, found, kept, &mut wide, 40, 1, 240);
-    let mut short = trial_job(40, 40, 3, 5, 2, 1, percents(30, 5, 5));
+    let mut short = trial_job(array(40, 40, 3, 5, 2), 1, percents(30, 5, 5));
     let b = edit_full(rt, tally, found, kept, &mut short, 40, a, 240);
-    let mut holed = trial_job(40, 40, 2, 4, 4, 1, percents(20, 75, 0));
+    let mut holed = trial_job(array(40, 40, 2, 4, 4), 1, percents(20, 75, 0));
     edit_full(rt, tally, found, kept, &mut holed, 40, b, 480);
 }

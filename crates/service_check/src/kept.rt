@@ -2,368 +2,360 @@
 // out. Those that it takes out are counted out of the load bytes, step by step; every other has to be listed afterwards with the same places in the same order
 // and lanes no higher, and no other wire may be.
 use crate::expect::cell;
-use crate::steps::{NO_LINK, OUT, goes_forth, kind_of, link_between, part_at, side_at};
+use crate::steps::{Goal, Step, Wire, pin, side_at};
 use check::same;
 use compare::listed::{listed, only_wired, shown};
 use judge::listing::check_listing;
-use judge::walk::LEGAL;
-use oracle_text::job::{CHOSEN, Job, MISSING, SIDE, number};
-use oracle_text::scan::{scan, value};
-use verdict::bytes::{Tally, hold, line};
-use verdict::ends::load;
+use oracle_text::job::{Job, Mark, Side};
+use oracle_text::scan::scan;
+use verdict::bytes::{Tally, line};
+use verdict::ends::{Fields, Link, Spot};
 use verdict::record::{Record, holds_job};
 
-// Which wires an edit takes out: none, those that start at a pin, pass it, meet a place of a tile, have the highest lanes of a link, pass the centre of a tile, or
-// pass any missing pin.
-const NONE: usize = 0;
+// Which wires an edit takes out.
+#[derive(Clone, Copy, PartialEq, Eq, Debug)]
+enum Takes {
+    Nothing,
+    // Those that start at the pin.
+    From(usize),
+    // Those that pass the pin.
+    Past(usize),
+    // Those that pass any pin.
+    PastAny,
+    // Those that meet a side or the centre of the tile.
+    Meeting(usize),
+    // Those that pass the centre of the tile.
+    Through(usize),
+    // Those on the link in the lane `from` or a higher one.
+    Lanes { link: Link, from: usize },
+}
 
-const START: usize = 1;
-
-const PASS: usize = 2;
-
-const MEET: usize = 3;
-
-const LANES: usize = 4;
-
-const THROUGH: usize = 5;
-
-const PAST: usize = 6;
-
-// An edit that puts `value` at the byte `at` of the record, and takes out wires of the pin or the tile p, or of the link from the lane `limit` on.
+// An edit that puts `value` at the byte `at` of the record; `side` is that whose count it changes.
 #[derive(Clone, Copy)]
 pub struct Edit {
     at: usize,
     value: usize,
-    takes: usize,
-    p: usize,
-    link: usize,
-    limit: usize,
+    takes: Takes,
+    side: Option<Link>,
+}
+
+impl Edit {
+    // One that changes the count of no side.
+    fn new(at: usize, value: usize, takes: Takes) -> Edit {
+        Edit {
+            at,
+            value,
+            takes,
+            side: None,
+        }
+    }
+
+    // It takes out the wire that starts at the pin p.
+    fn strikes_start(self, p: usize) -> bool {
+        self.takes == Takes::From(p)
+    }
+
+    // It takes out a wire that takes the step.
+    fn strikes(self, step: Step) -> bool {
+        if let Takes::Lanes { link, from } = self.takes {
+            return step.link() == Some(link) && step.lane >= from;
+        }
+        let Goal::At(to) = step.to else {
+            return false;
+        };
+        match to.spot {
+            Spot::Pin => self.takes == Takes::PastAny || self.takes == Takes::Past(to.cell),
+            Spot::Side(_) => self.takes == Takes::Meeting(to.cell),
+            Spot::Centre => {
+                self.takes == Takes::Meeting(to.cell) || self.takes == Takes::Through(to.cell)
+            }
+        }
+    }
+
+    // The lane of the step afterwards is no higher; on a side whose count is changed it is the same.
+    fn keeps_lane(self, step: Step, after: usize) -> bool {
+        if self.side.is_some() && step.link() == self.side {
+            return after == step.lane;
+        }
+        after <= step.lane
+    }
+
+    // Puts its value into the record.
+    fn put(self, rec: &mut Record) {
+        if self.at < 32768 {
+            if let Ok(value) = u8::try_from(self.value) {
+                rec[self.at] = value;
+            }
+        }
+    }
 }
 
 // Another mark of a pin whose mark was `old`.
-pub fn marking(row: usize, column: usize, old: usize, value: usize) -> Edit {
+pub fn marking(row: usize, column: usize, old: Mark, new: Mark) -> Edit {
     let p = cell(row, column);
-    let takes = if old == CHOSEN {
-        START
-    } else if old == MISSING {
-        PASS
-    } else {
-        NONE
+    let takes = match old {
+        Mark::Idle => Takes::Nothing,
+        Mark::Chosen => Takes::From(p),
+        Mark::Missing => Takes::Past(p),
     };
-    Edit {
-        at: 768 + p,
-        value: value,
-        takes: takes,
-        p: p,
-        link: NO_LINK,
-        limit: 0,
-    }
+    Edit::new(768 + p, new as usize, takes)
 }
 
 pub fn closing(row: usize, column: usize, value: usize) -> Edit {
     let p = cell(row, column);
-    Edit {
-        at: 2368 + p,
-        value: value,
-        takes: if value == 1 { MEET } else { NONE },
-        p: p,
-        link: NO_LINK,
-        limit: 0,
-    }
+    let takes = if value == 1 {
+        Takes::Meeting(p)
+    } else {
+        Takes::Nothing
+    };
+    Edit::new(2368 + p, value, takes)
 }
 
 // Another D of a tile, of which it keeps `own`.
 pub fn giving(row: usize, column: usize, own: usize) -> Edit {
     let p = cell(row, column);
-    Edit {
-        at: 31168 + p,
-        value: own,
-        takes: THROUGH,
-        p: p,
-        link: NO_LINK,
-        limit: 0,
-    }
+    Edit::new(31168 + p, own, Takes::Through(p))
 }
 
 // A lower E.
 pub fn lowering(e: usize) -> Edit {
-    Edit {
-        at: 4,
-        value: e,
-        takes: PAST,
-        p: 1600,
-        link: NO_LINK,
-        limit: 0,
-    }
+    Edit::new(4, e, Takes::PastAny)
+}
+
+// Where the count of wires already laid on a side stands in a record.
+fn laid_at(side: Link) -> usize {
+    side.offset().unwrap_or(8768).wrapping_add(24000)
 }
 
 // Another count of a side, of which `old` wires were laid.
-pub fn laying(job: &Job, row: usize, column: usize, letter: u8, old: usize, count: usize) -> Edit {
-    let link = side_at(cell(row, column), kind_of(letter as usize));
-    let most = number(job, SIDE);
-    Edit {
-        at: std::num::wrapping_add_usize(27968, link),
-        value: count,
-        takes: if old < count { LANES } else { NONE },
-        p: 1600,
-        link: link,
-        limit: std::num::wrapping_sub_usize(most, count),
-    }
-}
-
-// A wire that goes from the place u to the place v by the lane is one that the edit takes out.
-fn strikes(edit: Edit, u: usize, v: usize, lane: usize) -> bool {
-    if edit.takes == LANES {
-        return link_between(u, v) == edit.link && lane >= edit.limit;
-    }
-    if edit.takes == PAST {
-        return v < OUT && v % 8 == 0;
-    }
-    if v >= OUT || v / 8 != edit.p {
-        return false;
-    }
-    if v % 8 == 0 {
-        edit.takes == PASS
+pub fn laying(job: &Job, row: usize, column: usize, side: Side, old: usize, count: usize) -> Edit {
+    let link = side_at(cell(row, column), side);
+    let takes = if old < count {
+        Takes::Lanes {
+            link,
+            from: job.side().wrapping_sub(count),
+        }
     } else {
-        edit.takes == MEET || (edit.takes == THROUGH && v % 8 == 6)
+        Takes::Nothing
+    };
+    Edit {
+        at: laid_at(link),
+        value: count,
+        takes,
+        side: Some(link),
     }
 }
 
-// The edit takes out the wire that starts at u, whose parts stand at `at`.
-fn goes(list: &[u8], at: usize, start: usize, edit: Edit) -> bool {
-    let mut u = start;
-    let mut part = part_at(list, at);
-    let mut struck = edit.takes == START && start / 8 == edit.p;
-    let mut turns: u64 = 20000;
-    while turns > 0 && part.fits && !struck {
-        struck = strikes(edit, u, part.place, part.lane);
-        u = part.place;
-        part = part_at(list, part.at);
-        turns -= 1;
+// The edit takes out the wire that starts at the pin p.
+fn goes(wire: Wire, p: usize, edit: Edit) -> bool {
+    let mut wire = wire;
+    if edit.strikes_start(p) {
+        return true;
     }
-    struck
+    for _ in 0..20000 {
+        let Some(step) = wire.step() else {
+            break;
+        };
+        if edit.strikes(step) {
+            return true;
+        }
+    }
+    false
 }
 
 // The load byte with a wire less this way; 255, which says nothing, where none goes this way.
 fn lessened(x: usize, forth: bool) -> u8 {
-    if forth {
-        if 0 < x {
-            if x < 32 {
-                return (x - 1) as u8;
-            }
+    match (x, forth) {
+        (33, false) => 0,
+        (1..=31, true) | (34..=63, false) => (x - 1) as u8,
+        _ => 255,
+    }
+}
+
+// A wire less on the link of the step.
+fn lessen(rec: &mut Record, step: Step) {
+    let Some(link) = step.link() else {
+        return;
+    };
+    let load = Fields::of(rec).load(link);
+    if let Some(at) = link.offset() {
+        if at < 32768 {
+            rec[at] = lessened(load, step.goes_forth());
         }
-        return 255;
     }
-    if x == 33 {
-        return 0;
+}
+
+// The wire less; gives the offset behind its parts.
+fn take_out(rec: &mut Record, wire: Wire) -> usize {
+    let mut wire = wire;
+    for _ in 0..20000 {
+        let Some(step) = wire.step() else {
+            break;
+        };
+        lessen(rec, step);
     }
-    if 33 < x {
-        if x < 64 {
-            return (x - 1) as u8;
+    wire.at()
+}
+
+// The offsets behind the parts of a wire before and after the edit, if they are the same places in lanes that may be.
+fn follow(was: Wire, now: Wire, edit: Edit) -> Option<(usize, usize)> {
+    let (mut was, mut now) = (was, now);
+    for _ in 0..20000 {
+        let Some(before) = was.step() else {
+            break;
+        };
+        let after = now.step()?;
+        if before.to != after.to || !edit.keeps_lane(before, after.lane) {
+            return None;
         }
     }
-    255
-}
-
-// A wire less from the place u to the place v.
-fn lessen(rec: &mut Record, u: usize, v: usize) {
-    let i = link_between(u, v);
-    if i < 24000 {
-        rec[3968 + i] = lessened(load(rec, i), goes_forth(u, v));
-    }
-}
-
-// The wire that starts at u less, whose parts stand at `at`; gives the offset behind them.
-fn take_out(rec: &mut Record, list: &[u8], at: usize, start: usize) -> usize {
-    let mut u = start;
-    let mut end = at;
-    let mut part = part_at(list, at);
-    let mut turns: u64 = 20000;
-    while turns > 0 && part.fits {
-        lessen(rec, u, part.place);
-        u = part.place;
-        end = part.at;
-        part = part_at(list, end);
-        turns -= 1;
-    }
-    end
-}
-
-// The lane afterwards is no higher; on a side whose limit is lowered it is the same.
-fn lane_fits(edit: Edit, u: usize, v: usize, before: usize, after: usize) -> bool {
-    if edit.link != NO_LINK && link_between(u, v) == edit.link {
-        return after == before;
-    }
-    after <= before
-}
-
-// How far the listings before and after are compared, how many wires stay and go, and whether all is right.
-#[derive(Clone, Copy)]
-struct Compared {
-    at: usize,
-    then: usize,
-    stay: usize,
-    go: usize,
-    right: bool,
-}
-
-// The same, with one thing more that has to be right.
-fn stands(s: Compared, right: bool) -> Compared {
-    Compared {
-        at: s.at,
-        then: s.then,
-        stay: s.stay,
-        go: s.go,
-        right: s.right && right,
-    }
-}
-
-// One wire more that stays, compared up to these offsets.
-fn stayed(s: Compared, at: usize, then: usize, right: bool) -> Compared {
-    Compared {
-        at: at,
-        then: then,
-        stay: std::num::wrapping_add_usize(s.stay, 1),
-        go: s.go,
-        right: right,
-    }
-}
-
-// One wire more that goes.
-fn gone(s: Compared, at: usize) -> Compared {
-    Compared {
-        at: at,
-        then: s.then,
-        stay: s.stay,
-        go: std::num::wrapping_add_usize(s.go, 1),
-        right: s.right,
-    }
-}
-
-// Compares the wire that starts at u, whose parts stand at `at` before the edit and at `then` after it.
-fn follow(
-    s: Compared,
-    was: &[u8],
-    at: usize,
-    now: &[u8],
-    then: usize,
-    start: usize,
-    edit: Edit,
-) -> Compared {
-    let mut u = start;
-    let mut right = s.right;
-    let mut a = part_at(was, at);
-    let mut b = part_at(now, then);
-    let mut ends = stayed(s, at, then, right);
-    let mut turns: u64 = 20000;
-    while turns > 0 && a.fits && right {
-        right = b.fits && a.place == b.place && lane_fits(edit, u, a.place, a.lane, b.lane);
-        ends = stayed(s, a.at, b.at, right);
-        u = a.place;
-        a = part_at(was, a.at);
-        b = part_at(now, b.at);
-        turns -= 1;
-    }
-    ends
-}
-
-// One wire of the listing before the edit: counted out of the record where it goes, and else compared with the next one of the listing after it.
-fn pass_wire(rec: &mut Record, was: &[u8], now: &[u8], edit: Edit, s: Compared) -> Compared {
-    let f = scan(was, s.at, b"(wire (pin # #)");
-    let start = 8 * cell(value(f, 0), value(f, 1));
-    if f.fits && goes(was, f.at, start, edit) {
-        let end = take_out(rec, was, f.at, start);
-        return gone(s, end);
-    }
-    let g = scan(now, s.then, b"(wire (pin # #)");
-    let alike = f.fits && g.fits && 8 * cell(value(g, 0), value(g, 1)) == start;
-    follow(stands(s, alike), was, f.at, now, g.at, start, edit)
+    Some((was.at(), now.at()))
 }
 
 // The wires of a list are at their end.
 fn is_past(list: &[u8], at: usize) -> bool {
-    let f = scan(list, at, b"(length ");
-    f.fits
+    scan(list, at, b"(length ").is_some()
 }
 
-// All wires of the listing before the edit, with the listing after it.
-fn pass_wires(rec: &mut Record, was: &[u8], now: &[u8], edit: Edit, first: Compared) -> Compared {
-    let mut s = first;
-    let mut turns: u64 = 1600;
-    while turns > 0 && s.right && !is_past(was, s.at) {
-        s = pass_wire(rec, was, now, edit, s);
-        turns -= 1;
+// The listings before and after an edit, how far they are compared, and how many wires stay and go. What is not as it has to be ends the comparison with None.
+#[derive(Clone, Copy)]
+struct Comparison<'a> {
+    was: &'a [u8],
+    now: &'a [u8],
+    at: usize,
+    then: usize,
+    stay: usize,
+    go: usize,
+}
+
+impl<'a> Comparison<'a> {
+    // One wire of the listing before the edit: counted out of the record where it goes, and else compared with the next one of the listing after it.
+    fn pass_wire(&mut self, rec: &mut Record, edit: Edit) -> Option<()> {
+        let f = scan(self.was, self.at, b"(wire (pin # #)")?;
+        let start = pin(f)?;
+        let wire = Wire::new(self.was, f.at, start);
+        if goes(wire, start.cell, edit) {
+            self.at = take_out(rec, wire);
+            self.go = self.go.wrapping_add(1);
+            return Some(());
+        }
+        let g = scan(self.now, self.then, b"(wire (pin # #)")?;
+        if pin(g)? != start {
+            return None;
+        }
+        let (at, then) = follow(wire, Wire::new(self.now, g.at, start), edit)?;
+        self.at = at;
+        self.then = then;
+        self.stay = self.stay.wrapping_add(1);
+        Some(())
     }
-    s
+
+    // All wires of the listing before the edit, with the listing after it.
+    fn pass_wires(&mut self, rec: &mut Record, edit: Edit) -> Option<()> {
+        for _ in 0..1600 {
+            if is_past(self.was, self.at) {
+                break;
+            }
+            self.pass_wire(rec, edit)?;
+        }
+        Some(())
+    }
+}
+
+// How many wires of a listing stay and how many go.
+#[derive(Clone, Copy)]
+struct Passed {
+    stay: usize,
+    go: usize,
 }
 
 // Both listings are compared to the end of their wires, and their first lines count the wires that were there and those that stay.
-fn pass_all(rec: &mut Record, was: &[u8], now: &[u8], edit: Edit) -> Compared {
-    let f = scan(was, 0, b"(wires #)\n");
-    let g = scan(now, 0, b"(wires #)\n");
-    let first = Compared {
+fn pass_all(rec: &mut Record, was: &[u8], now: &[u8], edit: Edit) -> Option<Passed> {
+    let f = scan(was, 0, b"(wires #)\n")?;
+    let g = scan(now, 0, b"(wires #)\n")?;
+    let mut both = Comparison {
+        was,
+        now,
         at: f.at,
         then: g.at,
         stay: 0,
         go: 0,
-        right: f.fits && g.fits,
     };
-    let s = pass_wires(rec, was, now, edit, first);
-    let ended = is_past(was, s.at) && is_past(now, s.then);
-    let all = std::num::wrapping_add_usize(s.stay, s.go);
-    stands(s, ended && value(f, 0) == all && value(g, 0) == s.stay)
-}
-
-// Of all edits together: the wires that stay, those that go by what takes them out (START to PAST), the edits that leave wires, and those that take some out.
-pub type Kept = [u64; 9];
-
-fn add(kept: &mut Kept, k: usize, n: usize) {
-    if k < 9 {
-        kept[k] = std::num::wrapping_add_u64(kept[k], n as u64);
+    both.pass_wires(rec, edit)?;
+    let ended = is_past(was, both.at) && is_past(now, both.then);
+    let all = both.stay.wrapping_add(both.go);
+    if ended && f.value(0) == all && g.value(0) == both.stay {
+        Some(Passed {
+            stay: both.stay,
+            go: both.go,
+        })
+    } else {
+        None
     }
 }
 
-fn note(kept: &mut Kept, edit: Edit, s: Compared) {
-    add(kept, 0, s.stay);
-    add(kept, edit.takes, s.go);
-    add(kept, 7, if s.stay > 0 { 1 } else { 0 });
-    add(kept, 8, if s.go > 0 { 1 } else { 0 });
+// Of all edits together: the edits that leave wires and those that take some out, the wires that stay, and those that go, by what takes them out.
+#[derive(Clone, Copy, PartialEq, Eq, Debug)]
+pub struct Kept {
+    leaving: u64,
+    taking: u64,
+    stay: u64,
+    from: u64,
+    past: u64,
+    past_any: u64,
+    meeting: u64,
+    through: u64,
+    lanes: u64,
 }
 
-pub fn tell_kept(rt: &impl Print, kept: &Kept) {
-    line(rt, b"edits that leave wires", kept[7]);
-    line(rt, b"edits that take out wires", kept[8]);
-    line(rt, b"wires that stay", kept[0]);
-    line(rt, b"wires that go, from their pin", kept[1]);
-    line(rt, b"wires that go, past a missing pin", kept[2]);
-    line(rt, b"wires that go, through a closed tile", kept[3]);
-    line(rt, b"wires that go, in the highest lanes", kept[4]);
-    line(rt, b"wires that go, through a centre", kept[5]);
-    line(rt, b"wires that go, where E is lowered", kept[6]);
+fn add(count: &mut u64, n: usize) {
+    *count = count.wrapping_add(n as u64);
 }
 
-fn put(rec: &mut Record, at: usize, value: usize) {
-    if at < 32768 {
-        if value < 256 {
-            rec[at] = value as u8;
+impl Kept {
+    pub const NONE: Kept = Kept {
+        leaving: 0,
+        taking: 0,
+        stay: 0,
+        from: 0,
+        past: 0,
+        past_any: 0,
+        meeting: 0,
+        through: 0,
+        lanes: 0,
+    };
+
+    fn note(&mut self, edit: Edit, passed: Passed) {
+        add(&mut self.leaving, usize::from(passed.stay > 0));
+        add(&mut self.taking, usize::from(passed.go > 0));
+        add(&mut self.stay, passed.stay);
+        match edit.takes {
+            Takes::Nothing => {}
+            Takes::From(_) => add(&mut self.from, passed.go),
+            Takes::Past(_) => add(&mut self.past, passed.go),
+            Takes::PastAny => add(&mut self.past_any, passed.go),
+            Takes::Meeting(_) => add(&mut self.meeting, passed.go),
+            Takes::Through(_) => add(&mut self.through, passed.go),
+            Takes::Lanes { .. } => add(&mut self.lanes, passed.go),
         }
     }
-}
 
-// Every byte of the record is the expected one.
-fn hold_bytes(rt: &impl Print, tally: &mut Tally, expected: &Record, rec: &Record) {
-    hold(rt, tally, same(expected, rec), b"the record after an edit");
+    pub fn tell(&self, rt: &impl Print) {
+        line(rt, b"edits that leave wires", self.leaving);
+        line(rt, b"edits that take out wires", self.taking);
+        line(rt, b"wires that stay", self.stay);
+        line(rt, b"wires that go, from their pin", self.from);
+        line(rt, b"wires that go, past a missing pin", self.past);
+        line(rt, b"wires that go, through a closed tile", self.meeting);
+        line(rt, b"wires that go, in the highest lanes", self.lanes);
+        line(rt, b"wires that go, through a centre", self.through);
+        line(rt, b"wires that go, where E is lowered", self.past_any);
+    }
 }
 
 // The wires of the record are legal, in the job whose other pins are idle.
-fn hold_legal(rt: &impl Print, tally: &mut Tally, rec: &Record, job: &Job, list: &[u8]) {
-    let w = check_listing(&only_wired(rec, job), list);
-    hold(
-        rt,
-        tally,
-        w.fault == LEGAL,
-        b"the wires after an edit are legal",
-    );
+fn holds_legal(rec: &Record, job: &Job, list: &[u8]) -> bool {
+    check_listing(&only_wired(rec, job), list).is_ok()
 }
 
 // The record after an edit that changes something: the job is the edited one, the wires that it takes out are gone, and every other is there.
@@ -381,17 +373,18 @@ pub fn hold_kept(
     let mut expected = *before;
     let n = listed(before, &mut was);
     let m = listed(rec, &mut now);
-    let s = pass_all(&mut expected, shown(&was, n), shown(&now, m), edit);
-    put(&mut expected, edit.at, edit.value);
-    note(kept, edit, s);
-    hold(rt, tally, s.right, b"an edit keeps the other wires");
-    hold_bytes(rt, tally, &expected, rec);
-    hold(rt, tally, holds_job(rec, job), b"the job after an edit");
-    hold(
-        rt,
-        tally,
-        s.go > 0 || same(shown(&was, n), shown(&now, m)),
-        b"an edit that takes out no wire",
-    );
-    hold_legal(rt, tally, rec, job, shown(&now, m));
+    let (was, now) = (shown(&was, n), shown(&now, m));
+    let passed = pass_all(&mut expected, was, now, edit);
+    edit.put(&mut expected);
+    tally.hold(rt, passed.is_some(), b"an edit keeps the other wires");
+    tally.hold(rt, same(&expected, rec), b"the record after an edit");
+    tally.hold(rt, holds_job(rec, job), b"the job after an edit");
+    let takes = passed.is_some_and(|passed| passed.go > 0);
+    let alike = takes || same(was, now);
+    tally.hold(rt, alike, b"an edit that takes out no wire");
+    let legal = holds_legal(rec, job, now);
+    tally.hold(rt, legal, b"the wires after an edit are legal");
+    if let Some(passed) = passed {
+        kept.note(edit, passed);
+    }
 }

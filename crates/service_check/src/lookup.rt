@@ -1,7 +1,6 @@
 // The part at an index of a pin's wire, looked up in a listing.
 use check::same;
-use compare::listed::held;
-use oracle_text::page::{Page as Sheet, byte, pair, word};
+use oracle_text::page::Page as Sheet;
 use oracle_text::scan::byte_at;
 use verdict::bytes::span;
 use verdict::legal::is_wired;
@@ -44,26 +43,24 @@ fn skip(list: &[u8], at: usize, index: usize) -> usize {
 
 // Where the parts of the pin p begin.
 fn parts_of(list: &[u8], p: usize) -> usize {
-    let mut sheet = [0u8; 262144];
-    let a = word(&mut sheet, 0, b"(wire (pin ");
-    let b = pair(&mut sheet, a, p / 40, p % 40);
-    let c = byte(&mut sheet, b, b')');
-    std::num::wrapping_add_usize(find(list, held(&sheet, c)), c)
+    let mut sheet = Sheet::EMPTY;
+    sheet.word(b"(wire (pin ");
+    sheet.pair(p / 40, p % 40);
+    sheet.push(b')');
+    std::num::wrapping_add_usize(find(list, sheet.text()), sheet.text().len())
 }
 
 // What Part has to answer of the pin p at the index, as the listing prints it.
-pub fn put_expected(out: &mut Sheet, rec: &Record, list: &[u8], p: usize, index: usize) -> usize {
+pub fn put_expected(out: &mut Sheet, rec: &Record, list: &[u8], p: usize, index: usize) {
     if !is_wired(rec, p) {
-        return word(out, 0, b"unwired");
+        out.word(b"unwired");
+        return;
     }
     let at = skip(list, parts_of(list, p), index);
     if byte_at(list, at) != b' ' {
-        return word(out, 0, b"past");
+        out.word(b"past");
+        return;
     }
     let end = past(list, at);
-    word(
-        out,
-        0,
-        span(list, at, std::num::wrapping_sub_usize(end, at)),
-    )
+    out.word(span(list, at, std::num::wrapping_sub_usize(end, at)));
 }

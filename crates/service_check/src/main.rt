@@ -15,40 +15,40 @@ mod lookup; // a part in a listing
 mod steps; // the parts and the links of a wire
 
 use compare::shortened::tell_found;
-use verdict::bytes::{line, tell};
+use verdict::bytes::{Tally, line};
 
 // The parts are kept apart, since the pages of all together are more than a stack holds.
 #[inline(never)]
 fn random_calls(rt: &impl Print) {
-    let mut calls = [0u64; 2];
+    let mut calls = Tally::NONE;
     let mut direct = [0u64; 2];
-    let mut kept = [0u64; 9];
+    let mut kept = kept::Kept::NONE;
     let mut found = [0u64; 2];
     calls::calls(rt, &mut calls, &mut found, &mut direct, &mut kept);
-    tell(rt, b"random calls", &calls);
+    calls.tell(rt, b"random calls");
     tell_found(rt, &found);
     line(rt, b"calls after which a wire leaves directly", direct[0]);
     line(rt, b"calls after which none does", direct[1]);
-    kept::tell_kept(rt, &kept);
+    kept.tell(rt);
 }
 
 #[inline(never)]
 fn full_records(rt: &impl Print) {
-    let mut full = [0u64; 2];
-    let mut kept = [0u64; 9];
+    let mut full = Tally::NONE;
+    let mut kept = kept::Kept::NONE;
     let mut found = [0u64; 2];
     full::full(rt, &mut full, &mut found, &mut kept);
-    tell(rt, b"edits of full records", &full);
+    full.tell(rt, b"edits of full records");
     tell_found(rt, &found);
-    kept::tell_kept(rt, &kept);
+    kept.tell(rt);
 }
 
 #[inline(never)]
 fn given_examples(rt: &impl Print) {
-    let mut examples = [0u64; 2];
+    let mut examples = Tally::NONE;
     examples::examples(rt, &mut examples);
     edited::edited(rt, &mut examples);
-    tell(rt, b"examples", &examples);
+    examples.tell(rt, b"examples");
 }
 
 fn main(rt: HostRuntime) {

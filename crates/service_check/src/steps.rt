@@ -1,154 +1,152 @@
-// The parts of a wire in a listing, and the load byte that a step from a place to the next is counted in. A place is 8 × its cell + its kind, as in the verdict:
-// 0 a pin, 2 to 5 n, e, s, w, 6 a centre; OUT + kind is the outside, by a pin or by a side.
-ghost use Rattle.std.specs.Prelude.{◌<◌};
+// The wires of a listing step by step, and the link by which each step goes.
+use oracle_text::job::Side;
+use oracle_text::scan::{Found, scan};
+use verdict::ends::{Link, Place, Plane, Spot, clockwise};
 
-use crate::expect::cell;
-use oracle_text::scan::{scan, value};
+// Where a step leads: to a place, or outside by a pin or a side.
+#[derive(Clone, Copy, PartialEq, Eq, Debug)]
+pub enum Goal {
+    At(Place),
+    Out(Spot),
+}
 
-pub const OUT: usize = 12800;
-
-// The number of no link.
-pub const NO_LINK: usize = 24000;
-
-// A part of a wire: whether one stands there, the place that the wire comes to, the lane by which it does, and the offset behind the part.
-#[derive(Clone, Copy)]
-pub struct Part {
-    pub fits: bool,
-    pub at: usize,
-    pub place: usize,
+// A step of a wire by a lane.
+#[derive(Clone, Copy, PartialEq, Eq, Debug)]
+pub struct Step {
+    pub from: Place,
+    pub to: Goal,
     pub lane: usize,
 }
 
-// The kind of a place by its letter; 7 for none.
-pub fn kind_of(letter: usize) -> usize
-    ensures { result < 8 }
-{
-    match letter {
-        112 => 0,
-        114 => 0,
-        110 => 2,
-        101 => 3,
-        115 => 4,
-        119 => 5,
-        99 => 6,
-        _ => 7,
+// The place of the cell at row r, column c, if there is such a cell.
+fn place(r: usize, c: usize, spot: Spot) -> Option<Place> {
+    if r < 40 && c < 40 {
+        Some(Place {
+            cell: 40 * r + c,
+            spot,
+        })
+    } else {
+        None
     }
 }
 
-// The part of the list at this offset.
-pub fn part_at(list: &[u8], at: usize) -> Part {
-    let to = scan(list, at, b" (to # # @ #)");
-    if to.fits {
-        return Part {
-            fits: true,
-            at: to.at,
-            place: 8 * cell(value(to, 0), value(to, 1)) + kind_of(value(to, 2)),
-            lane: value(to, 3),
-        };
-    }
-    let out = scan(list, at, b" (out @ #))\n");
-    Part {
-        fits: out.fits,
-        at: out.at,
-        place: OUT + kind_of(value(out, 0)),
-        lane: value(out, 1),
+// The pin that a template has found by its first two numbers.
+pub fn pin(found: Found) -> Option<Place> {
+    place(found.value(0), found.value(1), Spot::Pin)
+}
+
+// What a letter of the listing stands for.
+fn spot(letter: usize) -> Option<Spot> {
+    match u8::try_from(letter).ok()? {
+        b'p' | b'r' => Some(Spot::Pin),
+        b'c' => Some(Spot::Centre),
+        side => Some(Spot::Side(Side::from_letter(side)?)),
     }
 }
 
-// The link at the cell of the plane: 0 north sides, 1 west sides, 2 to 5 corners, 6 to 9 spokes, 10 to 13 legs, 14 direct exits.
-fn link_at(plane: usize, p: usize) -> usize {
-    if plane < 15 {
-        if p < 1600 {
-            return 1600 * plane + p;
+// The rest of a wire: the list has its parts from the offset on, and they lead on from a place.
+#[derive(Clone, Copy)]
+pub struct Wire<'a> {
+    list: &'a [u8],
+    at: usize,
+    from: Place,
+}
+
+impl<'a> Wire<'a> {
+    pub fn new(list: &'a [u8], at: usize, from: Place) -> Wire<'a> {
+        Wire { list, at, from }
+    }
+
+    // The offset of its parts.
+    pub fn at(self) -> usize {
+        self.at
+    }
+
+    // Takes its next step, if there is one.
+    pub fn step(&mut self) -> Option<Step> {
+        let from = self.from;
+        if let Some(found) = scan(self.list, self.at, b" (to # # @ #)") {
+            let next = place(found.value(0), found.value(1), spot(found.value(2))?)?;
+            self.at = found.at;
+            self.from = next;
+            return Some(Step {
+                from,
+                to: Goal::At(next),
+                lane: found.value(3),
+            });
+        }
+        let found = scan(self.list, self.at, b" (out @ #))\n")?;
+        let to = Goal::Out(spot(found.value(0))?);
+        self.at = found.at;
+        Some(Step {
+            from,
+            to,
+            lane: found.value(1),
+        })
+    }
+}
+
+// The link that leads across this side of the tile.
+pub fn side_at(tile: usize, side: Side) -> Link {
+    let (plane, cell) = match side {
+        Side::North => (Plane::NorthSide, tile),
+        Side::East => (Plane::WestSide, tile.wrapping_add(1)),
+        Side::South => (Plane::NorthSide, tile.wrapping_add(40)),
+        Side::West => (Plane::WestSide, tile),
+    };
+    Link { plane, cell }
+}
+
+// The corner between two sides that follow one another.
+fn corner(a: Side, b: Side) -> Plane {
+    Plane::Corner(if b == clockwise(a) { a } else { b })
+}
+
+// The link between two places.
+fn link_between(from: Place, to: Place) -> Option<Link> {
+    let (plane, cell) = match (from.spot, to.spot) {
+        (Spot::Pin, Spot::Side(side)) => (Plane::Leg(side), from.cell),
+        (Spot::Side(side), Spot::Pin) => (Plane::Leg(side), to.cell),
+        (Spot::Centre, Spot::Side(side)) => (Plane::Spoke(side), to.cell),
+        (Spot::Side(side), Spot::Centre) => (Plane::Spoke(side), from.cell),
+        (Spot::Side(a), Spot::Side(b)) => {
+            if from.cell != to.cell {
+                return Some(side_at(from.cell, a));
+            }
+            (corner(a, b), from.cell)
+        }
+        _ => return None,
+    };
+    Some(Link { plane, cell })
+}
+
+impl Step {
+    // The link by which it goes.
+    pub fn link(self) -> Option<Link> {
+        match (self.from.spot, self.to) {
+            (_, Goal::At(to)) => link_between(self.from, to),
+            (Spot::Pin, Goal::Out(_)) => Some(Link {
+                plane: Plane::Exit,
+                cell: self.from.cell,
+            }),
+            (Spot::Side(side), Goal::Out(_)) => Some(side_at(self.from.cell, side)),
+            (Spot::Centre, Goal::Out(_)) => None,
         }
     }
-    NO_LINK
-}
 
-// The link that leads across the side of this kind of the tile p.
-pub fn side_at(p: usize, kind: usize) -> usize {
-    if p < 1600 {
-        return match kind {
-            2 => link_at(0, p),
-            3 => link_at(1, p + 1),
-            4 => link_at(0, p + 40),
-            5 => link_at(1, p),
-            _ => NO_LINK,
+    // It goes the positive way: away from a pin or a centre, clockwise, north or east.
+    pub fn goes_forth(self) -> bool {
+        let Spot::Side(side) = self.from.spot else {
+            return true;
         };
+        if let Goal::At(to) = self.to {
+            let Spot::Side(next) = to.spot else {
+                return false;
+            };
+            if to.cell == self.from.cell {
+                return next == clockwise(side);
+            }
+        }
+        side == Side::North || side == Side::East
     }
-    NO_LINK
-}
-
-// The plane of the legs to places of this kind: w of the NE tile, n of SE, e of SW, s of NW.
-fn leg(kind: usize) -> usize {
-    match kind {
-        5 => 10,
-        2 => 11,
-        3 => 12,
-        4 => 13,
-        _ => 15,
-    }
-}
-
-// A place of the kind b follows one of the kind a clockwise round the tile.
-fn follows(a: usize, b: usize) -> bool {
-    match a {
-        2 => b == 3,
-        3 => b == 4,
-        4 => b == 5,
-        _ => b == 2,
-    }
-}
-
-// The link between two places of the tile p, none of them a pin.
-fn link_inside(p: usize, a: usize, b: usize) -> usize {
-    if a == 6 {
-        return link_at(4 + b % 8, p);
-    }
-    if b == 6 {
-        return link_at(4 + a % 8, p);
-    }
-    if follows(a, b) {
-        return link_at(a, p);
-    }
-    link_at(b, p)
-}
-
-// The link by which a wire goes from the place u to the place v.
-pub fn link_between(u: usize, v: usize) -> usize {
-    let a = u % 8;
-    let b = v % 8;
-    if v >= OUT {
-        return if a == 0 {
-            link_at(14, u / 8)
-        } else {
-            side_at(u / 8, a)
-        };
-    }
-    if a == 0 {
-        return link_at(leg(b), u / 8);
-    }
-    if b == 0 {
-        return link_at(leg(a), v / 8);
-    }
-    if u / 8 == v / 8 {
-        return link_inside(u / 8, a, b);
-    }
-    side_at(u / 8, a)
-}
-
-// The wire goes the positive way: away from a pin or a centre, clockwise, north or east.
-pub fn goes_forth(u: usize, v: usize) -> bool {
-    let a = u % 8;
-    let b = v % 8;
-    if a == 0 || a == 6 {
-        return true;
-    }
-    if v >= OUT {
-        return a < 4;
-    }
-    if b == 0 || b == 6 {
-        return false;
-    }
-    if u / 8 == v / 8 { follows(a, b) } else { a < 4 }
 }

@@ -3,11 +3,11 @@
 ghost use Rattle.std.specs.Prelude.{◌<◌};
 
 use crate::judge::{CARRIED, REFUSED, judged, said};
-use answers::Answer;
-use oracle_text::job::Job;
-use oracle_text::random::{below, random_laid, random_own, xorshift};
+use answers::Stepped;
+use oracle_text::job::{Array, Job};
+use oracle_text::random::{Generator, below, random_laid, random_own, xorshift};
 use oracle_text::trial::{Percents, trial_job};
-use verdict::bytes::{Tally, first, hold};
+use verdict::bytes::{Tally, first};
 use verdict::record::{BEYOND, Record, put_unwired};
 
 // A sheet, with one byte more.
@@ -48,30 +48,29 @@ fn draw(seed: u32, low: bool) -> Job {
         missing: if below(b, 12) == 0 { 3 } else { 0 },
         closed: below(d / 64, 15),
     };
-    let rows = 2 + below(a / 16, 7);
-    let columns = 2 + below(b / 16, 7);
-    let mut job = trial_job(rows, columns, side, figure, below(c, 2), d, percents);
-    random_laid(d, below(c / 16, 120), &mut job);
+    let array = Array {
+        rows: 2 + below(a / 16, 7),
+        columns: 2 + below(b / 16, 7),
+        side,
+        diagonal: figure,
+        extra: below(c, 2),
+    };
+    let mut job = trial_job(array, d, percents);
+    random_laid(&mut Generator::new(d), below(c / 16, 120), &mut job);
     if !low {
-        random_own(c, 300, &mut job);
+        random_own(&mut Generator::new(c), 300, &mut job);
     }
     job
 }
 
 // One wire more, if one fits; gives whether one did.
 fn added(rec: &mut Record, scratch: &mut [u8; 65536]) -> bool {
-    let Answer::Added = routing::step(rec, scratch) else {
-        return false;
-    };
-    true
+    routing::step(rec, scratch) == Ok(Stepped::Added)
 }
 
 // Whether no pin is left to be wired.
 fn all_wired(rec: &mut Record, scratch: &mut [u8; 65536]) -> bool {
-    let Answer::AllWired = routing::step(rec, scratch) else {
-        return false;
-    };
-    true
+    routing::step(rec, scratch) == Ok(Stepped::AllWired)
 }
 
 // Wires as many pins as have room; gives whether all chosen ones are wired.
@@ -162,12 +161,7 @@ fn lent_record(rec: &Record, n: usize) -> &[u8] {
 
 // The operation says what the second implementation says.
 fn hold_said(rt: &impl Print, tally: &mut Tally, rec: &Record, job: &Job, sheet: &[u8]) {
-    hold(
-        rt,
-        tally,
-        said(rec, sheet) == judged(job, sheet),
-        b"the verdict",
-    );
+    tally.hold(rt, said(rec, sheet) == judged(job, sheet), b"the verdict");
 }
 
 // The sheet with a byte changed, and the same with one more.
@@ -193,9 +187,8 @@ fn several(rt: &impl Print, tally: &mut Tally, rec: &Record, job: &Job, sheet: &
 // The sheet of a record that has a wire for each chosen pin is carried, where O is 2 and no pin is missing.
 fn hold_carried(rt: &impl Print, tally: &mut Tally, rec: &Record, all: bool, sheet: &[u8]) {
     let verdict = said(rec, sheet);
-    hold(
+    tally.hold(
         rt,
-        tally,
         !all || verdict == CARRIED || verdict == REFUSED + 14,
         b"the sheet of a wired record is carried",
     );
@@ -204,7 +197,7 @@ fn hold_carried(rt: &impl Print, tally: &mut Tally, rec: &Record, all: bool, she
 // A record that is too short is refused.
 fn hold_short(rt: &impl Print, tally: &mut Tally, rec: &Record, sheet: &[u8]) {
     let verdict = said(lent_record(rec, 32767), sheet);
-    hold(rt, tally, verdict == REFUSED + 1, b"a short record");
+    tally.hold(rt, verdict == REFUSED + 1, b"a short record");
 }
 
 // The sheet on the job where every D is the least.

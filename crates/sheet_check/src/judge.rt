@@ -3,8 +3,8 @@ ghost use Rattle.std.specs.Prelude.{◌<◌};
 
 use crate::limits::{at, back, forth, job_fits, sheet_fits};
 use crate::tile::{least_passage, over};
-use answers::Answer;
-use oracle_text::job::{Job, figure, is_open, is_tile};
+use answers::Verdict;
+use oracle_text::job::Job;
 
 // A verdict: the number of the first failing tile, 40 r + c; or that it is carried; or the number of the refusal behind REFUSED.
 pub const CARRIED: usize = 1600;
@@ -56,8 +56,8 @@ fn is_bare(sheet: &[u8], r: usize, c: usize) -> bool
 fn carries(job: &Job, sheet: &[u8], r: usize, c: usize) -> bool {
     if r < 40 {
         if c < 40 {
-            if is_open(job, r, c) {
-                return passed(sheet, r, c) + 2 <= figure(job, 40 * r + c);
+            if job.is_open(r, c) {
+                return passed(sheet, r, c) + 2 <= job.figure(40 * r + c);
             }
             return is_bare(sheet, r, c);
         }
@@ -69,7 +69,7 @@ fn carries(job: &Job, sheet: &[u8], r: usize, c: usize) -> bool {
 fn first_failing(job: &Job, sheet: &[u8]) -> usize {
     let mut p = 0;
     while p < 1600 {
-        if is_tile(job, p / 40, p % 40) && !carries(job, sheet, p / 40, p % 40) {
+        if job.is_tile(p / 40, p % 40) && !carries(job, sheet, p / 40, p % 40) {
             return p;
         }
         p += 1;
@@ -91,16 +91,15 @@ pub fn judged(job: &Job, sheet: &[u8]) -> usize {
 // The operation's.
 pub fn said(rec: &[u8], sheet: &[u8]) -> usize {
     match sheets::sheet(rec, sheet) {
-        Answer::Carried => CARRIED,
-        Answer::Fails(r, c) => {
-            if r < 40 {
-                if c < 40 {
-                    return 40 * r + c;
+        Ok(Verdict::Carried) => CARRIED,
+        Ok(Verdict::Fails { row, column }) => {
+            if row < 40 {
+                if column < 40 {
+                    return 40 * row + column;
                 }
             }
             9999
         }
-        Answer::Refused(k) => std::num::wrapping_add_usize(REFUSED, k),
-        _ => 9999,
+        Err(refusal) => std::num::wrapping_add_usize(REFUSED, refusal.number()),
     }
 }

@@ -2,9 +2,7 @@
 ghost use Rattle.std.specs.Prelude.{◌<◌};
 
 use crate::tile::over;
-use oracle_text::job::{
-    CHOSEN, Job, MISSING, SIDE, count_marked, is_rim, is_tile, mark, number, room,
-};
+use oracle_text::job::{Job, Mark, Side};
 use verdict::bytes::wide;
 
 // The byte of a plane of the sheet at row r, column c; 0 where there is none.
@@ -41,7 +39,7 @@ pub fn back(b: usize) -> usize
 
 // The job is one of which sheets are judged.
 pub fn job_fits(job: &Job) -> bool {
-    number(job, SIDE) == 2 && count_marked(job, MISSING) == 0
+    job.side() == 2 && job.count_marked(Mark::Missing) == 0
 }
 
 // One less; 40, which no tile has, for 0.
@@ -49,10 +47,10 @@ fn before(x: usize) -> usize {
     if x > 0 { x - 1 } else { 40 }
 }
 
-// How many wires may leave the tile by its side with this letter; none where it is not of the array.
-fn leaving(job: &Job, r: usize, c: usize, letter: u8) -> usize {
-    if is_tile(job, r, c) {
-        room(job, r, c, letter)
+// How many wires may leave the tile by its side; none where it is not of the array.
+fn leaving(job: &Job, r: usize, c: usize, side: Side) -> usize {
+    if job.is_tile(r, c) {
+        job.room(r, c, side)
     } else {
         0
     }
@@ -66,10 +64,10 @@ fn load_fits(b: usize, most: usize, other: usize) -> bool {
 // The leg of the pin that the plane has a mark of leads to a tile of the array.
 fn leads_in(job: &Job, plane: usize, r: usize, c: usize) -> bool {
     match plane {
-        2 => is_tile(job, before(r), c),
-        3 => is_tile(job, r, c),
-        4 => is_tile(job, r, before(c)),
-        _ => is_tile(job, before(r), before(c)),
+        2 => job.is_tile(before(r), c),
+        3 => job.is_tile(r, c),
+        4 => job.is_tile(r, before(c)),
+        _ => job.is_tile(before(r), before(c)),
     }
 }
 
@@ -78,15 +76,15 @@ fn byte_fits(job: &Job, b: usize, plane: usize, r: usize, c: usize) -> bool {
     if plane == 0 {
         return load_fits(
             b,
-            leaving(job, r, c, b'n'),
-            leaving(job, before(r), c, b's'),
+            leaving(job, r, c, Side::North),
+            leaving(job, before(r), c, Side::South),
         );
     }
     if plane == 1 {
         return load_fits(
             b,
-            leaving(job, r, before(c), b'e'),
-            leaving(job, r, c, b'w'),
+            leaving(job, r, before(c), Side::East),
+            leaving(job, r, c, Side::West),
         );
     }
     b == 0 || (b == 1 && is_chosen(job, r, c) && leads_in(job, plane, r, c))
@@ -95,7 +93,7 @@ fn byte_fits(job: &Job, b: usize, plane: usize, r: usize, c: usize) -> bool {
 fn is_chosen(job: &Job, r: usize, c: usize) -> bool {
     if r < 40 {
         if c < 40 {
-            return mark(job, 40 * r + c) == CHOSEN;
+            return job.mark(40 * r + c) == Mark::Chosen;
         }
     }
     false
@@ -104,7 +102,7 @@ fn is_chosen(job: &Job, r: usize, c: usize) -> bool {
 // A chosen pin has one mark, or none on the rim.
 fn pin_fits(job: &Job, sheet: &[u8], r: usize, c: usize) -> bool {
     let marks = at(sheet, 2, r, c) + at(sheet, 3, r, c) + at(sheet, 4, r, c) + at(sheet, 5, r, c);
-    !is_chosen(job, r, c) || marks == 1 || (marks == 0 && is_rim(job, r, c))
+    !is_chosen(job, r, c) || marks == 1 || (marks == 0 && job.is_rim(r, c))
 }
 
 // Every pin has the marks that it should.

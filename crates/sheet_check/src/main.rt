@@ -9,16 +9,16 @@ mod table; // the table of data/
 mod tile; // what one tile carries, by trying every load of its corners
 mod vectors; // the vectors of data/
 
-use verdict::bytes::tell;
+use verdict::bytes::Tally;
 
 fn main(rt: HostRuntime) {
-    let mut table = [0u64; 2];
+    let mut table = Tally::NONE;
     table::table(&rt, &mut table);
-    tell(&rt, b"table", &table);
-    let mut vectors = [0u64; 2];
+    table.tell(&rt, b"table");
+    let mut vectors = Tally::NONE;
     vectors::vectors(&rt, &mut vectors);
-    tell(&rt, b"vectors", &vectors);
-    let mut calls = [0u64; 2];
+    vectors.tell(&rt, b"vectors");
+    let mut calls = Tally::NONE;
     calls::calls(&rt, &mut calls);
-    tell(&rt, b"sheets of wired records", &calls);
+    calls.tell(&rt, b"sheets of wired records");
 }

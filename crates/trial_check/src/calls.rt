@@ -1,9 +1,12 @@
 // Random calls on one record: each is held to what it has to answer, and the record to the job of the trial, or to what it was where the call is refused.
-use answers::Answer;
+use answers::Refusal;
 use check::same;
+use model::Capacities;
+use oracle_text::job::Array;
 use oracle_text::random::{below, xorshift};
 use oracle_text::trial::{Percents, trial_job};
-use verdict::bytes::{Tally, hold};
+use trials::Draws;
+use verdict::bytes::Tally;
 use verdict::record::{BEYOND, Record, holds_unwired};
 
 // The arguments of a call, and how many bytes of the record are lent.
@@ -126,17 +129,30 @@ fn refusal(q: Asked) -> usize {
     if percents_fit(q) { 0 } else { 13 }
 }
 
-fn trial(rec: &mut [u8], q: Asked) -> Answer {
-    trials::trial(
-        rec, q.rows, q.columns, q.o, q.d, q.e, q.seed, q.chosen, q.missing, q.closed,
-    )
+fn trial(rec: &mut [u8], q: Asked) -> Result<(), Refusal> {
+    let array = model::Array {
+        rows: q.rows,
+        columns: q.columns,
+    };
+    let capacities = Capacities {
+        orthogonal: q.o,
+        diagonal: q.d,
+        extra: q.e,
+    };
+    let draws = Draws {
+        seed: q.seed,
+        chosen: q.chosen,
+        missing: q.missing,
+        closed: q.closed,
+    };
+    trials::trial(rec, array, capacities, draws)
 }
 
-fn call(rec: &mut [u8], q: Asked) -> Answer {
+fn call(rec: &mut [u8], q: Asked) -> Result<(), Refusal> {
     if q.n <= rec.len() {
         return trial(&mut rec[..q.n], q);
     }
-    Answer::Done
+    Ok(())
 }
 
 // The record is that of the second implementation's job.
@@ -151,7 +167,14 @@ fn holds_trial(rec: &Record, q: Asked) -> bool {
     } else {
         0
     };
-    let job = trial_job(q.rows, q.columns, q.o, q.d, q.e, seed, percents);
+    let array = Array {
+        rows: q.rows,
+        columns: q.columns,
+        side: q.o,
+        diagonal: q.d,
+        extra: q.e,
+    };
+    let job = trial_job(array, seed, percents);
     holds_unwired(rec, &job)
 }
 
@@ -159,20 +182,14 @@ fn hold_call(rt: &impl Print, tally: &mut Tally, rec: &mut Record, q: Asked) {
     let before = *rec;
     let wanted = refusal(q);
     let said = match call(rec, q) {
-        Answer::Refused(k) => k,
-        Answer::Done => 0,
-        _ => 99,
+        Ok(()) => 0,
+        Err(refusal) => refusal.number(),
     };
-    hold(rt, tally, said == wanted, b"the answer");
+    tally.hold(rt, said == wanted, b"the answer");
     if wanted == 0 {
-        hold(rt, tally, holds_trial(rec, q), b"the job");
+        tally.hold(rt, holds_trial(rec, q), b"the job");
     } else {
-        hold(
-            rt,
-            tally,
-            same(&before, rec),
-            b"a refused call changes nothing",
-        );
+        tally.hold(rt, same(&before, rec), b"a refused call changes nothing");
     }
 }
 

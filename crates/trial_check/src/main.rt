@@ -5,13 +5,13 @@
 mod calls; // random calls
 mod vectors; // the vectors of data/
 
-use verdict::bytes::tell;
+use verdict::bytes::Tally;
 
 fn main(rt: HostRuntime) {
-    let mut vectors = [0u64; 2];
+    let mut vectors = Tally::NONE;
     vectors::vectors(&rt, &mut vectors);
-    tell(&rt, b"vectors", &vectors);
-    let mut calls = [0u64; 2];
+    vectors.tell(&rt, b"vectors");
+    let mut calls = Tally::NONE;
     calls::calls(&rt, &mut calls);
-    tell(&rt, b"random calls", &calls);
+    calls.tell(&rt, b"random calls");
 }

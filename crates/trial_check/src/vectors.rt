@@ -1,12 +1,14 @@
 // The vectors of data/: the text of each job, which Write text gives after the call with the arguments of its row, and which the second implementation's job has.
-use answers::Answer;
+use answers::Refusal;
 use check::same;
 use files::load;
-use oracle_text::job::Job;
-use oracle_text::page::{Page, byte, decimal, word};
+use model::Capacities;
+use oracle_text::job::{Array, Job};
+use oracle_text::page::Page;
 use oracle_text::trial::{Percents, trial_job};
 use std::rt::Files;
-use verdict::bytes::{Tally, first, hold};
+use trials::{Draws, trial};
+use verdict::bytes::{Tally, first};
 
 // Rows, columns, O, D, E, the starting number, and the percentages of chosen and missing pins and of closed tiles.
 const ROWS: [usize; 180] = [
@@ -21,12 +23,6 @@ const ROWS: [usize; 180] = [
     8, 12, 6, 2991210949, 0, 65, 0,
 ];
 
-// The first `n` bytes of the page.
-fn held(page: &Page, n: usize) -> &[u8] {
-    let all: &[u8] = page;
-    first(all, n)
-}
-
 // Argument i of row k.
 fn argument(k: usize, i: usize) -> usize {
     if k < 20 {
@@ -37,39 +33,45 @@ fn argument(k: usize, i: usize) -> usize {
     0
 }
 
-// Reads the vector with the number k, of two digits, and gives its length.
-fn load_vector(rt: &(impl Files + Eprint), k: usize, page: &mut Page) -> usize {
-    let mut path = [0u8; 262144];
-    let a = word(&mut path, 0, b"trial");
-    let b = if k < 10 { byte(&mut path, a, b'0') } else { a };
-    let c = decimal(&mut path, b, k);
-    let d = word(&mut path, c, b".job");
-    load(rt, held(&path, d), page)
+// Reads the vector with the number k, of two digits.
+fn load_vector<'a>(rt: &(impl Files + Eprint), k: usize, buffer: &'a mut [u8; 262144]) -> &'a [u8] {
+    let mut path = Page::EMPTY;
+    path.word(b"trial");
+    if k < 10 {
+        path.push(b'0');
+    }
+    path.decimal(k);
+    path.word(b".job");
+    load(rt, path.text(), buffer)
 }
 
 // The record of row k.
-fn made(k: usize, rec: &mut [u8]) -> Answer {
-    trials::trial(
-        rec,
-        argument(k, 0),
-        argument(k, 1),
-        argument(k, 2),
-        argument(k, 3),
-        argument(k, 4),
-        argument(k, 5),
-        argument(k, 6),
-        argument(k, 7),
-        argument(k, 8),
-    )
+fn made(k: usize, rec: &mut [u8]) -> Result<(), Refusal> {
+    let array = model::Array {
+        rows: argument(k, 0),
+        columns: argument(k, 1),
+    };
+    let capacities = Capacities {
+        orthogonal: argument(k, 2),
+        diagonal: argument(k, 3),
+        extra: argument(k, 4),
+    };
+    let draws = Draws {
+        seed: argument(k, 5),
+        chosen: argument(k, 6),
+        missing: argument(k, 7),
+        closed: argument(k, 8),
+    };
+    trial(rec, array, capacities, draws)
 }
 
 // The text of row k by the operations; gives its length.
-fn written(k: usize, out: &mut Page) -> usize {
+fn written(k: usize, out: &mut [u8; 262144]) -> usize {
     let mut rec = [7u8; 32768];
-    let Answer::Done = made(k, &mut rec) else {
+    let Ok(()) = made(k, &mut rec) else {
         return 0;
     };
-    let Answer::Wrote(n) = making::write_text(&rec, out) else {
+    let Ok(n) = making::write_text(&rec, out) else {
         return 0;
     };
     n
@@ -83,12 +85,15 @@ fn expected(k: usize) -> Job {
         missing: argument(k, 7),
         closed: argument(k, 8),
     };
+    let array = Array {
+        rows: argument(k, 0),
+        columns: argument(k, 1),
+        side: argument(k, 2),
+        diagonal: argument(k, 3),
+        extra: argument(k, 4),
+    };
     trial_job(
-        argument(k, 0),
-        argument(k, 1),
-        argument(k, 2),
-        argument(k, 3),
-        argument(k, 4),
+        array,
         if seed < 4294967296 { seed as u32 } else { 0 },
         percents,
     )
@@ -97,15 +102,14 @@ fn expected(k: usize) -> Job {
 fn vector(rt: &(impl Files + Print + Eprint), tally: &mut Tally, k: usize) {
     let mut text = [0u8; 262144];
     let mut mine = [0u8; 262144];
-    let mut other = [0u8; 262144];
-    let n = load_vector(rt, k, &mut text);
+    let mut other = Page::EMPTY;
+    let text = load_vector(rt, k, &mut text);
     let a = written(k, &mut mine);
-    let b = oracle_text::text::write_text(&expected(k), &mut other);
-    hold(rt, tally, same(held(&mine, a), held(&text, n)), b"the text");
-    hold(
+    oracle_text::text::write_text(&expected(k), &mut other);
+    tally.hold(rt, same(first(&mine, a), text), b"the text");
+    tally.hold(
         rt,
-        tally,
-        same(held(&other, b), held(&text, n)),
+        same(other.text(), text),
         b"the text of the second implementation",
     );
 }

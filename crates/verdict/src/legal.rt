@@ -3,318 +3,312 @@
 ghost use Rattle.std.specs.Prelude.{◌<◌};
 
 use crate::bytes::{all, span};
-use crate::ends::{
-    OUTSIDE, ahead, behind, columns, diagonal, exists, extra, laid, load, mark, own, rows, side,
-    state,
-};
+use crate::ends::{End, Fields, Link, Place, Plane, Spot};
+use oracle_text::job::Side;
 
-// A number for each place.
-type Counts = [u16; 12802];
-
-// How many wires a load byte says; more than any limit where it says nothing.
-fn amount(x: usize) -> usize
-    ensures { result < 1001 }
-{
-    if x < 32 {
-        return x;
+// How many wires a load byte says, if it says anything.
+fn amount(load: usize) -> Option<usize> {
+    match load {
+        0..=31 => Some(load),
+        33..=63 => Some(load - 32),
+        _ => None,
     }
-    if 32 < x {
-        if x < 64 {
-            return x - 32;
+}
+
+// The limit of the link, if it has one of its own.
+fn limit(fields: Fields, link: Link) -> Option<usize> {
+    let side = fields.side();
+    match link.plane {
+        Plane::NorthSide => Some(side.saturating_sub(fields.laid_north(link.cell))),
+        Plane::WestSide => Some(side.saturating_sub(fields.laid_west(link.cell))),
+        Plane::Corner(_) => Some(side / 2),
+        Plane::Spoke(_) => None,
+        Plane::Leg(_) | Plane::Exit => {
+            if fields.is_chosen(link.cell) {
+                Some(1)
+            } else {
+                None
+            }
         }
     }
-    1000
 }
 
-// The limit of the side i.
-fn side_limit(rec: &[u8], i: usize) -> usize {
-    let o = side(rec);
-    let n = laid(rec, i);
-    if n < o { o - n } else { 0 }
-}
-
-// The limit of the link i; 31 where it has none of its own.
-fn limit(rec: &[u8], i: usize) -> usize {
-    let plane = i / 1600;
-    if plane < 2 {
-        return side_limit(rec, i);
-    }
-    if plane < 6 {
-        return side(rec) / 2;
-    }
-    if plane >= 10 && mark(rec, i % 1600) == 1 {
-        return 1;
-    }
-    31
-}
-
-// The end that the wires on the link i leave.
-fn tail(rec: &[u8], i: usize) -> usize {
-    if load(rec, i) < 32 {
-        behind(rec, i)
-    } else {
-        ahead(rec, i)
+// As many wires as the link's load says may be on it.
+fn is_within(fields: Fields, link: Link) -> bool {
+    match (amount(fields.load(link)), limit(fields, link)) {
+        (Some(n), Some(most)) => n <= most,
+        (Some(_), None) => true,
+        (None, _) => false,
     }
 }
 
-// The end that they come to.
-fn head(rec: &[u8], i: usize) -> usize {
-    if load(rec, i) < 32 {
-        ahead(rec, i)
-    } else {
-        behind(rec, i)
+// The link exists, and its wires may go the way that they go: none comes from outside, and none to a chosen pin.
+fn goes_right(fields: Fields, link: Link) -> bool {
+    let Some(way) = fields.way(link) else {
+        return false;
+    };
+    match link.plane {
+        Plane::NorthSide | Plane::WestSide => way.from != End::Outside,
+        Plane::Corner(_) | Plane::Spoke(_) => true,
+        Plane::Leg(_) | Plane::Exit => !fields.is_chosen(link.cell) || fields.load(link) < 32,
     }
 }
 
-// No wire comes from outside, and none to a chosen pin.
-fn goes_right(rec: &[u8], i: usize) -> bool {
-    if i / 1600 < 2 {
-        return tail(rec, i) != OUTSIDE;
-    }
-    i / 1600 < 10 || mark(rec, i % 1600) != 1 || load(rec, i) < 32
+// The load of the link is 0, or the link exists, within its limit and the way it leads.
+fn load_fits(fields: Fields, link: Link) -> bool {
+    fields.load(link) == 0 || (is_within(fields, link) && goes_right(fields, link))
 }
 
-// The load of the link i is 0, or the link exists, within its limit and the way it leads.
-fn load_fits(rec: &[u8], i: usize) -> bool {
-    load(rec, i) == 0
-        || (exists(rec, i) && amount(load(rec, i)) <= limit(rec, i) && goes_right(rec, i))
+fn plane_fits(fields: Fields, plane: Plane) -> bool {
+    (0..1600).all(|cell| load_fits(fields, Link { plane, cell }))
+}
+
+fn loads_fit(fields: Fields) -> bool {
+    Plane::ALL.iter().all(|plane| plane_fits(fields, *plane))
 }
 
 fn in_range(x: usize, least: usize, most: usize) -> bool {
     x >= least && x <= most
 }
 
-fn header_fits(rec: &[u8]) -> bool {
-    let o = side(rec);
-    in_range(rows(rec), 2, 40)
-        && in_range(columns(rec), 2, 40)
+fn header_fits(fields: Fields) -> bool {
+    let o = fields.side();
+    in_range(fields.rows(), 2, 40)
+        && in_range(fields.columns(), 2, 40)
         && in_range(o, 1, 8)
-        && in_range(diagonal(rec), o, 2 * o)
-        && extra(rec) <= 16
-        && all(span(rec, 5, 763), 0)
+        && in_range(fields.diagonal(), o, 2 * o)
+        && fields.extra() <= 16
 }
 
 // The own D of the tile p, 40 r + c, is a value that may stand there: none, or from O to twice O and not the job's.
-fn own_fits(rec: &[u8], p: usize) -> bool {
-    let v = own(rec, p);
-    let o = side(rec);
-    let tile = p / 40 + 1 < rows(rec) && p % 40 + 1 < columns(rec);
-    v == 0 || (tile && in_range(v, o, 2 * o) && v != diagonal(rec))
+fn own_fits(fields: Fields, p: usize) -> bool {
+    let v = fields.own(p);
+    let o = fields.side();
+    let tile = p / 40 + 1 < fields.rows() && p % 40 + 1 < fields.columns();
+    v == 0 || (tile && in_range(v, o, 2 * o) && v != fields.diagonal())
+}
+
+// The number, where it may be other than 0.
+fn only_if(holds: bool, most: usize) -> usize {
+    if holds { most } else { 0 }
 }
 
 // The counts of the sides at the cell p, 40 r + c, are values that may stand there.
-fn counts_fit(rec: &[u8], p: usize) -> bool {
-    let r = p / 40;
-    let c = p % 40;
-    let north = if r < rows(rec) && c + 1 < columns(rec) {
-        side(rec)
-    } else {
-        0
-    };
-    let west = if r + 1 < rows(rec) && c < columns(rec) {
-        side(rec)
-    } else {
-        0
-    };
-    if p < 1600 {
-        return laid(rec, p) <= north && laid(rec, 1600 + p) <= west;
-    }
-    true
+fn counts_fit(fields: Fields, p: usize) -> bool {
+    let (down, right) = (p / 40 + 1, p % 40 + 1);
+    let north = down <= fields.rows() && right < fields.columns();
+    let west = down < fields.rows() && right <= fields.columns();
+    fields.laid_north(p) <= only_if(north, fields.side())
+        && fields.laid_west(p) <= only_if(west, fields.side())
 }
 
 // The mark and the state of the cell p, 40 r + c, are values that may stand there.
-fn cell_fits(rec: &[u8], p: usize) -> bool {
-    let r = p / 40;
-    let c = p % 40;
-    let most_mark = if r < rows(rec) && c < columns(rec) {
-        2
-    } else {
-        0
+fn cell_fits(fields: Fields, p: usize) -> bool {
+    let (down, right) = (p / 40 + 1, p % 40 + 1);
+    let pin = down <= fields.rows() && right <= fields.columns();
+    let tile = down < fields.rows() && right < fields.columns();
+    fields.mark(p) <= only_if(pin, 2)
+        && fields.state(p) <= only_if(tile, 1)
+        && counts_fit(fields, p)
+        && own_fits(fields, p)
+}
+
+fn cells_fit(fields: Fields) -> bool {
+    (0..1600).all(|p| cell_fits(fields, p))
+}
+
+// A number for each place.
+#[derive(Clone, Copy)]
+struct Counts {
+    numbers: [[u16; 6]; 1600],
+}
+
+impl Counts {
+    const NONE: Counts = Counts {
+        numbers: [[0; 6]; 1600],
     };
-    let most_state = if r + 1 < rows(rec) && c + 1 < columns(rec) {
-        1
-    } else {
-        0
+
+    // One for each place.
+    const ONES: Counts = Counts {
+        numbers: [[1; 6]; 1600],
     };
-    mark(rec, p) <= most_mark
-        && state(rec, p) <= most_state
-        && counts_fit(rec, p)
-        && own_fits(rec, p)
-}
 
-// The load byte p is in order, or the cell p.
-fn fits(rec: &[u8], loads: bool, p: usize) -> bool {
-    if loads {
-        load_fits(rec, p)
-    } else {
-        cell_fits(rec, p)
-    }
-}
-
-// The first n of them are.
-fn all_fit(rec: &[u8], loads: bool, n: usize) -> bool {
-    let mut p = 0;
-    while p < n {
-        if !fits(rec, loads, p) {
-            return false;
-        }
-        p += 1;
-    }
-    true
-}
-
-fn counted(x: u16) -> usize
-    ensures { result < 65536 }
-{
-    x as usize
-}
-
-fn count_at(counts: &Counts, u: usize) -> usize {
-    if u < 12802 { counted(counts[u]) } else { 0 }
-}
-
-// Adds n to the number of the place u.
-fn add_at(counts: &mut Counts, u: usize, n: usize) {
-    if u < 12802 {
-        let sum = std::num::wrapping_add_usize(counted(counts[u]), n);
-        if sum < 65536 {
-            counts[u] = sum as u16;
+    fn at(&self, place: Place) -> usize {
+        if place.cell < 1600 {
+            usize::from(self.numbers[place.cell][place.spot.index()])
+        } else {
+            0
         }
     }
-}
 
-fn tally_load(rec: &[u8], into: &mut Counts, out: &mut Counts, i: usize) {
-    if load(rec, i) != 0 {
-        add_at(into, head(rec, i), amount(load(rec, i)));
-        add_at(out, tail(rec, i), amount(load(rec, i)));
+    // The number of the end, 0 for the outside.
+    fn of(&self, end: End) -> usize {
+        match end {
+            End::At(place) => self.at(place),
+            End::Outside => 0,
+        }
+    }
+
+    // Adds n to the number of the end, if it is a place.
+    fn add(&mut self, end: End, n: usize) {
+        let End::At(place) = end else {
+            return;
+        };
+        if place.cell < 1600 {
+            let sum = self.at(place).wrapping_add(n);
+            if sum < 65536 {
+                self.numbers[place.cell][place.spot.index()] = sum as u16;
+            }
+        }
+    }
+
+    // How many places have another number than 0.
+    fn count(&self) -> usize {
+        self.numbers.iter().flatten().filter(|n| **n != 0).count()
     }
 }
 
 // How many wires come to each place, and how many leave it.
-fn tally_loads(rec: &[u8], into: &mut Counts, out: &mut Counts) {
-    for i in 0..24000 {
-        tally_load(rec, into, out, i);
-    }
+#[derive(Clone, Copy)]
+struct Traffic {
+    into: Counts,
+    out: Counts,
 }
 
-// The D of the tile p.
-fn figure(rec: &[u8], p: usize) -> usize {
-    let v = own(rec, p);
-    if v == 0 { diagonal(rec) } else { v }
-}
-
-// How many wires may pass the place u.
-fn pass_limit(rec: &[u8], u: usize) -> usize {
-    let half = side(rec) / 2;
-    match u % 8 {
-        0 => extra(rec),
-        6 => std::num::wrapping_sub_usize(figure(rec, u / 8), 2 * half),
-        _ => 1000,
-    }
-}
-
-// As many wires leave the place u as come to it, and not too many; one at most starts at a chosen pin.
-fn is_even(rec: &[u8], into: &Counts, out: &Counts, u: usize) -> bool {
-    if u % 8 == 0 && mark(rec, u / 8) == 1 {
-        return count_at(out, u) <= 1;
-    }
-    count_at(into, u) == count_at(out, u) && count_at(into, u) <= pass_limit(rec, u)
-}
-
-fn all_even(rec: &[u8], into: &Counts, out: &Counts) -> bool {
-    let mut u = 0;
-    while u < 12800 {
-        if !is_even(rec, into, out, u) {
-            return false;
+impl Traffic {
+    fn tally_load(&mut self, fields: Fields, link: Link) {
+        let load = fields.load(link);
+        if load == 0 {
+            return;
         }
-        u += 1;
+        if let Some(way) = fields.way(link) {
+            let n = amount(load).unwrap_or(0);
+            self.into.add(way.to, n);
+            self.out.add(way.from, n);
+        }
     }
-    true
+
+    fn tally_plane(&mut self, fields: Fields, plane: Plane) {
+        for cell in 0..1600 {
+            self.tally_load(fields, Link { plane, cell });
+        }
+    }
+
+    fn tally_loads(&mut self, fields: Fields) {
+        for plane in Plane::ALL {
+            self.tally_plane(fields, plane);
+        }
+    }
+
+    // As many wires leave the place as come to it, and not too many; one at most starts at a chosen pin.
+    fn is_even(&self, fields: Fields, place: Place) -> bool {
+        let into = self.into.at(place);
+        let out = self.out.at(place);
+        if place.spot == Spot::Pin && fields.is_chosen(place.cell) {
+            return out <= 1;
+        }
+        into == out && pass_limit(fields, place).is_none_or(|most| into <= most)
+    }
+
+    fn is_even_cell(&self, fields: Fields, cell: usize) -> bool {
+        Spot::ALL
+            .iter()
+            .all(|spot| self.is_even(fields, Place { cell, spot: *spot }))
+    }
 }
 
-fn places_even(rec: &[u8]) -> bool {
-    let mut into = [0u16; 12802];
-    let mut out = [0u16; 12802];
-    tally_loads(rec, &mut into, &mut out);
-    all_even(rec, &into, &out)
+// How many wires may pass the place, if not any number.
+fn pass_limit(fields: Fields, place: Place) -> Option<usize> {
+    match place.spot {
+        Spot::Pin => Some(fields.extra()),
+        Spot::Centre => Some(
+            fields
+                .figure(place.cell)
+                .wrapping_sub(2 * (fields.side() / 2)),
+        ),
+        Spot::Side(_) => None,
+    }
 }
 
-fn lead(rec: &[u8], left: &Counts, next: &mut Counts, i: usize) {
-    if load(rec, i) != 0 && count_at(left, tail(rec, i)) != 0 && head(rec, i) < OUTSIDE {
-        add_at(next, head(rec, i), 1);
+fn places_even(fields: Fields) -> bool {
+    let mut traffic = Traffic {
+        into: Counts::NONE,
+        out: Counts::NONE,
+    };
+    traffic.tally_loads(fields);
+    (0..1600).all(|cell| traffic.is_even_cell(fields, cell))
+}
+
+// Counts the place that the link's wires come to, if they leave a place that is left.
+fn lead(fields: Fields, left: &Counts, next: &mut Counts, link: Link) {
+    if fields.load(link) == 0 {
+        return;
+    }
+    if let Some(way) = fields.way(link) {
+        if left.of(way.from) != 0 {
+            next.add(way.to, 1);
+        }
+    }
+}
+
+fn lead_plane(fields: Fields, left: &Counts, next: &mut Counts, plane: Plane) {
+    for cell in 0..1600 {
+        lead(fields, left, next, Link { plane, cell });
     }
 }
 
 // The places to which a wire leads from a place that is left.
-fn led(rec: &[u8], left: &Counts) -> Counts {
-    let mut next = [0u16; 12802];
-    for i in 0..24000 {
-        lead(rec, left, &mut next, i);
+fn led(fields: Fields, left: &Counts, next: &mut Counts) {
+    *next = Counts::NONE;
+    for plane in Plane::ALL {
+        lead_plane(fields, left, next, plane);
     }
-    next
-}
-
-fn is_left(left: &Counts, u: usize) -> usize
-    ensures { result < 2 }
-{
-    if count_at(left, u) != 0 { 1 } else { 0 }
-}
-
-fn count_left(left: &Counts) -> usize
-    ensures { result < 12801 }
-{
-    let mut n = 0;
-    for u in 0..12800 {
-        n += is_left(left, u);
-    }
-    n
 }
 
 // A loop stands.
-fn loops(rec: &[u8]) -> bool {
-    let mut left = [1u16; 12802];
-    let mut n = 12801;
-    let mut fewer = true;
-    let mut turns: u64 = 13000;
-    while turns > 0 && fewer {
-        left = led(rec, &left);
-        let m = count_left(&left);
-        fewer = m < n;
+fn loops(fields: Fields) -> bool {
+    let mut left = Counts::ONES;
+    let mut next = Counts::NONE;
+    let mut n = left.count();
+    for _ in 0..13000 {
+        led(fields, &left, &mut next);
+        left = next;
+        let m = left.count();
+        if m >= n {
+            break;
+        }
         n = m;
-        turns -= 1;
     }
     n > 0
 }
 
 // The record is legal.
 pub fn is_legal(rec: &[u8]) -> bool {
+    let fields = Fields::of(rec);
     rec.len() >= 32768
-        && header_fits(rec)
-        && all_fit(rec, false, 1600)
-        && all_fit(rec, true, 24000)
-        && places_even(rec)
-        && !loops(rec)
+        && header_fits(fields)
+        && all(span(rec, 5, 763), 0)
+        && cells_fit(fields)
+        && loads_fit(fields)
+        && places_even(fields)
+        && !loops(fields)
+}
+
+// The pin p is chosen, and has a wire on its link of the plane.
+fn leaves_by(fields: Fields, plane: Plane, cell: usize) -> bool {
+    fields.is_chosen(cell) && fields.load(Link { plane, cell }) != 0
 }
 
 // A wire leaves the pin p directly.
 pub fn is_direct(rec: &[u8], p: usize) -> bool {
-    if p < 1600 {
-        return mark(rec, p) == 1 && load(rec, 22400 + p) != 0;
-    }
-    false
+    leaves_by(Fields::of(rec), Plane::Exit, p)
 }
 
 // A wire starts at the pin p.
 pub fn is_wired(rec: &[u8], p: usize) -> bool {
-    if p >= 1600 || mark(rec, p) != 1 {
-        return false;
-    }
-    if p < 1600 {
-        return load(rec, 16000 + p) != 0
-            || load(rec, 17600 + p) != 0
-            || load(rec, 19200 + p) != 0
-            || load(rec, 20800 + p) != 0
-            || is_direct(rec, p);
-    }
-    false
+    let fields = Fields::of(rec);
+    is_direct(rec, p)
+        || Side::ALL
+            .iter()
+            .any(|side| leaves_by(fields, Plane::Leg(*side), p))
 }

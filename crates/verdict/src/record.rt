@@ -1,9 +1,10 @@
-// Records in a buffer with a margin: the job that one holds, in the bytes of the oracle's Job, its wires, and what a step has added to it.
+// Records in a buffer with a margin: the job that one holds, as the oracle's Job, its wires, and what a step has added to it.
 ghost use Rattle.std.specs.Prelude.{◌<◌};
 
-use crate::bytes::{Tally, all, hold, rest, span};
+use crate::bytes::{Tally, all, rest, span};
 use crate::legal::{is_direct, is_legal, is_wired};
 use check::same;
+use oracle_text::job::{Cell, Job};
 
 // A record with 32 bytes more, which no operation touches.
 pub type Record = [u8; 32800];
@@ -11,12 +12,36 @@ pub type Record = [u8; 32800];
 // What they hold.
 pub const BEYOND: u8 = 165;
 
+fn low(n: usize) -> u8 {
+    (n % 256) as u8
+}
+
+// The first bytes of a record of the job.
+fn numbers(job: &Job) -> [u8; 5] {
+    [
+        low(job.rows()),
+        low(job.columns()),
+        low(job.side()),
+        low(job.diagonal()),
+        low(job.extra()),
+    ]
+}
+
+// The record holds this cell at `p`.
+fn holds_cell(rec: &Record, cell: Cell, p: usize) -> bool {
+    p < 1600
+        && rec[768 + p] == cell.mark as u8
+        && rec[2368 + p] == u8::from(cell.closed)
+        && rec[27968 + p] == cell.eastward
+        && rec[29568 + p] == cell.southward
+        && rec[31168 + p] == cell.own
+}
+
 // The record holds the job, and the bytes that nothing uses are as they should be.
-pub fn holds_job(rec: &Record, job: &[u8]) -> bool {
-    same(span(rec, 0, 5), span(job, 0, 5))
+pub fn holds_job(rec: &Record, job: &Job) -> bool {
+    same(span(rec, 0, 5), &numbers(job))
         && all(span(rec, 5, 763), 0)
-        && same(span(rec, 768, 3200), span(job, 5, 3200))
-        && same(span(rec, 27968, 4800), span(job, 3205, 4800))
+        && (0..1600).all(|p| holds_cell(rec, job.cell(p), p))
         && all(rest(rec, 32768), BEYOND)
 }
 
@@ -25,82 +50,46 @@ pub fn legal(rec: &Record) -> bool {
 }
 
 // The record holds the job without a wire.
-pub fn holds_unwired(rec: &Record, job: &[u8]) -> bool {
+pub fn holds_unwired(rec: &Record, job: &Job) -> bool {
     holds_job(rec, job) && all(span(rec, 3968, 24000), 0)
 }
 
-// The byte of an unwired record of the job.
-fn unwired_byte(job: &[u8], i: usize) -> u8 {
-    if i < 5 {
-        return byte_of(job, i);
+fn put_cell(rec: &mut Record, cell: Cell, p: usize) {
+    if p < 1600 {
+        rec[768 + p] = cell.mark as u8;
+        rec[2368 + p] = u8::from(cell.closed);
+        rec[27968 + p] = cell.eastward;
+        rec[29568 + p] = cell.southward;
+        rec[31168 + p] = cell.own;
     }
-    if i < 768 {
-        return 0;
-    }
-    if i < 3968 {
-        return byte_of(job, i - 763);
-    }
-    if i < 27968 {
-        return 0;
-    }
-    byte_of(job, i - 24763)
-}
-
-fn byte_of(job: &[u8], i: usize) -> u8 {
-    if i < job.len() { job[i] } else { 0 }
 }
 
 // The record becomes that of the job without a wire.
-pub fn put_unwired(rec: &mut Record, job: &[u8]) {
-    for i in 0..32768 {
-        rec[i] = unwired_byte(job, i);
+pub fn put_unwired(rec: &mut Record, job: &Job) {
+    rec[..32768].fill(0);
+    rec[..5].copy_from_slice(&numbers(job));
+    for p in 0..1600 {
+        put_cell(rec, job.cell(p), p);
     }
-}
-
-fn wired(rec: &Record, p: usize) -> usize
-    ensures { result < 2 }
-{
-    if is_wired(rec, p) { 1 } else { 0 }
 }
 
 // How many pins have a wire.
 pub fn count_wires(rec: &Record) -> usize
     ensures { result < 1601 }
 {
-    let mut n = 0;
-    for p in 0..1600 {
-        n += wired(rec, p);
-    }
-    n
-}
-
-fn direct(rec: &Record, p: usize) -> usize
-    ensures { result < 2 }
-{
-    if is_direct(rec, p) { 1 } else { 0 }
+    (0..1600).filter(|p| is_wired(rec, *p)).count()
 }
 
 // How many pins have a wire that leaves directly.
 pub fn count_direct(rec: &Record) -> usize
     ensures { result < 1601 }
 {
-    let mut n = 0;
-    for p in 0..1600 {
-        n += direct(rec, p);
-    }
-    n
+    (0..1600).filter(|p| is_direct(rec, *p)).count()
 }
 
 // Every pin that has a wire in the one record has one in the other.
 fn stay_wired(before: &Record, rec: &Record) -> bool {
-    let mut p = 0;
-    while p < 1600 {
-        if is_wired(before, p) && !is_wired(rec, p) {
-            return false;
-        }
-        p += 1;
-    }
-    true
+    (0..1600).all(|p| is_wired(rec, p) || !is_wired(before, p))
 }
 
 // The same pins have a wire in both records.
@@ -109,19 +98,10 @@ pub fn wired_alike(before: &Record, rec: &Record) -> bool {
 }
 
 // A step has added a wire: the record is legal, one pin more has a wire, and those that had one have one.
-pub fn hold_added(rt: &impl Print, tally: &mut Tally, before: &Record, rec: &Record, job: &[u8]) {
-    hold(rt, tally, holds_job(rec, job), b"a step keeps the job");
-    hold(rt, tally, legal(rec), b"a step leaves a legal record");
-    hold(
-        rt,
-        tally,
-        count_wires(rec) == count_wires(before) + 1,
-        b"a step adds one wire",
-    );
-    hold(
-        rt,
-        tally,
-        stay_wired(before, rec),
-        b"a step keeps pins wired",
-    );
+pub fn hold_added(rt: &impl Print, tally: &mut Tally, before: &Record, rec: &Record, job: &Job) {
+    tally.hold(rt, holds_job(rec, job), b"a step keeps the job");
+    tally.hold(rt, legal(rec), b"a step leaves a legal record");
+    let one_more = count_wires(rec) == count_wires(before) + 1;
+    tally.hold(rt, one_more, b"a step adds one wire");
+    tally.hold(rt, stay_wired(before, rec), b"a step keeps pins wired");
 }

@@ -1,5 +1,0 @@
--- The turns that are left fall.
-use Rattle.oracle_text.proofs.text.read_text.Given as goal
-
-abbrev pub decreases-loop-turns : goal.decreases-loop-turns
-decreases-loop-turns l = l.turns
