@@ -1,6 +1,7 @@
 -- The letters of places, and the bytes of a short job's listing and of a refusal.
 pub mod Letters
 pub mod Near
+pub mod Spots
 -- Laying bytes on a page.
 pub mod Spread
 pub mod Puts

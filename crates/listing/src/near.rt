@@ -1,24 +1,107 @@
 // The listing of a job that is short: how many wires are lacking, and the near side that Shortfall gives; and the line of a refused text.
-ghost use Rattle.std.specs.Prelude.{◌≡◌, ◌+◌, ◌≤◌, ◌<◌, length, IfSome};
+ghost use Rattle.std.specs.Prelude.{◌≡◌, ◌+◌, ◌/◌, ◌≤◌, ◌<◌, length, IfSome};
 ghost use Rattle.model.specs.Record.{job_of};
 ghost use Rattle.listing.specs.Near.{near_line, chosen_line, missing_lines, side_lines, centre_lines, tile_lines, group_lines, short_word, near_from, near_left, refused_listing};
+ghost use Rattle.listing.specs.Spots.{kind_of, front_of, end_of, rank_of};
 ghost use Rattle.model.specs.Listing.{line};
 ghost use Rattle.listing.specs.Puts.{Puts, Parts};
 ghost use Rattle.listing.specs.Writes.{Writes};
 
 use crate::page::Page;
 
-// The line of a cell, if its byte of this kind says near.
-fn near_line(near: &[u8], page: &mut Page, cell: usize, kind: usize, front: &[u8], end: &[u8])
-    requires in_bounds { (32768 ≤ length near.now) × (cell < 1600) × (kind < 8) }
-    requires front_len_bound { (length front.now ≤ 10) × (length end.now ≤ 5) × (page.old.length + 57 ≤ 32768) }
-    ensures { Writes (near_line near.now kind front.now end.now cell) page.old page.new
+// A spot that the near side may have in a cell: a chosen pin, the entry or exit of a missing pin, a side of a tile, or the way into or out of its centre.
+#[derive(Clone, Copy)]
+enum Spot {
+    Pin,
+    Entry,
+    Exit,
+    North,
+    East,
+    South,
+    West,
+    CentreIn,
+    CentreOut,
+}
+
+impl Spot {
+    // Where its byte stands among the eight of a cell.
+    fn kind(self) -> usize
+        ensures { (result ≡ kind_of self) × (result < 8) }
+    {
+        match self {
+            Spot::Entry => 0,
+            Spot::Pin | Spot::Exit => 1,
+            Spot::North => 2,
+            Spot::East => 3,
+            Spot::South => 4,
+            Spot::West => 5,
+            Spot::CentreIn => 6,
+            Spot::CentreOut => 7,
+        }
+    }
+
+    // What its line begins with.
+    fn front(self) -> &'static [u8]
+        ensures { (result.now ≡ front_of self) × (length result.now ≤ 10) }
+    {
+        match self {
+            Spot::Pin => b"(near pin",
+            Spot::Entry => b"(near ri",
+            Spot::Exit => b"(near ro",
+            _ => b"(near",
+        }
+    }
+
+    // What its line ends with.
+    fn end(self) -> &'static [u8]
+        ensures { (result.now ≡ end_of self) × (length result.now ≤ 5) }
+    {
+        match self {
+            Spot::Pin | Spot::Entry | Spot::Exit => b")\n",
+            Spot::North => b" n)\n",
+            Spot::East => b" e)\n",
+            Spot::South => b" s)\n",
+            Spot::West => b" w)\n",
+            Spot::CentreIn => b" ci)\n",
+            Spot::CentreOut => b" co)\n",
+        }
+    }
+}
+
+// The groups of the lines, in their order.
+#[derive(Clone, Copy)]
+enum Group {
+    Chosen,
+    Missing,
+    Tiles,
+}
+
+impl Group {
+    // The group of an entry.
+    fn at(entry: usize) -> Group
+        requires { entry < 4800 }
+        ensures { rank_of result ≡ entry / 1600 }
+    {
+        if entry < 1600 {
+            return Group::Chosen;
+        }
+        if entry < 3200 {
+            return Group::Missing;
+        }
+        Group::Tiles
+    }
+}
+
+// The line of a spot of a cell, if its byte says near.
+fn near_line(near: &[u8], page: &mut Page, cell: usize, spot: Spot)
+    requires { (32768 ≤ length near.now) × (cell < 1600) × (page.old.length + 57 ≤ 32768) }
+    ensures { Writes (near_line near.now (kind_of spot) (front_of spot) (end_of spot) cell) page.old page.new
         × (page.new.length ≤ page.old.length + 57) }
 {
-    if near[8 * (41 + cell) + kind] != 1 {
+    if near[8 * (41 + cell) + spot.kind()] != 1 {
         return;
     }
-    page.put_pair(front, cell / 40, cell % 40, end);
+    page.put_pair(spot.front(), cell / 40, cell % 40, spot.end());
 }
 
 // The line of a chosen pin.
@@ -30,7 +113,7 @@ fn chosen_line(rec: &[u8], near: &[u8], page: &mut Page, cell: usize)
     if !channel::is_chosen(rec, cell / 40, cell % 40) {
         return;
     }
-    near_line(near, page, cell, 1, b"(near pin", b")\n");
+    near_line(near, page, cell, Spot::Pin);
 }
 
 // The lines of a missing pin, entry before exit.
@@ -42,8 +125,8 @@ fn missing_lines(rec: &[u8], near: &[u8], page: &mut Page, cell: usize)
     if !channel::is_missing(rec, cell / 40, cell % 40) {
         return;
     }
-    near_line(near, page, cell, 0, b"(near ri", b")\n");
-    near_line(near, page, cell, 1, b"(near ro", b")\n");
+    near_line(near, page, cell, Spot::Entry);
+    near_line(near, page, cell, Spot::Exit);
 }
 
 // The lines of the sides of a tile: n, e, s, w.
@@ -51,10 +134,10 @@ fn side_lines(near: &[u8], page: &mut Page, cell: usize)
     requires { (32768 ≤ length near.now) × (cell < 1600) × (page.old.length + 228 ≤ 32768) }
     ensures { Writes (side_lines near.now cell) page.old page.new × (page.new.length ≤ page.old.length + 228) }
 {
-    near_line(near, page, cell, 2, b"(near", b" n)\n");
-    near_line(near, page, cell, 3, b"(near", b" e)\n");
-    near_line(near, page, cell, 4, b"(near", b" s)\n");
-    near_line(near, page, cell, 5, b"(near", b" w)\n");
+    near_line(near, page, cell, Spot::North);
+    near_line(near, page, cell, Spot::East);
+    near_line(near, page, cell, Spot::South);
+    near_line(near, page, cell, Spot::West);
 }
 
 // The lines of its centre: ci, co.
@@ -62,8 +145,8 @@ fn centre_lines(near: &[u8], page: &mut Page, cell: usize)
     requires { (32768 ≤ length near.now) × (cell < 1600) × (page.old.length + 114 ≤ 32768) }
     ensures { Writes (centre_lines near.now cell) page.old page.new × (page.new.length ≤ page.old.length + 114) }
 {
-    near_line(near, page, cell, 6, b"(near", b" ci)\n");
-    near_line(near, page, cell, 7, b"(near", b" co)\n");
+    near_line(near, page, cell, Spot::CentreIn);
+    near_line(near, page, cell, Spot::CentreOut);
 }
 
 // The lines of a tile.
@@ -75,16 +158,16 @@ fn tile_lines(near: &[u8], page: &mut Page, cell: usize)
     centre_lines(near, page, cell);
 }
 
-// The lines of a cell in one of the three groups: 0 chosen pins, 1 missing pins, 2 tiles.
-fn cell_lines(rec: &[u8], near: &[u8], page: &mut Page, group: usize, cell: usize)
+// The lines of a cell in one of the three groups.
+fn cell_lines(rec: &[u8], near: &[u8], page: &mut Page, group: Group, cell: usize)
     requires { (32768 ≤ length rec.now) × (32768 ≤ length near.now) × (cell < 1600) × (page.old.length + 342 ≤ 32768) }
-    ensures { Writes (group_lines (job_of rec.now) near.now group cell) page.old page.new
+    ensures { Writes (group_lines (job_of rec.now) near.now (rank_of group) cell) page.old page.new
         × (page.new.length ≤ page.old.length + 342) }
 {
     match group {
-        0 => chosen_line(rec, near, page, cell),
-        1 => missing_lines(rec, near, page, cell),
-        _ => tile_lines(near, page, cell),
+        Group::Chosen => chosen_line(rec, near, page, cell),
+        Group::Missing => missing_lines(rec, near, page, cell),
+        Group::Tiles => tile_lines(near, page, cell),
     }
 }
 
@@ -102,7 +185,7 @@ pub fn near_page(rec: &[u8], near: &[u8], from: usize, page: &mut Page) -> Optio
         if page.length > 32400 {
             return Some(entry);
         }
-        cell_lines(rec, near, page, entry / 1600, entry % 1600);
+        cell_lines(rec, near, page, Group::at(entry), entry % 1600);
     }
     None
 }

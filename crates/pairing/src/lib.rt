@@ -40,24 +40,12 @@ struct Join {
     before: usize,
 }
 
-fn wide(x: u8) -> usize
-    ensures { (result ≡ x) × (result < 256) }
-{
-    x as usize
-}
-
-fn number(end: u16) -> usize
-    ensures { result ≡ end }
-{
-    end as usize
-}
-
 // How many lanes there are at slot k; 0 past the last slot.
 fn lanes_at(counts: &[u8; 5], k: usize) -> usize
     ensures { (result ≡ lanes counts.now k) × (result < 256) }
 {
     if k < 5 {
-        return wide(counts[k]);
+        return usize::from(counts[k]);
     }
     0
 }
@@ -137,7 +125,7 @@ fn differs(ends: &[u16], left: &[u8], i: usize, p: usize) -> bool
     if i == 0 {
         return false;
     }
-    arrives_at(ends, wide(left[i - 1])) != arrives_at(ends, p)
+    arrives_at(ends, usize::from(left[i - 1])) != arrives_at(ends, p)
 }
 
 // A round. Left are the first `passed` positions in `left` and all from `next` up to n; no arrival and departure are neighbours among those passed. It goes
@@ -183,7 +171,7 @@ fn join_all(ends: &[u16], n: usize, pairs: &mut [Pair]) -> usize
         pairs[m] = join.pair;
         m += 1;
         passed = join.before;
-        next = wide(join.pair.snd) + 1;
+        next = usize::from(join.pair.snd) + 1;
     }
     m
 }
@@ -193,11 +181,11 @@ fn other_end(pairs: &[Pair], p: usize) -> usize
     ensures { result ≡ partner_in (as_pairs pairs.now) p }
 {
     for pair in pairs {
-        if p == wide(pair.fst) {
-            return wide(pair.snd);
+        if p == usize::from(pair.fst) {
+            return usize::from(pair.snd);
         }
-        if p == wide(pair.snd) {
-            return wide(pair.fst);
+        if p == usize::from(pair.snd) {
+            return usize::from(pair.fst);
         }
     }
     p
@@ -208,7 +196,7 @@ fn lane_at(ends: &[u16], p: usize) -> Lane
     ensures { (result.slot ≡ slot_of (get_or ends.now p 0)) × (result.lane ≡ lane_of (get_or ends.now p 0)) }
 {
     if p < ends.len() {
-        let e = number(ends[p]);
+        let e = usize::from(ends[p]);
         return Lane {
             slot: e / 512,
             lane: e % 512 / 2,

@@ -1,8 +1,9 @@
 -- Document 01, "Length", off the bytes: the wires of a legal record are together 10 for each wire on a side and 14 for each that comes to a pin by a leg. For
 -- a step is taken as often as its load says, and the load bytes are those of all steps on the grid, each once. Assumes nothing.
-use Rattle.std.specs.Prelude.{◌≡◌, Bool, List, [], ◌∷◌, ℕ, ◌+◌, ◌*◌, ◌≤◌, T, get_or}
+use Rattle.std.specs.Prelude.{◌≡◌, Bool, List, [], ◌∷◌, ℕ, ◌+◌, ◌*◌, ◌≤◌, T, length, get_or, take, drop}
 use Rattle.std.proofs.Math.Path.{refl}
-use Rattle.std.proofs.Common.{ap, subst, ◌∙◌, add-one}
+use Rattle.std.proofs.Common.{ap, subst, ◌∙◌, add-one, length-take-le, length-drop}
+use Rattle.std.proofs.lemmas.List.{get_or-take, get_or-drop}
 use Rattle.std.proofs.Math.Bool.{true, false}
 use native.Mathlib.Omega.{arith}
 use Rattle.sums.specs.Counting.{when, sum, total, count}
@@ -71,6 +72,21 @@ sides-more rec i n x m e f g = rw (add-one, e, g, f) refl
 pub pins-more : (rec : List ℕ) (i n x m : ℕ) → n ≡ to_pins rec i → x ≡ get_or rec (19968 + i) 0 → m ≡ back_part x → n + m ≡ to_pins rec (i + 1)
 unfolding to_pins sum
 pins-more rec i n x m e f g = rw (add-one, e, g, f) refl
+
+-- ---- sums over bytes
+
+-- one entry more
+pub sum-next : (i : ℕ) (f : ℕ → ℕ) (n m : ℕ) → n ≡ sum i f → m ≡ f i → n + m ≡ sum (i + 1) f
+unfolding sum
+sum-next i f n m e g = rw (add-one, e, g) refl
+
+-- over n bytes from the a-th on
+pub sum-part : (rec : List ℕ) (a n : ℕ) (f : ℕ → ℕ) → a + n ≤ length rec
+    → sum (length (take n (drop a rec))) (λ i. f (get_or (take n (drop a rec)) i 0)) ≡ sum n (λ i. f (get_or rec (a + i) 0))
+sum-part rec a n f l =
+    let e : length (take n (drop a rec)) ≡ n = length-take-le n (drop a rec) (omega (arith, length-drop a rec)) in
+    ap (λ (k : ℕ). sum k (λ i. f (get_or (take n (drop a rec)) i 0))) e
+    ∙ sum-cong n _ _ (λ i k. ap f (get_or-take n (drop a rec) i 0 k ∙ get_or-drop a rec i 0))
 
 -- ---- the greatest length
 

@@ -1,5 +1,5 @@
 -- `pairing::join_all` meets its contract: a round joins one pair more, or nothing is left to join. Assumes nothing.
-use Rattle.std.proofs.Common.{ℕ, ◌+◌, set, sym, subst, ◌∙◌, arith, length-set, rules}
+use Rattle.std.proofs.Common.{◌≡◌, ℕ, ◌+◌, set, sym, subst, ◌∙◌, arith, length-set, rules}
 use Rattle.model.specs.Pairing.{strike}
 use Rattle.pairing.specs.Sequence.{arriving}
 use Rattle.pairing.specs.Struck.{remaining, Midway, joined-more, joined-over, joined-all, joined_as, resumes-as, nothing-as, round-over}
@@ -12,14 +12,15 @@ loop-next-preserved c =
     let r = c.round in
     let j = c.in-Some.join in
     let w = arriving a.ends.now in
+    let e : c.from-next.result ≡ j.pair.snd = search rules in
     let z = resumes-as w l.passed l.next a.n r.result _ r.new.left c.in-Some.is r.ensures.resumes in (
       search rules,
       length-set l.pairs l.m j.pair ∙ l.invariant.1,
-      omega (arith, z.2, c.wide-next.ensures.0),
-      omega (arith, z.1, c.wide-next.ensures.0),
+      omega (arith, z.2, e),
+      omega (arith, z.1, e),
       z.3,
       z.4,
-      subst (λ (q : ℕ). Midway w a.n (set l.pairs l.m j.pair) (l.m + 1) (remaining a.n r.new.left j.before (q + 1))) (sym c.wide-next.ensures.0)
+      subst (λ (q : ℕ). Midway w a.n (set l.pairs l.m j.pair) (l.m + 1) (remaining a.n r.new.left j.before (q + 1))) (sym e)
           (joined-more w a.n l.m l.pairs (remaining a.n l.left l.passed l.next) (remaining a.n r.new.left j.before (j.pair.snd + 1)) j.pair
           (omega arith) (omega arith) (joined_as a.n r.result j r.new.left {o = strike w (remaining a.n l.left l.passed l.next)} c.in-Some.is r.ensures.left_after) l.invariant.6),
     )

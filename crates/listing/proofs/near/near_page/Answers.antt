@@ -1,10 +1,10 @@
 -- `near_page` meets its contract. Assumes nothing.
-use Rattle.std.proofs.Common.{List, ℕ, arith}
+use Rattle.std.proofs.Common.{List, ℕ, ◌%◌, ap, arith}
 use Rattle.model.specs.Job.{Job}
 use Rattle.model.specs.Record.{job_of}
-use Rattle.listing.specs.Near.{near_at, near-done}
+use Rattle.listing.specs.Near.{group_lines, near_at, near-done}
 use Rattle.listing.specs.Spread.{spread-first}
-use Rattle.listing.specs.Puts.{parts-as, parts_then}
+use Rattle.listing.specs.Puts.{puts-as, parts-as, parts_then}
 use Rattle.listing.proofs.near.near_page.Goals as goal
 
 pub loop-entry-preserved : goal.loop-entry-preserved
@@ -18,7 +18,7 @@ loop-entry-preserved c =
       parts_then l.invariant.2
           (record {
             bytes = near_at J near l.entry;
-            puts = r.0;
+            puts = puts-as (ap (λ (g : ℕ). group_lines J near g (l.entry % 1600)) c.at.ensures) r.0;
             split = spread-first (near_at J near) l.entry 4800 c.loop-entry-test.true;
           }),
     )
