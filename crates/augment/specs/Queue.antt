@@ -130,6 +130,10 @@ module _ {J : Job} {go : ℕ → Bool} {start : ℕ} {t₀ t q f w : List ℕ} {
 
 -- ---- one spot
 
+-- a spot that is not marked leaves room in the queue
+pub ready-more : {job rec t q f w : List ℕ} {u h n v : ℕ} → Ready job rec t q f w u h n → v < spots → get_or t v 0 ≢ 1 → n < spots
+ready-more {t = t} {v = v} R l e = omega (arith, R.count, mark-less t v l (omega (arith, R.room.marks)) e)
+
 pub grown-none : {J : Job} {rec : List ℕ} {u h : ℕ} {t q f w : List ℕ} {n : ℕ} → Room t q f w → n + unmarked t ≤ spots → Grown J rec u 0 h t q f w n t q f w n
 grown-none r c =
     record {

@@ -205,14 +205,14 @@ impl<'a> Work<'a> {
         self.slot.swap(h, i);
         self.lists[257 + 2 * u] = i as u16;
     }
-}
 
-// The line from which the last wire was laid, or n if that is less.
-pub fn last_line(lists: &[u16], n: usize) -> usize
-    requires { 26513 ≤ length lists.now }
-    ensures { result ≤ n }
-{
-    usize::from(lists[26512]).min(n)
+    // The line from which the last wire was laid, or n if that is less.
+    pub(crate) fn last_line(&self, n: usize) -> usize
+        requires { 26513 ≤ length self.now.lists.now }
+        ensures { result ≤ n }
+    {
+        usize::from(self.lists[26512]).min(n)
+    }
 }
 
 // A wire is laid from the i-th line.

@@ -11,7 +11,7 @@ ghost use Rattle.augment.specs.Ways.{Linked, LaidTo};
 ghost use Rattle.augment.specs.Work.{SameLent, LentTo, MarksOnly};
 ghost use Rattle.augment.specs.Pins.{Held, Dead, Open, Tested, inward, spot_on, Nth, OnLine, InRows, AnySpot, Answered};
 
-use crate::lists::{last_line, note_line};
+use crate::lists::note_line;
 use crate::reach::Way;
 use crate::ways::lay_way;
 use crate::work::Work;
@@ -184,9 +184,26 @@ impl<'a> Work<'a> {
         }
         None
     }
+
+    // Lays the next wire and gives the spot of its pin, or none where no wire more fits. The lines before that of the last wire come last: their pins are wired, or have no way out.
+    pub fn next_wire(&mut self, job: &[u8], loads: &mut [u8]) -> Option<usize>
+        requires lent { LentTo job.now loads.old self.old }
+        requires held { Held (job_of job.now) loads.old }
+        requires dead { Dead (job_of job.now) loads.old self.old.marks.now }
+        ensures same { SameLent self.old self.new }
+        ensures lent { LentTo job.now loads.new self.new }
+        ensures answered { Answered (job_of job.now) AnySpot loads.old self.old.marks.now loads.new self.new.marks.now result }
+    {
+        let n = 2 * rows(job);
+        let a = self.last_line(n);
+        if let Some(u) = self.lines_wire(job, loads, a, n) {
+            return Some(u);
+        }
+        self.lines_wire(job, loads, 0, a)
+    }
 }
 
-// Lays the next wire and gives the spot of its pin, or none where no wire more fits. The lines before that of the last wire come last: their pins are wired, or have no way out.
+// Lays the next wire and gives the spot of its pin, or none where no wire more fits. It works on what is lent to it.
 pub fn next_wire(
     job: &[u8],
     loads: &mut [u8],
@@ -201,8 +218,6 @@ pub fn next_wire(
     ensures { Answered (job_of job.now) AnySpot
         loads.old marks.old loads.new marks.new result }
 {
-    let n = 2 * rows(job);
-    let a = last_line(lists, n);
     let mut work = Work {
         marks,
         queue,
@@ -210,8 +225,5 @@ pub fn next_wire(
         slot,
         lists,
     };
-    if let Some(u) = work.lines_wire(job, loads, a, n) {
-        return Some(u);
-    }
-    work.lines_wire(job, loads, 0, a)
+    work.next_wire(job, loads)
 }

@@ -6,9 +6,10 @@ ghost use Rattle.channel.specs.Map.{spots};
 ghost use Rattle.augment.specs.Spread.{Room};
 ghost use Rattle.augment.specs.Steps.{Whole};
 ghost use Rattle.augment.specs.Pins.{Held, Dead};
+ghost use Rattle.augment.specs.Work.{SameLent, LentTo};
 ghost use Rattle.search.specs.Fill.{Cleared, More, Filled};
 
-use augment::next::next_wire;
+use augment::work::Work;
 
 // No spot is marked.
 pub fn clear(marks: &mut [u8])
@@ -21,20 +22,15 @@ pub fn clear(marks: &mut [u8])
 }
 
 // Wires until none fits beside the marks.
-fn lay_on(
-    job: &[u8],
-    loads: &mut [u8],
-    marks: &mut [u8],
-    queue: &mut [u16],
-    parent: &mut [u16],
-    slot: &mut [u8],
-    lists: &mut [u16],
-)
-    requires { Whole job.now loads.old × Room marks.old queue.old parent.old slot.old × Held (job_of job.now) loads.old
-        × Dead (job_of job.now) loads.old marks.old × (26513 ≤ length lists.old) }
-    ensures { More (job_of job.now) loads.old loads.new }
+fn lay_on(work: &mut Work<'_>, job: &[u8], loads: &mut [u8])
+    requires lent { LentTo job.now loads.old work.old }
+    requires held { Held (job_of job.now) loads.old }
+    requires dead { Dead (job_of job.now) loads.old work.old.marks.now }
+    ensures same { SameLent work.old work.new }
+    ensures lent { LentTo job.now loads.new work.new }
+    ensures more { More (job_of job.now) loads.old loads.new }
 {
-    while next_wire(job, loads, marks, queue, parent, slot, lists).is_some() {}
+    while work.next_wire(job, loads).is_some() {}
 }
 
 // All wires that fit: until none is laid after the marks were cleared.
@@ -51,9 +47,16 @@ pub fn fill(
         × (26513 ≤ length lists.old) }
     ensures { Filled (job_of job.now) loads.old loads.new marks.new }
 {
-    clear(marks);
-    while next_wire(job, loads, marks, queue, parent, slot, lists).is_some() {
-        lay_on(job, loads, marks, queue, parent, slot, lists);
-        clear(marks);
+    let mut work = Work {
+        marks,
+        queue,
+        parent,
+        slot,
+        lists,
+    };
+    clear(work.marks);
+    while work.next_wire(job, loads).is_some() {
+        lay_on(&mut work, job, loads);
+        clear(work.marks);
     }
 }

@@ -1,10 +1,12 @@
 -- First prices as a row of numbers, and how a program reads them: none outside, and else by the kind of the spot and the ring of its cell. None is above 214,
 -- and they are prices of a record without wires. Assumes nothing.
-use Rattle.std.specs.Prelude.{◌≡◌, ◌≢◌, ◌⊎◌, Bool, not, List, ℕ, suc, ◌+◌, ◌-◌, ◌*◌, ◌/◌, ◌%◌, ◌≤◌, ◌<◌, T, eqb, length, get_or, set}
+use Rattle.std.specs.Prelude.{◌≡◌, ◌≢◌, ◌⊎◌, Bool, not, List, ℕ, suc, ◌+◌, ◌-◌, ◌*◌, ◌/◌, ◌%◌, ◌≤◌, ◌<◌, T, eqb, length, get_or, set, take, drop, ◌++◌}
 use Rattle.std.proofs.Math.Path.{refl}
 use Rattle.std.proofs.Common.{sym, ap, ◌∙◌, ⊎_elim, eq-or-lt_of_le, eq-eqb, ne_eqb, length-set, get_or-set_same, get_or-set_other}
 use Rattle.std.proofs.Math.Bool.{true, false}
 use native.Mathlib.Omega.{arith}
+use Rattle.std.proofs.lemmas.List.{length-append, length-take-le, length-drop, get_or-append_right, get_or-drop}
+use Rattle.std.proofs.Math.ListN.{get_or-append}
 use Rattle.sums.specs.Counting.{when}
 use Rattle.sums.specs.Tests.{below_or}
 use Rattle.sums.specs.Sums.{when-none, when-so}
@@ -100,6 +102,18 @@ row_more {J} {n} {p} {prices} {prices'} R l e =
           (last_or u n h);
       rest = λ u h. get_or-set_other prices' n u p 0 (omega arith) ∙ R.rest u (omega arith);
     }
+
+-- a row of n entries with what stands behind it
+pub row_part : {J : Job} {n : ℕ} {prices items : List ℕ} → n ≤ length prices → FirstRow J n (take n prices) items → FirstRow J n prices (items ++ drop n prices)
+row_part {J} {n} {prices} {items} l R =
+    record {
+      size = omega (arith, length-append items (drop n prices), length-drop n prices, m);
+      first = λ u h. get_or-append items (drop n prices) 0 u (omega (arith, m)) ∙ R.first u h;
+      rest = λ u h. get_or-append_right items (drop n prices) n u 0 m h ∙ get_or-drop n prices (u - n) 0 ∙ ap (λ (x : ℕ). get_or prices x 0) (omega arith);
+    }
+  where
+    m : length items ≡ n
+    m = R.size ∙ length-take-le n prices l
 
 -- ---- prices of a record without wires
 

@@ -14,7 +14,7 @@ use Rattle.search.specs.Fill.{Cleared}
 use Rattle.channel.specs.Map.Lengths.{dart_length}
 use Rattle.shortest.specs.Grow.{slack_of, tight_moves}
 use Rattle.shortest.specs.Wiring.{price_at}
-use Rattle.shortest.specs.Growing.{slack_by, tight, Tried, exit, old, far, new, Since, ShutTo, LookedTo, Place, waits, shut, edge, Kept, Growing, Taken, Out}
+use Rattle.shortest.specs.Growing.{slack_by, tight, Trial, Tried, exit, old, far, new, Since, ShutTo, LookedTo, Place, waits, shut, edge, Kept, Growing, Taken, Out}
 use Rattle.shortest.specs.declared.expand.Growth.{Growth}
 use Rattle.augment.specs.declared.reach.Way.{Way}
 
@@ -24,6 +24,10 @@ pub tight-move : (J : Job) (rec prices : List ℕ) (d : ℕ) {x : ℕ} → T (mo
 unfolding tight_moves
 tight-move J rec prices d may e z =
     and_both (moves J rec d) (eqb (slack_of dart_length (price_at prices) rec d) 0) may (subst (λ (y : ℕ). T (eqb y 0)) (sym (sym e ∙ z)) tt)
+
+-- a spot that is not marked leaves room in the queue
+pub trial-more : {job rec prices t q f w st : List ℕ} {u i v : ℕ} {g : Growth} → Trial job rec prices t q f w st u i g → v < spots → get_or t v 0 ≢ 1 → g.n < spots
+trial-more {t = t} {v = v} T' l e = omega (arith, T'.count, mark-less t v l (omega (arith, T'.room.marks)) e)
 
 -- ---- what more marks, and a smaller least, keep
 

@@ -51,8 +51,8 @@ pub fn first_prices(job: &[u8], prices: &mut [u32])
     requires { (32768 ≤ length job.now) × (spots ≤ length prices.old) }
     ensures { FirstRow (job_of job.now) spots prices.old prices.new }
 {
-    for u in 0..13128 {
-        prices[u] = first_price(job, u) as u32;
+    for (u, price) in prices[..13128].iter_mut().enumerate() {
+        *price = first_price(job, u) as u32;
     }
 }
 

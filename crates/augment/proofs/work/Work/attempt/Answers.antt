@@ -2,7 +2,7 @@
 use native.Mathlib.Omega.{arith}
 use Rattle.channel.specs.Map.Numbers.{spots-is}
 use Rattle.augment.specs.Answers.{yes, no}
-use Rattle.augment.specs.Marks.{mark-less}
+use Rattle.augment.specs.Queue.{ready-more}
 use Rattle.augment.specs.Steps.{exit, old, new}
 use Rattle.augment.proofs.work.Work.attempt.Goals as goal
 
@@ -28,16 +28,16 @@ pub bounds-self-v-2 : goal.bounds-self-v-2
 bounds-self-v-2 c = omega (arith, spots-is, c.head_of-v.ensures.1, c.requires.ready.room.marks)
 
 pub bounds-self-n : goal.bounds-self-n
-bounds-self-n c = omega (arith, spots-is, c.requires.ready.count, mark-less c.args.self.now.marks.now c.head_of-v.result (omega (arith, spots-is, c.head_of-v.ensures.1)) (omega (arith, spots-is, c.head_of-v.ensures.1, c.requires.ready.room.marks)) c.if-self-v-eq1.false, c.requires.ready.room.queue)
+bounds-self-n c = omega (arith, ready-more c.requires.ready (omega (arith, spots-is, c.head_of-v.ensures.1)) c.if-self-v-eq1.false, c.requires.ready.room.queue)
 
 pub overflow_cast-self-2 : goal.overflow_cast-self-2
 overflow_cast-self-2 c = omega (arith, spots-is, c.requires.ready.count, c.requires.ready.early)
 
 pub bounds-self-n-2 : goal.bounds-self-n-2
-bounds-self-n-2 c = omega (arith, spots-is, c.requires.ready.count, mark-less c.args.self.now.marks.now c.head_of-v.result (omega (arith, spots-is, c.head_of-v.ensures.1)) (omega (arith, spots-is, c.head_of-v.ensures.1, c.requires.ready.room.marks)) c.if-self-v-eq1.false, c.requires.ready.room.parents)
+bounds-self-n-2 c = omega (arith, ready-more c.requires.ready (omega (arith, spots-is, c.head_of-v.ensures.1)) c.if-self-v-eq1.false, c.requires.ready.room.parents)
 
 pub bounds-self-n-3 : goal.bounds-self-n-3
-bounds-self-n-3 c = omega (arith, spots-is, c.requires.ready.count, mark-less c.args.self.now.marks.now c.head_of-v.result (omega (arith, spots-is, c.head_of-v.ensures.1)) (omega (arith, spots-is, c.head_of-v.ensures.1, c.requires.ready.room.marks)) c.if-self-v-eq1.false, c.requires.ready.room.slots)
+bounds-self-n-3 c = omega (arith, ready-more c.requires.ready (omega (arith, spots-is, c.head_of-v.ensures.1)) c.if-self-v-eq1.false, c.requires.ready.room.slots)
 
 pub returns-clause-tried : goal.returns-clause-tried
 returns-clause-tried c =

@@ -2,9 +2,8 @@
 use native.Mathlib.Omega.{arith}
 use Rattle.channel.specs.Map.Numbers.{spots-is}
 use Rattle.augment.specs.Answers.{yes, no}
-use Rattle.augment.specs.Marks.{mark-less}
 use Rattle.shortest.specs.Growing.{exit, old, far, new}
-use Rattle.shortest.specs.Growths.{tight-move}
+use Rattle.shortest.specs.Growths.{tight-move, trial-more}
 use Rattle.shortest.proofs.expand.Search.attempt.Goals as goal
 
 pub head_of-v-requires : goal.head_of-v-requires
@@ -35,25 +34,25 @@ pub bounds-self-v-2 : goal.bounds-self-v-2
 bounds-self-v-2 c = omega (arith, spots-is, c.head_of-v.ensures.1, c.requires.trial.room.marks)
 
 pub bounds-self-n : goal.bounds-self-n
-bounds-self-n c = omega (arith, spots-is, c.requires.trial.count, mark-less c.args.self.now.marks.now c.head_of-v.result (omega (arith, spots-is, c.head_of-v.ensures.1)) (omega (arith, spots-is, c.head_of-v.ensures.1, c.requires.trial.room.marks)) c.if-self-v-eq1.false, c.requires.trial.room.queue)
+bounds-self-n c = omega (arith, spots-is, trial-more c.requires.trial (omega (arith, spots-is, c.head_of-v.ensures.1)) c.if-self-v-eq1.false, c.requires.trial.room.queue)
 
 pub overflow_cast-self : goal.overflow_cast-self
-overflow_cast-self c = omega (arith, spots-is, c.requires.trial.count, mark-less c.args.self.now.marks.now c.head_of-v.result (omega (arith, spots-is, c.head_of-v.ensures.1)) (omega (arith, spots-is, c.head_of-v.ensures.1, c.requires.trial.room.marks)) c.if-self-v-eq1.false, c.requires.trial.early)
+overflow_cast-self c = omega (arith, spots-is, trial-more c.requires.trial (omega (arith, spots-is, c.head_of-v.ensures.1)) c.if-self-v-eq1.false, c.requires.trial.early)
 
 pub bounds-self-n-2 : goal.bounds-self-n-2
-bounds-self-n-2 c = omega (arith, spots-is, c.requires.trial.count, mark-less c.args.self.now.marks.now c.head_of-v.result (omega (arith, spots-is, c.head_of-v.ensures.1)) (omega (arith, spots-is, c.head_of-v.ensures.1, c.requires.trial.room.marks)) c.if-self-v-eq1.false, c.requires.trial.room.parents)
+bounds-self-n-2 c = omega (arith, spots-is, trial-more c.requires.trial (omega (arith, spots-is, c.head_of-v.ensures.1)) c.if-self-v-eq1.false, c.requires.trial.room.parents)
 
 pub bounds-self-n-3 : goal.bounds-self-n-3
-bounds-self-n-3 c = omega (arith, spots-is, c.requires.trial.count, mark-less c.args.self.now.marks.now c.head_of-v.result (omega (arith, spots-is, c.head_of-v.ensures.1)) (omega (arith, spots-is, c.head_of-v.ensures.1, c.requires.trial.room.marks)) c.if-self-v-eq1.false, c.requires.trial.room.slots)
+bounds-self-n-3 c = omega (arith, spots-is, trial-more c.requires.trial (omega (arith, spots-is, c.head_of-v.ensures.1)) c.if-self-v-eq1.false, c.requires.trial.room.slots)
 
 pub overflow_cast-self-2 : goal.overflow_cast-self-2
-overflow_cast-self-2 c = omega (arith, spots-is, c.requires.trial.count, mark-less c.args.self.now.marks.now c.head_of-v.result (omega (arith, spots-is, c.head_of-v.ensures.1)) (omega (arith, spots-is, c.head_of-v.ensures.1, c.requires.trial.room.marks)) c.if-self-v-eq1.false)
+overflow_cast-self-2 c = omega (arith, spots-is, trial-more c.requires.trial (omega (arith, spots-is, c.head_of-v.ensures.1)) c.if-self-v-eq1.false)
 
 pub overflow_cast-self-4 : goal.overflow_cast-self-4
-overflow_cast-self-4 c = omega (arith, spots-is, c.requires.trial.count, mark-less c.args.self.now.marks.now c.head_of-v.result (omega (arith, spots-is, c.head_of-v.ensures.1)) (omega (arith, spots-is, c.head_of-v.ensures.1, c.requires.trial.room.marks)) c.if-self-v-eq1.false)
+overflow_cast-self-4 c = omega (arith, spots-is, trial-more c.requires.trial (omega (arith, spots-is, c.head_of-v.ensures.1)) c.if-self-v-eq1.false)
 
 pub bounds-self-top : goal.bounds-self-top
-bounds-self-top c = omega (arith, spots-is, c.requires.trial.count, mark-less c.args.self.now.marks.now c.head_of-v.result (omega (arith, spots-is, c.head_of-v.ensures.1)) (omega (arith, spots-is, c.head_of-v.ensures.1, c.requires.trial.room.marks)) c.if-self-v-eq1.false, c.requires.trial.few, c.requires.trial.stack)
+bounds-self-top c = omega (arith, spots-is, trial-more c.requires.trial (omega (arith, spots-is, c.head_of-v.ensures.1)) c.if-self-v-eq1.false, c.requires.trial.few, c.requires.trial.stack)
 
 pub returns-clause-tried : goal.returns-clause-tried
 returns-clause-tried c =
