@@ -41,17 +41,17 @@ module _ {rec was : List ℕ} (g : Legal rec) (e : was ≡ over (front rec) (rep
   edit-copied K left = as-copied (λ J f. over (record_of (K J) (left J f)) rec)
 
   pub mark-copied : (r c m : ℕ) → over (record_of (marked (job_of was) r c m) (mark_left (job_of was) (load was) r c)) rec ≡ set_in false r c m rec
-  mark-copied r c m = as-copied (λ J f. over (record_of (marked J r c m) (mark_left J f r c)) rec)
+  mark-copied r c m = edit-copied (λ J. marked J r c m) (λ J f. mark_left J f r c)
 
   pub close-copied : (r c v : ℕ) → over (record_of (closed (job_of was) r c v) (close_left (job_of was) (load was) r c)) rec ≡ set_in true r c v rec
-  close-copied r c v = as-copied (λ J f. over (record_of (closed J r c v) (close_left J f r c)) rec)
+  close-copied r c v = edit-copied (λ J. closed J r c v) (λ J f. close_left J f r c)
 
   pub lay-copied : (r c d n : ℕ)
       → over (record_of (laid_by (job_of was) (side_of r c d) n) (laid_left (job_of was) (load was) (side_of r c d) n)) rec ≡ count_in r c d n rec
-  lay-copied r c d n = as-copied (λ J f. over (record_of (laid_by J (side_of r c d) n) (laid_left J f (side_of r c d) n)) rec)
+  lay-copied r c d n = edit-copied (λ J. laid_by J (side_of r c d) n) (λ J f. laid_left J f (side_of r c d) n)
 
   pub own-copied : (r c d : ℕ) → over (record_of (with_own_d (job_of was) r c d) (centre_left (job_of was) (load was) r c)) rec ≡ own_in r c d rec
-  own-copied r c d = as-copied (λ J f. over (record_of (with_own_d J r c d) (centre_left J f r c)) rec)
+  own-copied r c d = edit-copied (λ J. with_own_d J r c d) (λ J f. centre_left J f r c)
 
   pub lower-copied : (x : ℕ) → over (record_of (with_extra (job_of was) x) (extra_left (job_of was) (load was))) rec ≡ lowered_to x rec
-  lower-copied x = as-copied (λ J f. over (record_of (with_extra J x) (extra_left J f)) rec)
+  lower-copied x = edit-copied (λ J. with_extra J x) extra_left

@@ -1,16 +1,14 @@
 -- Laws of words and numbers at an offset of a text. A word is told byte by byte; a number below 100 has one or two digits, and its first byte below the
 -- digits ends it, so what follows a word or a number is what follows it in every reading. Assumes nothing.
 use mathlib.Core.Path.{◌≡◌, refl, sym, ap, ◌∙◌}
+use mathlib.Core.Logic.{◌≢◌}
 use mathlib.Core.Bool.{Bool, true, false, not}
 use mathlib.Core.List.{List, [], ◌∷◌, ◌++◌, append_assoc}
-use Rattle.std.specs.Cmp.Lexicographic.{pointwise}
-use Rattle.std.proofs.lemmas.Slice.Eq.{starts_is}
-use Rattle.std.proofs.lemmas.Bool.Decides.{Decides-eqb}
 use Prim.Native.Nat.{ℕ, ◌+◌, ◌-◌, ◌/◌, ◌%◌, ◌≤◌, ◌<◌}
 use native.Mathlib.Omega.{arith}
-use lib.Dec.{T, eqb, leb, leb→le, nleb→lt}
-use lib.ListN.{length, take, drop, length-drop}
-use lib.Seq.{take-length, drop-drop, drop-append_seam}
+use lib.Dec.{T, leb, leb→le, nleb→lt}
+use lib.ListN.{length, get_or, take, drop, take-append-drop, length-append, length-drop, get_or-append}
+use lib.Seq.{drop-drop, drop-append_seam, length-take-le, get_or-take, get_or-drop, ext_get_or}
 use Rattle.sums.specs.Counting.{only}
 use Rattle.model.specs.Text.{decimal}
 use Rattle.model.proofs.TextUnique.{digits, number-unique}
@@ -19,20 +17,25 @@ use Rattle.line.specs.Scan.{WordAt, two}
 
 -- ---- words
 
--- a word that begins the rest of the text, or not
-module _ (text : List ℕ) (at : ℕ) (word : List ℕ) {b : Bool}
-    (e : b ≡ pointwise eqb word (take (length word) (take (length text - at) (drop at text)))) where
-  begins : b ≡ pointwise eqb word (take (length word) (drop at text))
-  begins =
-      e ∙ ap (λ (s : List ℕ). pointwise eqb word (take (length word) s))
-      (ap (λ (n : ℕ). take n (drop at text)) (sym (length-drop at text)) ∙ take-length (drop at text))
+module _ (text : List ℕ) (at : ℕ) (word : List ℕ) where
+  pub word-short : at ≤ length text → length text - at < length word → WordAt text at word None
+  word-short l s X e = omega (arith, ap length e, length-drop at text, length-append word X)
 
-  pub word-begins : b ≡ true → at + length word ≤ length text → WordAt text at word (Some (at + length word))
-  word-begins t l =
-      (l, (starts_is Decides-eqb (drop at text) word b begins).0 t ∙ ap (λ (s : List ℕ). word ++ s) (drop-drop (length word) at text))
+  pub word_byte : (i : ℕ) → i < length word → get_or text (at + i) 0 ≢ get_or word i 0 → WordAt text at word None
+  word_byte i l n X e = n (sym (get_or-drop at text i 0) ∙ (ap (λ (s : List ℕ). get_or s i 0) e ∙ get_or-append word X 0 i l))
 
-  pub word-differs : b ≡ false → WordAt text at word None
-  word-differs f X q = let z : b ≡ true = (starts_is Decides-eqb (drop at text) word b begins).1 X q in cc
+  pub word-whole : at + length word ≤ length text → ((i : ℕ) → i < length word → get_or text (at + i) 0 ≡ get_or word i 0)
+      → WordAt text at word (Some (at + length word))
+  word-whole l h = (l, sym (take-append-drop (length word) (drop at text)) ∙ (λ i. front i ++ drop-drop (length word) at text i))
+    where
+      long : length word ≤ length (drop at text)
+      long = omega (arith, length-drop at text)
+
+      front : take (length word) (drop at text) ≡ word
+      front =
+          ext_get_or 0 _ word (length-take-le (length word) (drop at text) long)
+          (λ i k. let m : i < length word = omega (arith, length-take-le (length word) (drop at text) long) in
+          get_or-take (length word) (drop at text) i 0 m ∙ (get_or-drop at text i 0 ∙ h i m))
 
 -- what follows a word
 pub after-word : (word X Y : List ℕ) → word ++ X ≡ word ++ Y → X ≡ Y

@@ -17,11 +17,15 @@ pub fn word_at(text: &[u8], at: usize, word: &[u8]) -> Option<usize>
     requires { at ≤ length text.now }
     ensures { WordAt text.now at word.now result }
 {
-    if text[at..].starts_with(word) {
-        Some(at + word.len())
-    } else {
-        None
+    if text.len() - at < word.len() {
+        return None;
     }
+    for (i, byte) in word.iter().enumerate() {
+        if text[at + i] != *byte {
+            return None;
+        }
+    }
+    Some(at + word.len())
 }
 
 // The digit that a byte is.

@@ -4,7 +4,7 @@ ghost use Rattle.model.specs.Listing.{digit, tens, decimal, spaced, line, pair_l
 ghost use Rattle.listing.specs.Writes.{Writes};
 
 // A page that is filled from its start.
-#[derive(Drop)]
+#[derive(Clone, Copy)]
 pub struct Page {
     pub bytes: [u8; 32768],
     pub length: usize,
@@ -43,9 +43,9 @@ impl Page {
         requires { self.old.length + length w.now ≤ 32768 }
         ensures { Writes w.now self.old self.new }
     {
-        let end = self.length + w.len();
-        self.bytes[self.length..end].copy_from_slice(w);
-        self.length = end;
+        for byte in w {
+            self.put_byte(*byte);
+        }
     }
 
     // The digit of a number at a power of ten, where the number has one there.

@@ -1,15 +1,20 @@
--- A word stands at an offset if the rest of the text begins with it. Assumes nothing.
-use Rattle.std.proofs.Common.{◌-◌, drop, length, length-drop, arith}
-use lib.Seq.{length-take-le}
-use Rattle.line.proofs.Scanned.{word-begins, word-differs}
+-- The word is compared byte by byte. Assumes nothing.
+use Rattle.std.proofs.Common.{arith}
+use Rattle.line.proofs.Scanned.{word-short, word_byte, word-whole}
 use Rattle.line.proofs.scan.word_at.Goals as goal
 
-pub returns-then-starts_with : goal.returns-then-starts_with
-returns-then-starts_with c =
-    let t = c.args.text.now in
-    let s = c.starts_with in
-    word-begins t c.args.at c.args.word.now s.ensures.value c.if-starts_with.true
-    (omega (arith, s.ensures.bound c.if-starts_with.true, length-take-le (length t - c.args.at) (drop c.args.at t) (omega (arith, length-drop c.args.at t)), length-drop c.args.at t))
+pub returns-then-text-at : goal.returns-then-text-at
+returns-then-text-at c =
+    let a = c.args in
+    word-short a.text.now a.at a.word.now c.requires c.if-text-at.true
 
-pub returns-else-starts_with : goal.returns-else-starts_with
-returns-else-starts_with c = word-differs c.args.text.now c.args.at c.args.word.now c.starts_with.ensures.value c.if-starts_with.false
+pub returns-then-text-at-2 : goal.returns-then-text-at-2
+returns-then-text-at-2 c =
+    let a = c.args in
+    word_byte a.text.now a.at a.word.now c.loop-i.i c.loop-i-test.true c.if-text-at-2.true
+
+pub returns : goal.returns
+returns c =
+    let a = c.args in
+    let l = c.loop-i in
+    word-whole a.text.now a.at a.word.now l.invariant.0 (λ j h. l.invariant.1 j (omega (arith, h, l.auto.i-end, c.loop-i-test.false)))
