@@ -2,6 +2,7 @@
 use borrow.Author.Rules.{rules}
 use mathlib.Core.Path.{refl, sym, ◌∙◌}
 use native.Mathlib.Omega.{arith}
+use Rattle.augment.specs.Queue.{alike_refl}
 use Rattle.augment.specs.Work.{same-then}
 use Rattle.search.specs.Filling.{cleared-dead, more-refl, more-then, more-lacking, was-laid, was-none, laid-more, laid-less, filled}
 use Rattle.search.proofs.fill.fill.Goals as goal
@@ -11,7 +12,7 @@ loop-work-init c =
     let p = c.requires in
     let r = p.1 in
     record {
-      same = record { marks = refl; queue = refl; parent = refl; slot = refl; lists = refl };
+      same = record { marks = refl; queue = refl; parent = refl; slot = refl; lists = refl; alike = alike_refl _ _ _ _; size = refl };
       lent = record {
         whole = p.0;
         room = record { marks = omega (arith, r.marks, c.clear.auto.marks); queue = r.queue; parents = r.parents; slots = r.slots };
@@ -44,12 +45,21 @@ loop-work-preserved c =
     let o = c.lay_on.ensures in
     let (u, a) = was-laid _ _ _ _ _ c.next_wire.result (sym c.is_some.ensures ∙ c.loop-work-test.true) n.answered in
     let s = same-then (same-then l.same n.same) o.same in
+    let k = c.clear-in-loop-work.auto.marks in
     let r = o.lent.room in
     record {
-      same = record { marks = s.marks; queue = s.queue; parent = s.parent; slot = s.slot; lists = s.lists };
+      same = record {
+        marks = s.marks;
+        queue = s.queue;
+        parent = s.parent;
+        slot = s.slot;
+        lists = s.lists;
+        alike = record { marks = k ∙ s.alike.marks; queue = s.alike.queue; parents = s.alike.parents; slots = s.alike.slots };
+        size = s.size;
+      };
       lent = record {
         whole = o.lent.whole;
-        room = record { marks = omega (arith, r.marks, c.clear-in-loop-work.auto.marks); queue = r.queue; parents = r.parents; slots = r.slots };
+        room = record { marks = omega (arith, r.marks, k); queue = r.queue; parents = r.parents; slots = r.slots };
         lists = o.lent.lists;
       };
       more = more-then l.more (more-then (laid-more l.more.held a) o.more);

@@ -1,6 +1,7 @@
 -- `fill::lay_on` meets its contract: each turn lays a wire. Assumes nothing.
 use mathlib.Core.Path.{refl, sym, ◌∙◌}
 use native.Mathlib.Omega.{arith}
+use Rattle.augment.specs.Queue.{alike_refl}
 use Rattle.augment.specs.Work.{same-then}
 use Rattle.search.specs.Filling.{more-refl, more-then, was-laid, laid-more, laid-less}
 use Rattle.search.proofs.fill.lay_on.Goals as goal
@@ -8,7 +9,12 @@ use Rattle.search.proofs.fill.lay_on.Goals as goal
 pub loop-init : goal.loop-init
 loop-init c =
     let p = c.requires in
-    record { same = record { marks = refl; queue = refl; parent = refl; slot = refl; lists = refl }; lent = p.lent; more = more-refl p.held; dead = p.dead }
+    record {
+      same = record { marks = refl; queue = refl; parent = refl; slot = refl; lists = refl; alike = alike_refl _ _ _ _; size = refl };
+      lent = p.lent;
+      more = more-refl p.held;
+      dead = p.dead;
+    }
 
 pub loop-smaller : goal.loop-smaller
 loop-smaller c =
