@@ -2,19 +2,22 @@
 use Rattle.std.specs.Prelude.{◌≡◌, List, ℕ, ◌≤◌, ◌<◌, Result, length}
 use Rattle.model.specs.Job.{Job}
 use Rattle.std.proofs.Common.{◌∙◌}
-use Rattle.augment.specs.Spread.{Room}
+use Rattle.augment.specs.Spread.{Room, Alike}
 use Rattle.augment.specs.Steps.{Whole, Ready, Tried, Grown, Expanded, Front, Searched}
+use Rattle.augment.specs.Queue.{alike_then}
 use Rattle.augment.specs.Turns.{swapped, front-turned}
 use Rattle.augment.specs.declared.reach.Way.{Way}
 use Rattle.augment.specs.declared.work.Work.{Work}
 
--- the slices are those that were lent
+-- the slices are those that were lent, each as long as it was
 pub record SameLent (s t : Work) : Type 0 where
   pub marks : t.marks.ghost_name ≡ s.marks.ghost_name
   pub queue : t.queue.ghost_name ≡ s.queue.ghost_name
   pub parent : t.parent.ghost_name ≡ s.parent.ghost_name
   pub slot : t.slot.ghost_name ≡ s.slot.ghost_name
   pub lists : t.lists.ghost_name ≡ s.lists.ghost_name
+  pub alike : Alike s.marks.now s.queue.now s.parent.now s.slot.now t.marks.now t.queue.now t.parent.now t.slot.now
+  pub size : length t.lists.now ≡ length s.lists.now
 
 pub same-then : {s t u : Work} → SameLent s t → SameLent t u → SameLent s u
 same-then a b =
@@ -24,6 +27,8 @@ same-then a b =
       parent = b.parent ∙ a.parent;
       slot = b.slot ∙ a.slot;
       lists = b.lists ∙ a.lists;
+      alike = alike_then a.alike b.alike.marks b.alike.queue b.alike.parents b.alike.slots;
+      size = b.size ∙ a.size;
     }
 
 -- what is lent is long enough

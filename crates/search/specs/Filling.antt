@@ -45,6 +45,10 @@ more-then M N =
 pub filling-start : {J : Job} {rec t : List ℕ} → Held J rec → Cleared t → Filling J rec rec t true
 filling-start H c = record { more = more-refl H; dead = cleared-dead c; reached = λ e x m. absurd (cleared-none c x m) }
 
+-- the marked spots are dead, and wires may have been laid since the marks were cleared
+pub filling-on : {J : Job} {rec rec' t : List ℕ} → More J rec rec' → Dead J rec' t → Filling J rec rec' t false
+filling-on M d = record { more = M; dead = d; reached = λ q. absurd (let z : ◌≡◌ {A = ℕ} 0 1 = cc in omega arith) }
+
 -- the marks are cleared, and nothing else is changed
 pub filling-clear : {J : Job} {rec rec' rec'' t t'' : List ℕ} {b : Bool} → Filling J rec rec' t b → rec'' ≡ rec' → Cleared t'' → Filling J rec rec'' t'' true
 filling-clear {J} {rec} F e c =
@@ -86,6 +90,15 @@ module _ (J : Job) (rec t rec' t' : List ℕ) where
   pub was-none : (y : Option ℕ) → is_some y ≡ false → Answered J AnySpot rec t rec' t' y → (rec' ≡ rec) × Passed J AnySpot rec t t'
   was-none (Some u) e a = cc
   was-none None e a = a
+
+-- which of the two it was
+pub some-laid : (y : Option ℕ) → is_some y ≡ true → (u : ℕ) × (y ≡ Some u)
+some-laid (Some u) e = (u, refl)
+some-laid None e = cc
+
+pub none-laid : (y : Option ℕ) → is_some y ≡ false → y ≡ None
+none-laid (Some u) e = cc
+none-laid None e = refl
 
 -- a wire more, beside the marks as they stood; or none, after they were cleared
 module _ {J : Job} {rec rec' t : List ℕ} {b : Bool} (F : Filling J rec rec' t b) (rec'' t'' : List ℕ) (y : Option ℕ) (r : Answered J AnySpot rec' t rec'' t'' y) where

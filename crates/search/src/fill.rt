@@ -29,6 +29,7 @@ fn lay_on(work: &mut Work<'_>, job: &[u8], loads: &mut [u8])
     ensures same { SameLent work.old work.new }
     ensures lent { LentTo job.now loads.new work.new }
     ensures more { More (job_of job.now) loads.old loads.new }
+    ensures dead { Dead (job_of job.now) loads.new work.new.marks.now }
 {
     while work.next_wire(job, loads).is_some() {}
 }

@@ -2,12 +2,14 @@
 use Rattle.std.specs.Prelude.{◌≡◌, List, ℕ, ◌<◌, Result, Ok, Err, length, get_or}
 use Rattle.std.proofs.Common.{◌∙◌}
 use Rattle.model.specs.Job.{Job}
+use Rattle.augment.specs.Spread.{Alike}
+use Rattle.augment.specs.Queue.{alike_then}
 use Rattle.augment.specs.declared.reach.Way.{Way}
 use Rattle.shortest.specs.Growing.{Trial, Tried, Growing, Outcome, Rounded, Opened}
 use Rattle.shortest.specs.declared.expand.Growth.{Growth}
 use Rattle.shortest.specs.declared.expand.Search.{Search}
 
--- the slices are those that were lent
+-- the slices are those that were lent, each as long as it was
 pub record SameLent (s t : Search) : Type 0 where
   pub marks : t.marks.ghost_name ≡ s.marks.ghost_name
   pub queue : t.queue.ghost_name ≡ s.queue.ghost_name
@@ -15,6 +17,9 @@ pub record SameLent (s t : Search) : Type 0 where
   pub slot : t.slot.ghost_name ≡ s.slot.ghost_name
   pub stack : t.stack.ghost_name ≡ s.stack.ghost_name
   pub rim : t.rim.ghost_name ≡ s.rim.ghost_name
+  pub alike : Alike s.marks.now s.queue.now s.parent.now s.slot.now t.marks.now t.queue.now t.parent.now t.slot.now
+  pub stacks : length t.stack.now ≡ length s.stack.now
+  pub rims : length t.rim.now ≡ length s.rim.now
 
 pub lent-then : {s t u : Search} → SameLent s t → SameLent t u → SameLent s u
 lent-then a b =
@@ -25,6 +30,9 @@ lent-then a b =
       slot = b.slot ∙ a.slot;
       stack = b.stack ∙ a.stack;
       rim = b.rim ∙ a.rim;
+      alike = alike_then a.alike b.alike.marks b.alike.queue b.alike.parents b.alike.slots;
+      stacks = b.stacks ∙ a.stacks;
+      rims = b.rims ∙ a.rims;
     }
 
 -- a step answers a way out, or the growth that the search then has

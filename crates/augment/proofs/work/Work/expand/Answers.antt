@@ -3,7 +3,7 @@ use mathlib.Core.Path.{refl, ◌∙◌}
 use native.Mathlib.Omega.{arith}
 use Rattle.std.proofs.lemmas.Result.{err_from_is_err_and}
 use Rattle.augment.specs.Slots.{rest_all, none_left, on-moves, next-slot, next-on, passed-off, rest_more, grown-past}
-use Rattle.augment.specs.Queue.{grown-none, grown-more, grown-exit}
+use Rattle.augment.specs.Queue.{alike_refl, grown-none, grown-more, grown-exit}
 use Rattle.augment.specs.Work.{same-then}
 use Rattle.augment.proofs.work.Work.expand.Goals as goal
 
@@ -11,7 +11,7 @@ pub loop-left-init : goal.loop-left-init
 loop-left-init c =
     let p = c.requires in
     record {
-      lent = record { marks = refl; queue = refl; parent = refl; slot = refl; lists = refl };
+      lent = record { marks = refl; queue = refl; parent = refl; slot = refl; lists = refl; alike = alike_refl _ _ _ _; size = refl };
       lists = refl;
       grown = grown-none p.room p.count;
       rest = rest_all _;

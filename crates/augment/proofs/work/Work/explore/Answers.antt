@@ -1,6 +1,6 @@
 -- `explore` meets its contract: the first h spots in the queue are expanded, and one of those behind them is the next. Assumes nothing.
-use mathlib.Core.Path.{refl, ap}
-use lib.ListN.{length}
+use mathlib.Core.Path.{refl, ap, ◌∙◌}
+use lib.ListN.{length, length-set}
 use native.Mathlib.Omega.{arith}
 use Rattle.channel.specs.Map.Numbers.{spots-is}
 use Rattle.augment.specs.Queue.{front-start, front-ready, front-more, front-exit}
@@ -33,7 +33,15 @@ pub loop-h-init : goal.loop-h-init
 loop-h-init c =
     let p = c.requires in
     record {
-      same = record { marks = refl; queue = refl; parent = refl; slot = refl; lists = refl };
+      same = record {
+        marks = refl;
+        queue = refl;
+        parent = refl;
+        slot = refl;
+        lists = refl;
+        alike = record { marks = length-set _ _ _; queue = length-set _ _ _; parents = refl; slots = refl };
+        size = c.no_lists.auto.lists;
+      };
       lists = omega (arith, c.no_lists.auto.lists, p.lent.lists);
       front = front-start p.lent.room p.fresh;
     }
@@ -63,7 +71,7 @@ loop-h-preserved c =
     let a = s.same in
     let r = c.enlist-low.ensures.rest in
     record {
-      same = same-then (same-then (same-then (record { marks = a.marks; queue = a.queue; parent = a.parent; slot = a.slot; lists = a.lists }) c.exchange.ensures.lent) c.expand.ensures.lent) c.enlist-low.ensures.lent;
+      same = same-then (same-then (same-then (record { marks = a.marks; queue = a.queue; parent = a.parent; slot = a.slot; lists = a.lists; alike = a.alike; size = c.take-i.auto.lists ∙ a.size }) c.exchange.ensures.lent) c.expand.ensures.lent) c.enlist-low.ensures.lent;
       lists = omega (arith, r.lists, c.exchange.ensures.exchanged.lists, ap length c.expand.ensures.lists, c.take-i.auto.lists, s.lists);
       front = rw (r.marks, r.queue, r.parent, r.slot)
           (front-more (front-exchanged s.front e.0 e.1 c.exchange.ensures.exchanged) c.loop-h-test.true c.in_ok-m.ensures.expanded);

@@ -8,7 +8,7 @@ use Rattle.augment.proofs.work.Work.explore.Given as goal
 
 abbrev pub invariant-loop-h : goal.invariant-loop-h
 invariant-loop-h l = record {
-  same : SameLent l.initial.self l.self;
+  same : SameLent l.fn.self l.self;
   lists : 26513 ≤ length l.self.lists.now;
   front : FrontAt (job_of l.job) l.loads l.start l.fn.self.marks.now l.self l.h l.n;
 }

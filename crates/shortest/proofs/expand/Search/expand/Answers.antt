@@ -1,7 +1,9 @@
 -- `expand` meets its contract: the slots below k were tried, or are no moves to spots with no mark as the spot was taken up. Assumes nothing.
 use mathlib.Core.Path.{refl, ap}
 use native.Mathlib.Omega.{arith}
+use lib.ListN.{length-set}
 use Rattle.std.proofs.lemmas.Result.{err_from_is_err_and}
+use Rattle.augment.specs.Queue.{alike_refl}
 use Rattle.augment.specs.Slots.{rest_all, none_left, on-moves, next-slot, next-on, passed-off, rest_more}
 use Rattle.shortest.specs.Growths.{since-refl, since-then, growing-taken, taken-past, taken_more, taken-exit, taken-grown}
 use Rattle.shortest.specs.Search.{lent-then, at_growth}
@@ -11,7 +13,17 @@ pub loop-left-init : goal.loop-left-init
 loop-left-init c =
     let p = c.requires in
     record {
-      lent = record { marks = refl; queue = refl; parent = refl; slot = refl; stack = refl; rim = refl };
+      lent = record {
+        marks = refl;
+        queue = refl;
+        parent = refl;
+        slot = refl;
+        stack = refl;
+        rim = refl;
+        alike = alike_refl _ _ _ _;
+        stacks = refl;
+        rims = length-set _ _ _;
+      };
       taken = growing-taken p.growing p.some;
       since = since-refl _;
       rest = rest_all _;
@@ -43,7 +55,7 @@ attempt-requires c =
     }
 
 pub returns-in_err-attempt-clause-lent : goal.returns-in_err-attempt-clause-lent
-returns-in_err-attempt-clause-lent c = let a = c.loop-left.invariant.lent in let b = c.attempt.ensures.lent in lent-then (record { marks = a.marks; queue = a.queue; parent = a.parent; slot = a.slot; stack = a.stack; rim = a.rim }) b
+returns-in_err-attempt-clause-lent c = lent-then c.loop-left.invariant.lent c.attempt.ensures.lent
 
 pub returns-in_err-attempt-clause-outcome : goal.returns-in_err-attempt-clause-outcome
 returns-in_err-attempt-clause-outcome c =
@@ -82,7 +94,7 @@ loop-left-preserved c =
     }
 
 pub returns-clause-lent : goal.returns-clause-lent
-returns-clause-lent c = let a = c.loop-left.invariant.lent in record { marks = a.marks; queue = a.queue; parent = a.parent; slot = a.slot; stack = a.stack; rim = a.rim }
+returns-clause-lent c = c.loop-left.invariant.lent
 
 pub returns-clause-outcome : goal.returns-clause-outcome
 returns-clause-outcome c =

@@ -9,7 +9,7 @@ use Rattle.shortest.proofs.expand.Search.expand.Given as goal
 
 abbrev pub invariant-loop-left : goal.invariant-loop-left
 invariant-loop-left l = record {
-  lent : SameLent l.initial.self l.self;
+  lent : SameLent l.fn.self l.self;
   taken : Taken (job_of l.job) l.loads l.prices (get_or l.initial.self.queue.now 0 0) l.self.marks.now l.self.queue.now l.self.parent.now l.self.slot.now l.self.stack.now
       l.self.rim.now l.self.growth l.i l.u l.k l.m (l.initial.self.growth.n - l.top);
   since : Since l.initial.self.marks.now l.self.marks.now;

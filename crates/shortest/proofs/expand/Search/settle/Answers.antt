@@ -2,6 +2,7 @@
 use mathlib.Core.Path.{refl, ◌∙◌}
 use native.Mathlib.Omega.{arith}
 use Rattle.std.proofs.lemmas.Result.{err_from_is_err_and}
+use Rattle.augment.specs.Queue.{alike_refl}
 use Rattle.shortest.specs.Growths.{growing-first}
 use Rattle.shortest.specs.Search.{lent-then}
 use Rattle.shortest.proofs.expand.Search.settle.Goals as goal
@@ -9,7 +10,7 @@ use Rattle.shortest.proofs.expand.Search.settle.Goals as goal
 pub loop-self-init : goal.loop-self-init
 loop-self-init c =
     record {
-      lent = record { marks = refl; queue = refl; parent = refl; slot = refl; stack = refl; rim = refl };
+      lent = record { marks = refl; queue = refl; parent = refl; slot = refl; stack = refl; rim = refl; alike = alike_refl _ _ _ _; stacks = refl; rims = refl };
       first = refl;
       growing = c.requires.growing;
     }

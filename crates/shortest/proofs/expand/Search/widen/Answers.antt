@@ -1,6 +1,7 @@
 -- `widen` meets its contract: the price of the start rises with each round, and a complete wiring bounds it. Assumes nothing.
 use mathlib.Core.Path.{refl, ◌∙◌}
 use native.Mathlib.Omega.{arith}
+use Rattle.augment.specs.Queue.{alike_refl}
 use Rattle.shortest.specs.Growths.{growing-first}
 use Rattle.shortest.specs.Rounds.{lifted-refl, lifted-then, lifted-most, start-most, start-spot, growing-most}
 use Rattle.shortest.specs.Search.{lent-then}
@@ -9,7 +10,7 @@ use Rattle.shortest.proofs.expand.Search.widen.Goals as goal
 pub loop-way-init : goal.loop-way-init
 loop-way-init c =
     record {
-      lent = record { marks = refl; queue = refl; parent = refl; slot = refl; stack = refl; rim = refl };
+      lent = record { marks = refl; queue = refl; parent = refl; slot = refl; stack = refl; rim = refl; alike = alike_refl _ _ _ _; stacks = refl; rims = refl };
       prices = refl;
       first = refl;
       growing = c.requires.growing;
