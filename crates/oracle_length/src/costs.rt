@@ -6,7 +6,7 @@ use oracle::arcs::tile_of;
 use oracle::net::{DARTS, FIRST_PIN, Network, OUTSIDE, START, narrow, opposite, wide};
 
 // What each dart could take at first, and what it counts.
-#[derive(Drop)]
+#[derive(Clone, Copy)]
 pub struct Costs {
     rooms: [u32; 76000],
     tolls: [u8; 76000],
@@ -65,7 +65,7 @@ impl Costs {
     }
 
     // What the wires on the dart `d` count together.
-    fn spent(&self, network: &Network, d: usize) -> usize {
+    pub fn spent(&self, network: &Network, d: usize) -> usize {
         self.room(d)
             .saturating_sub(network.rest(d))
             .wrapping_mul(self.toll(d))

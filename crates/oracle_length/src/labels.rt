@@ -11,7 +11,7 @@ pub const BASE: usize = 1000000000;
 // More places than nodes.
 const RING: usize = 13000;
 
-#[derive(Drop)]
+#[derive(Clone, Copy)]
 pub struct Labels {
     labels: [u32; 12328],
     waits: [bool; 12328],
