@@ -1,6 +1,8 @@
 // The check of a listing: the wires that `escape` prints for a job whose chosen pins all have one. Every step has to be
 // an arc of the job, taken the way it leads, and what the wires use of each link has to keep its limit and fill its lanes. The
 // two lines behind the wires have to be their total length and mean.
+ghost use Rattle.std.specs.Prelude.{◌≤◌, IfOk, IsNone};
+
 use crate::fault::Fault;
 use crate::links::Uses;
 use crate::rounds::{Passes, coming, leaving};
@@ -158,7 +160,9 @@ impl Check<'_> {
     }
 
     // Checks the wires of all pins, one part after another: no text has as many parts.
-    fn walk_all(&mut self, board: &mut Board) -> Result<(), Fault> {
+    fn walk_all(&mut self, board: &mut Board) -> Result<(), Fault>
+        ensures { IfOk result (λ _. 1600 ≤ self.new.walk.pin) }
+    {
         for _ in 0..1000000000000u64 {
             if self.walk.pin >= 1600 {
                 return Ok(());
@@ -173,7 +177,9 @@ impl Check<'_> {
     }
 
     // Checks the whole listing.
-    fn check_all(&mut self) -> Result<(), Fault> {
+    fn check_all(&mut self) -> Result<(), Fault>
+        ensures { IfOk result (λ _. 1600 ≤ self.new.walk.pin) }
+    {
         let mut board = Board::EMPTY;
         board.network.build(self.job);
         let wires = self.job.count_marked(Mark::Chosen);
@@ -189,7 +195,9 @@ impl Check<'_> {
 
 // Checks the listing of a wired job: every chosen pin has one legal wire. Gives how far the check came: of a legal listing to the lines behind the wires, else to
 // the first fault.
-pub fn walk_listing(job: &Job, text: &[u8]) -> Walk {
+pub fn walk_listing(job: &Job, text: &[u8]) -> Walk
+    ensures { IsNone result.fault → 1600 ≤ result.pin }
+{
     let mut check = Check {
         job,
         text,
@@ -209,7 +217,9 @@ pub fn walk_listing(job: &Job, text: &[u8]) -> Walk {
 }
 
 // The same, of wires that have to have the least length together.
-pub fn walk_least(job: &Job, text: &[u8]) -> Walk {
+pub fn walk_least(job: &Job, text: &[u8]) -> Walk
+    ensures { IsNone result.fault → 1600 ≤ result.pin }
+{
     let walk = walk_listing(job, text);
     if walk.fault.is_none() && least_length(job) != Some(walk.length) {
         walk.at_fault(Fault::NotLeast)

@@ -41,7 +41,9 @@ impl Costs {
         }
     }
 
-    fn room(&self, d: usize) -> usize {
+    fn room(&self, d: usize) -> usize
+        ensures { result < 4294967296 }
+    {
         if d < DARTS { wide(self.rooms[d]) } else { 0 }
     }
 
