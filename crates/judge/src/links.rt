@@ -2,7 +2,7 @@
 ghost use Rattle.std.specs.Prelude.{◌<◌};
 
 use crate::fault::Fault;
-use oracle::net::{LINKS, Network};
+use oracle::net::{LINKS, Network, wide};
 
 #[derive(Clone, Copy, PartialEq, Eq)]
 enum Way {
@@ -18,7 +18,7 @@ struct Use {
     way: Option<Way>,
 }
 
-#[derive(Drop)]
+#[derive(Clone, Copy)]
 pub struct Uses {
     links: [Use; 26000],
 }
@@ -33,10 +33,12 @@ impl Uses {
     };
 
     // How many wires the link of the dart `d` has.
-    pub fn load(&self, network: &Network, d: usize) -> usize {
+    pub fn load(&self, network: &Network, d: usize) -> usize
+        ensures { result < 4294967296 }
+    {
         let l = network.link(d);
         if l < LINKS {
-            self.links[l].load as usize
+            wide(self.links[l].load)
         } else {
             0
         }

@@ -22,7 +22,7 @@ struct Pass {
 }
 
 // Every pass, and the latest of each node, 0 for none.
-#[derive(Drop)]
+#[derive(Clone, Copy)]
 pub struct Passes {
     latest: [u32; 12328],
     passes: [Pass; 80000],

@@ -10,7 +10,7 @@ use crate::path::Path;
 const TURNS: u64 = 1000000000000;
 
 // The level of each node, 0 for none, the nodes that have come to one in their order, the path that is looked at, and how many wires are laid.
-#[derive(Drop)]
+#[derive(Clone, Copy)]
 pub struct Flow {
     levels: [u32; 12328],
     queue: [u32; 12328],

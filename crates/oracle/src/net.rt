@@ -26,13 +26,13 @@ struct Dart {
     link: u32,
 }
 
-#[derive(Drop)]
+#[derive(Clone, Copy)]
 pub struct Network {
     firsts: [u32; 12328],
     darts: [Dart; 76000],
     limits: [u32; 26000],
     arcs: usize,
-    links: usize,
+    links: u32,
 }
 
 // The other dart of the same arc.
@@ -129,11 +129,13 @@ impl Network {
     }
 
     // A new link of this limit.
-    pub fn add_link(&mut self, limit: usize) -> usize {
-        let l = self.links;
+    pub fn add_link(&mut self, limit: usize) -> usize
+        ensures { result < 4294967296 }
+    {
+        let l = wide(self.links);
         if l < LINKS {
             self.limits[l] = narrow(limit);
-            self.links = l + 1;
+            self.links = narrow(l + 1);
         }
         l
     }

@@ -1,15 +1,16 @@
 // A path from START that grows and shrinks by its last dart, and the dart that each node is at.
-ghost use Rattle.std.specs.Prelude.{◌<◌};
+ghost use Rattle.std.specs.Prelude.{◌<◌, ◌≤◌};
 
 use crate::net::{NODES, Network, START, narrow, opposite, wide};
 
-#[derive(Drop)]
+#[derive(Clone, Copy)]
 pub struct Path {
     currents: [u32; 12328],
     darts: [u32; 12328],
     depth: usize,
     // The node that the path comes to.
     node: usize,
+    ghost fits: { (depth ≤ 12328) × (node < 4294967296) },
 }
 
 impl Path {
@@ -20,12 +21,16 @@ impl Path {
         node: START,
     };
 
-    pub fn node(&self) -> usize {
+    pub fn node(&self) -> usize
+        ensures { result < 4294967296 }
+    {
         self.node
     }
 
     // The dart that the path's last node is at, 0 for none.
-    pub fn current(&self) -> usize {
+    pub fn current(&self) -> usize
+        ensures { result < 4294967296 }
+    {
         if self.node < NODES {
             wide(self.currents[self.node])
         } else {
@@ -55,7 +60,9 @@ impl Path {
     }
 
     // The dart at `k` of the path, 0 for none.
-    pub fn dart(&self, k: usize) -> usize {
+    pub fn dart(&self, k: usize) -> usize
+        ensures { result < 4294967296 }
+    {
         if k < self.depth && k < NODES {
             wide(self.darts[k])
         } else {
@@ -63,7 +70,9 @@ impl Path {
         }
     }
 
-    pub fn depth(&self) -> usize {
+    pub fn depth(&self) -> usize
+        ensures { result ≤ 12328 }
+    {
         self.depth
     }
 

@@ -52,7 +52,7 @@ impl Outcomes {
 }
 
 // How many came out right, and how many wrong.
-#[derive(Drop)]
+#[derive(Clone, Copy)]
 struct Judged {
     right: u64,
     wrong: u64,

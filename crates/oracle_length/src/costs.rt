@@ -6,7 +6,7 @@ use oracle::arcs::tile_of;
 use oracle::net::{DARTS, FIRST_PIN, Network, OUTSIDE, START, narrow, opposite, wide};
 
 // What each dart could take at first, and what it counts.
-#[derive(Drop)]
+#[derive(Clone, Copy)]
 pub struct Costs {
     rooms: [u32; 76000],
     tolls: [u8; 76000],
@@ -41,7 +41,9 @@ impl Costs {
         }
     }
 
-    fn room(&self, d: usize) -> usize {
+    fn room(&self, d: usize) -> usize
+        ensures { result < 4294967296 }
+    {
         if d < DARTS { wide(self.rooms[d]) } else { 0 }
     }
 
@@ -65,7 +67,7 @@ impl Costs {
     }
 
     // What the wires on the dart `d` count together.
-    fn spent(&self, network: &Network, d: usize) -> usize {
+    pub fn spent(&self, network: &Network, d: usize) -> usize {
         self.room(d)
             .saturating_sub(network.rest(d))
             .wrapping_mul(self.toll(d))

@@ -1,6 +1,6 @@
 // The label of a node is BASE and the least cost to come to it from the nodes at which the labels start, or 0 where no dart with something left leads there.
 // A node whose label falls waits in a ring until its darts have been looked at. Labels that never stop falling show a loop that takes more off than it adds.
-ghost use Rattle.std.specs.Prelude.{◌<◌};
+ghost use Rattle.std.specs.Prelude.{IfSome, ◌<◌};
 
 use crate::costs::Costs;
 use oracle::net::{NODES, Network, narrow, wide};
@@ -11,7 +11,7 @@ pub const BASE: usize = 1000000000;
 // More places than nodes.
 const RING: usize = 13000;
 
-#[derive(Drop)]
+#[derive(Clone, Copy)]
 pub struct Labels {
     labels: [u32; 12328],
     waits: [bool; 12328],
@@ -79,7 +79,9 @@ impl Labels {
     }
 
     // Takes the node that waits first, if one does.
-    fn serve(&mut self) -> Option<usize> {
+    fn serve(&mut self) -> Option<usize>
+        ensures { IfSome result (λ u. u < 4294967296) }
+    {
         if self.front == self.back || self.front >= RING {
             return None;
         }

@@ -1,5 +1,5 @@
 // Job text: the reader, which matches a line against the template of each form that may stand there, and the writer.
-ghost use Rattle.std.specs.Prelude.{◌<◌};
+ghost use Rattle.std.specs.Prelude.{IfSome, ◌<◌};
 
 use crate::job::{Array, Job, Mark, Side};
 use crate::page::Page;
@@ -80,7 +80,9 @@ pub fn is_written(job: &Job, r: usize, c: usize, side: Side) -> bool {
 }
 
 // The number of the cell that a line names first, if it is one.
-fn cell_of(found: &Found) -> Option<usize> {
+fn cell_of(found: &Found) -> Option<usize>
+    ensures { IfSome result (λ p. p < 1600) }
+{
     let r = found.value(0);
     let c = found.value(1);
     if r < 40 && c < 40 {
@@ -91,7 +93,9 @@ fn cell_of(found: &Found) -> Option<usize> {
 }
 
 // The idle pin that a line names.
-fn idle_pin(job: &Job, found: &Found) -> Option<usize> {
+fn idle_pin(job: &Job, found: &Found) -> Option<usize>
+    ensures { IfSome result (λ p. p < 1600) }
+{
     let p = cell_of(found)?;
     if job.is_pin(p / 40, p % 40) && job.mark(p) == Mark::Idle {
         Some(p)
@@ -101,7 +105,9 @@ fn idle_pin(job: &Job, found: &Found) -> Option<usize> {
 }
 
 // The tile that a line names.
-fn tile(job: &Job, found: &Found) -> Option<usize> {
+fn tile(job: &Job, found: &Found) -> Option<usize>
+    ensures { IfSome result (λ p. p < 1600) }
+{
     let p = cell_of(found)?;
     if job.is_tile(p / 40, p % 40) {
         Some(p)

@@ -11,8 +11,8 @@ use files::load;
 use oracle_text::random::Generator;
 use plain::{Figures, Measures, Refusal, plain};
 use rules::argument::read_number;
+use std::io;
 use std::rt::Files;
-use std::{io, str};
 use vectors::Line;
 
 // What is counted: vectors and arguments that come out right, and random measures by what they come to.
@@ -60,10 +60,8 @@ fn numbered(second: Result<Figures, Refusal>) -> Result<Figures, u64> {
 }
 
 // `rules` and the second computation say what the line says.
-fn agrees(text: &str) -> bool {
-    let Some(line) = Line::read(text) else {
-        return false;
-    };
+fn agrees(text: &[u8]) -> bool {
+    let line = Line::read(text);
     let measures = line.measures();
     line.expected().is_some_and(|expected| answered(measures) == expected
         && numbered(plain(measures)) == expected)
@@ -83,12 +81,14 @@ impl Counts {
         *n = n.wrapping_add(1);
     }
 
-    // The vectors of the file.
+    // The vectors of the file, one in each line that ends.
     fn vectors(&mut self, rt: &(impl Files + Eprint)) {
         let mut buffer = [0u8; 4096];
-        let text = str::from_utf8(load(rt, b"rules.txt", &mut buffer)).unwrap_or("");
-        for line in text.lines() {
-            self.count(agrees(line), Kind::Vector);
+        let text = load(rt, b"rules.txt", &mut buffer);
+        for line in text.split_inclusive(|b| *b == b'\n') {
+            if line.ends_with(b"\n") {
+                self.count(agrees(line), Kind::Vector);
+            }
         }
     }
 

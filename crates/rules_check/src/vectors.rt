@@ -1,7 +1,7 @@
 // The vectors of data/rules.txt, a line each: the measures, an arrow, then the five numbers, or the word `refused` and a number.
 use crate::plain::{Figures, Measures};
 
-// The numbers of a line, and whether the word `refused` stands in it.
+// The first nine numbers of a line, how many of the nine it has, and whether letters stand in it, as in the word `refused`.
 #[derive(Clone, Copy)]
 pub struct Line {
     numbers: [u64; 9],
@@ -9,32 +9,37 @@ pub struct Line {
     refused: bool,
 }
 
+// The number that the digits write; the largest of all where they write a larger one.
+fn number(digits: &[u8]) -> u64 {
+    let mut n: u64 = 0;
+    for b in digits {
+        n = n.saturating_mul(10).saturating_add(u64::from(*b % 16));
+    }
+    n
+}
+
 impl Line {
-    // The line of this text, if each of its words is an arrow, `refused` or a number.
-    pub fn read(text: &str) -> Option<Line> {
+    // The line of these bytes. Whatever is no digit stands between numbers, and a byte from `a` on is a letter.
+    pub fn read(text: &[u8]) -> Line {
         let mut line = Line {
             numbers: [0; 9],
             count: 0,
-            refused: false,
+            refused: text.iter().any(|b| *b >= b'a'),
         };
-        for word in text.split_ascii_whitespace() {
-            match word {
-                "->" => {}
-                "refused" => line.refused = true,
-                _ => line.push(word.parse().ok()?)?,
+        for digits in text.split(|b| !b.is_ascii_digit()) {
+            if !digits.is_empty() {
+                line.push(number(digits));
             }
         }
-        Some(line)
+        line
     }
 
     // One number more, of nine at most.
-    fn push(&mut self, n: u64) -> Option<()> {
-        if self.count >= 9 {
-            return None;
+    fn push(&mut self, n: u64) {
+        if self.count < 9 {
+            self.numbers[self.count] = n;
+            self.count += 1;
         }
-        self.numbers[self.count] = n;
-        self.count += 1;
-        Some(())
     }
 
     pub fn measures(&self) -> Measures {

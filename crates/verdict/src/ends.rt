@@ -145,7 +145,7 @@ impl<'a> Fields<'a> {
     }
 
     // The byte at k, 0 past the record.
-    fn number(self, k: usize) -> usize
+    pub fn number(self, k: usize) -> usize
         ensures { result < 256 }
     {
         match self.bytes.get(k) {
@@ -284,7 +284,7 @@ impl<'a> Fields<'a> {
     }
 
     // The end that the link leaves the positive way; legs and direct exits leave the pin.
-    fn behind(self, link: Link) -> Option<End> {
+    pub fn behind(self, link: Link) -> Option<End> {
         let (down, right) = (link.cell / 40 + 1, link.cell % 40 + 1);
         match link.plane {
             Plane::NorthSide => self.of_tile(down, right, Spot::Side(Side::North)),
@@ -296,7 +296,7 @@ impl<'a> Fields<'a> {
     }
 
     // The end that it comes to.
-    fn ahead(self, link: Link) -> Option<End> {
+    pub fn ahead(self, link: Link) -> Option<End> {
         let (down, right) = (link.cell / 40 + 1, link.cell % 40 + 1);
         match link.plane {
             Plane::NorthSide => self.of_tile(down - 1, right, Spot::Side(Side::South)),

@@ -1,13 +1,15 @@
 // Whether a record is legal, by docs/RECORD.md alone. Every loaded link is looked at once: its two ends, its limit, and what it brings to the place that it
 // leads to and takes from the other. A loop is what is left when the places to which no wire leads from a place that is left have all been struck out.
-ghost use Rattle.std.specs.Prelude.{◌<◌};
+ghost use Rattle.std.specs.Prelude.{IfSome, ◌<◌};
 
 use crate::bytes::{all, span};
 use crate::ends::{End, Fields, Link, Place, Plane, Spot};
 use oracle_text::job::Side;
 
 // How many wires a load byte says, if it says anything.
-fn amount(load: usize) -> Option<usize> {
+fn amount(load: usize) -> Option<usize>
+    ensures { IfSome result (λ n. n < 32) }
+{
     match load {
         0..=31 => Some(load),
         33..=63 => Some(load - 32),
@@ -163,8 +165,14 @@ impl Counts {
     }
 
     // How many places have another number than 0.
-    fn count(&self) -> usize {
-        self.numbers.iter().flatten().filter(|n| **n != 0).count()
+    fn count(&self) -> usize
+        ensures { result < 9601 }
+    {
+        self.numbers
+            .as_flattened()
+            .iter()
+            .filter(|n| **n != 0)
+            .count()
     }
 }
 
