@@ -39,6 +39,18 @@ pub trait Edit {
         ensures { rec.new ≡ over (record_of (job self.now (job_of was.now)) (left self.now (job_of was.now) (load was.now))) rec.old };
 }
 
+// Stores the value of an edit that is admitted, beside a copy of the record. A function of its own, so that the copy and what the audit works on are never on
+// the stack together.
+#[inline(never)]
+fn rewrite<E: Edit>(rec: &mut [u8], edit: &E)
+    requires { Legal rec.old × E.admits edit.now (job_of rec.old) }
+    ensures { rec.new ≡ over (record_of (E.job edit.now (job_of rec.old)) (E.left edit.now (job_of rec.old) (load rec.old))) rec.old }
+{
+    let mut was = [0u8; 32768];
+    copy(rec, &mut was);
+    edit.store(&was, rec);
+}
+
 // Makes an edit in any record.
 pub fn make<E: Edit>(rec: &mut [u8], edit: &E) -> Result<(), Refusal>
     ensures { On rec.old [] [] (after (answered as_done result) rec.new [] [])
@@ -47,9 +59,7 @@ pub fn make<E: Edit>(rec: &mut [u8], edit: &E) -> Result<(), Refusal>
     undamaged(rec)?;
     edit.admit(rec)?;
     if !edit.stands(rec) {
-        let mut was = [0u8; 32768];
-        copy(rec, &mut was);
-        edit.store(&was, rec);
+        rewrite(rec, edit);
     }
     Ok(())
 }

@@ -8,10 +8,6 @@ abbrev pub WordAt : List ℕ → ℕ → List ℕ → Option ℕ → Type 0
 WordAt text at word (Some n) = (n ≤ length text) × (drop at text ≡ word ++ drop n text)
 WordAt text at word None = (X : List ℕ) → drop at text ≢ word ++ X
 
--- the byte is a digit
-abbrev pub IsDigit : ℕ → Type 0
-IsDigit b = (48 ≤ b) × (b ≤ 57)
-
 abbrev pub NumberAt : List ℕ → ℕ → ℕ → Option (Read ℕ) → Type 0
 NumberAt text at end (Some n) = (n.value < 100) × (n.next ≤ length text) × (drop at text ≡ decimal n.value ++ (end ∷ drop n.next text))
 NumberAt text at end None = (n : ℕ) (X : List ℕ) → n < 100 → drop at text ≢ decimal n ++ (end ∷ X)

@@ -1,7 +1,7 @@
 // What stands at an offset of a text: a fixed word, a number and the byte that ends it, or the letter of a side.
-ghost use Rattle.std.specs.Prelude.{◌≡◌, ◌≢◌, ℕ, ◌≤◌, ◌<◌, ◌+◌, length, MatchOption};
+ghost use Rattle.std.specs.Prelude.{◌≡◌, ◌≢◌, ℕ, ◌≤◌, ◌<◌, length, MatchOption};
 ghost use Rattle.model.specs.Text.{side_letter};
-ghost use Rattle.line.specs.Scan.{WordAt, NumberAt, TwoAt, SideAt, IsDigit};
+ghost use Rattle.line.specs.Scan.{WordAt, NumberAt, TwoAt, SideAt};
 
 use crate::words::SIDES;
 
@@ -28,40 +28,35 @@ pub fn word_at(text: &[u8], at: usize, word: &[u8]) -> Option<usize>
     Some(at + word.len())
 }
 
-// The digit that a byte is.
-fn digit(byte: u8) -> Option<usize>
-    ensures { MatchOption result (IsDigit byte → ⊥) (λ n. (byte ≡ 48 + n) × (n < 10)) }
-{
-    if byte.is_ascii_digit() {
-        Some((byte - b'0') as usize)
-    } else {
-        None
-    }
-}
-
 // The number of one or two digits at an offset, ended by a byte below the digits.
 pub fn number_at(text: &[u8], at: usize, end: u8) -> Option<Read<usize>>
     requires at_in_bounds { at ≤ length text.now }
     requires end_bound { end < 48 }
     ensures { NumberAt text.now at end result }
 {
-    let first = digit(*text.get(at)?)?;
+    let first = *text.get(at)?;
     let second = *text.get(at + 1)?;
+    if !first.is_ascii_digit() {
+        return None;
+    }
+    let tens = usize::from(first - b'0');
     if second == end {
         return Some(Read {
-            value: first,
+            value: tens,
             next: at + 2,
         });
     }
-    if first == 0 {
+    if tens == 0 {
         return None;
     }
-    let ones = digit(second)?;
+    if !second.is_ascii_digit() {
+        return None;
+    }
     if *text.get(at + 2)? != end {
         return None;
     }
     Some(Read {
-        value: 10 * first + ones,
+        value: 10 * tens + usize::from(second - b'0'),
         next: at + 3,
     })
 }
