@@ -28,7 +28,7 @@
  * with length 0 is an empty buffer. The buffers of one call do not overlap, and nobody else writes them during the call. A function keeps nothing between
  * calls, so calls on different records may run at the same time. docs/RECORD.md says what each byte of a record and of shortfall's output holds.
  *
- * A call works on the stack of its thread: step needs 320 KiB of it, shortfall 269 KiB, listing, mark, close, lay, diagonal and extra 138 KiB, part, write_text and sheet 105 KiB, new, read_text, trial and rules at most
+ * A call works on the stack of its thread: step needs 320 KiB of it, shortfall 269 KiB, listing 137 KiB, mark, close, lay, diagonal, extra, part, write_text and sheet 105 KiB, new, read_text, trial and rules at most
  * 17 KiB (measured on x86-64 with two 40 by 40 jobs, not proved). A thread with 512 KiB is safe.
  */
 #ifndef TALUSDISH_H
